@@ -39,8 +39,8 @@ impl Batch {
     ghost use Rattle.batch_model.specs.BatchLent.{batch_command_of, batch_reply_for};
     ghost use Rattle.batch_vm.specs.Batch.{batch_of};
 
-    /// A machine with no jobs and nothing else. It agrees with every store that has no VMO, whatever its next koid is, from 1
-    /// on, as `PageStore::next_koid` says of any store. If that is 1, they are the empty machine with jobs.
+    /// Makes a machine with no jobs and nothing else. It agrees with every store that has no VMO, whatever its next koid is,
+    /// from 1 on, as `PageStore::next_koid` says of any store. If that is 1, they are the empty machine with jobs.
     pub fn new(alloc: Global) -> Batch
         ensures bare { (c : Content) → batch_of c result ≡ record { machine = bare_machine c; jobs = λ n. None } }
         ensures agrees { (c : Content) → HasNoVmo c → 1 ≤ c.next → Agrees c result.vm }
@@ -52,7 +52,7 @@ impl Batch {
         }
     }
 
-    /// One event of the machine with jobs, done whole: a command is refused and nothing changes, or it has its effect, or the
+    /// Does one event of the machine with jobs whole: a command is refused and nothing changes, or it has its effect, or the
     /// host lacks memory for it and nothing changes. A piece of a job is the plain command on its pages, so it is refused as
     /// that would be, and then the job is as it was. The store is the one that holds the VMOs of the names.
     pub fn step<P: PageStore>(&mut self, store: &mut P, command: &BatchCommand) -> BatchReply
@@ -70,7 +70,7 @@ impl Batch {
             .into_reply()
     }
 
-    /// The event of `step` for a command whose bytes are lent. The answer lends what was read of `bytes`, which
+    /// Does the event of `step` for a command whose bytes are lent. The answer lends what was read of `bytes`, which
     /// has room for `DATA_BYTES` bytes, and the frames of pinned pages of `numbers`, which has room for `PIN_PAGES`.
     pub fn answer<'a, P: PageStore>(
         &mut self,

@@ -19,7 +19,7 @@ use vm_base::{PAGE, Refusal, VmoName};
 use vm_core::Vm;
 use vm_model::{Answer, Call};
 
-/// The size in bytes of what a name stands for, as the machine tells it. `None` exactly where the name is not open.
+/// Returns the size in bytes of what a name stands for, as the machine has it. `None` exactly if the name is not open.
 fn size_of<P: PageStore>(
     store: &mut P,
     vm: &mut Vm,
@@ -43,7 +43,7 @@ fn size_of<P: PageStore>(
     }
 }
 
-/// Whether a range ends behind a name of this size in bytes. Its end may pass 2^64.
+/// Reports whether a range ends behind a name of this size in bytes. Its end may pass 2^64.
 fn is_past(offset: u64, len: u64, size: u64) -> bool
     ensures { result ≡ nat_lt size (offset + len) }
 {
@@ -53,7 +53,7 @@ fn is_past(offset: u64, len: u64, size: u64) -> bool
     }
 }
 
-/// Why a job on a range of an open name of this size is refused, if it is.
+/// Returns why a job on a range of an open name of this size is refused, if it is.
 fn begin_refusal(is_there: bool, offset: u64, len: u64, size: u64) -> Option<Refusal>
     ensures { result ≡ first_of ((is_there, NameInUse)
         ∷ (not (offset % PAGE == 0 && len % PAGE == 0) || len == 0, InvalidArgs)

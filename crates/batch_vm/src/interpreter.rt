@@ -42,7 +42,7 @@ impl BatchInterpreter {
     ghost use Rattle.vm_model.specs.Contents.Content.{Content, HasNoVmo};
     ghost use Rattle.batch_model.specs.Batch.{empty_batch};
 
-    /// A machine with no jobs and nothing else.
+    /// Makes a machine with no jobs and nothing else.
     pub(crate) fn new(alloc: Global) -> BatchInterpreter
         ensures agrees { (c : Content) → HasNoVmo c → 1 ≤ c.next → AgreesBatch c result.batch }
         ensures empty { (c : Content) → HasNoVmo c → c.next ≡ 1 → batch_of c result.batch ≡ empty_batch c.frames }

@@ -28,7 +28,7 @@ impl Model for JobTable {
 }
 
 impl JobTable {
-    /// A table with no job.
+    /// Makes a table with no job.
     pub fn new(alloc: Global) -> JobTable
         ensures { jobs_of result ≡ λ n. None }
     {
@@ -37,7 +37,7 @@ impl JobTable {
         }
     }
 
-    /// A job. `None` exactly where it is not there.
+    /// Returns a job. `None` exactly if it is not there.
     pub fn find(&self, name: JobName) -> Option<Job>
         ensures { result ≡ jobs_of self.now name.0 }
     {

@@ -10,7 +10,7 @@ use std::cmp::min;
 use vm_base::PAGE;
 use vm_model::Call;
 
-/// How many pages of a job are left.
+/// Returns how many pages of a job are left.
 pub fn pages_left(job: &Job) -> u64
     requires { job.now.next ≤ job.now.end }
     ensures { result ≡ left_of job.now }
@@ -18,7 +18,8 @@ pub fn pages_left(job: &Job) -> u64
     (job.end - job.next) / PAGE
 }
 
-/// The bytes of the next `pages` pages of a job, or of all that are left where these are fewer. `pages` may be any number.
+/// Returns the bytes of the next `pages` pages of a job, or of all that are left where these are fewer. `pages` may be any
+/// number.
 pub fn piece_len(job: &Job, pages: u64) -> u64
     requires { IsGoodJob job.now }
     ensures len { result ≡ piece_len job.now pages }
@@ -27,7 +28,7 @@ pub fn piece_len(job: &Job, pages: u64) -> u64
     min(pages, pages_left(job)) * PAGE
 }
 
-/// The plain command on `len` bytes of a job, from the next on.
+/// Returns the plain command on `len` bytes of a job, from the next on.
 pub fn piece_call(job: &Job, len: u64) -> Call<'static>
     ensures { command_of result ≡ plain job.now.kind job.now.name job.now.next len }
 {

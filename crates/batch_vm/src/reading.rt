@@ -34,8 +34,8 @@ pub fn read_batch_line(line: &[u8]) -> Result<BatchLine, SyntaxFault>
     }
 }
 
-/// Reads one line as `read_batch_line` does: `None` where it says nothing, and else the command, whose byte data is decoded
-/// to the front of `room` and lent from there. `room` has at least `DATA_BYTES` bytes.
+/// Reads one line as `read_batch_line` does: `None` if it says nothing, and else the command, whose byte data is decoded to
+/// the front of `room` and lent from there. `room` has at least `DATA_BYTES` bytes.
 #[tactic(auto, unfolding(batch_model::specs::BatchLanguage::batch_reading))]
 pub fn read_batch_call<'a>(
     line: &[u8],
@@ -54,7 +54,7 @@ pub fn read_batch_call<'a>(
     }
 }
 
-/// The command on jobs that a line is, or `None` where it is none.
+/// Returns the command on jobs that a line is, or `None` if it is none.
 fn job_call<'a>(line: &[u8]) -> Option<BatchCall<'a>>
     ensures { option_map batch_command_of result ≡ (if nat_lt LINE_BYTES (length line.now) then None else job_order (words line.now)) }
 {
@@ -64,7 +64,7 @@ fn job_call<'a>(line: &[u8]) -> Option<BatchCall<'a>>
     call_of_words(line)
 }
 
-/// The same of a line of any length.
+/// Returns the same of a line of any length.
 fn call_of_words<'a>(line: &[u8]) -> Option<BatchCall<'a>>
     ensures { option_map batch_command_of result ≡ order_at (words line.now) }
 {
@@ -80,7 +80,7 @@ fn call_of_words<'a>(line: &[u8]) -> Option<BatchCall<'a>>
     }
 }
 
-/// `begin JOB KIND VMO OFFSET LEN`, behind its first word.
+/// Reads `begin JOB KIND VMO OFFSET LEN`, behind its first word.
 fn begin_call<'a>(line: &[u8]) -> Option<BatchCall<'a>>
     ensures { option_map batch_command_of result ≡ begin_at (words line.now) }
 {
@@ -101,7 +101,7 @@ fn begin_call<'a>(line: &[u8]) -> Option<BatchCall<'a>>
     })
 }
 
-/// `step JOB PAGES`, behind its first word.
+/// Reads `step JOB PAGES`, behind its first word.
 fn step_call<'a>(line: &[u8]) -> Option<BatchCall<'a>>
     ensures { option_map batch_command_of result ≡ step_at (words line.now) }
 {
@@ -113,7 +113,7 @@ fn step_call<'a>(line: &[u8]) -> Option<BatchCall<'a>>
     Some(BatchCall::Step { job, pages })
 }
 
-/// `drop JOB`, behind its first word.
+/// Reads `drop JOB`, behind its first word.
 fn drop_call<'a>(line: &[u8]) -> Option<BatchCall<'a>>
     ensures { option_map batch_command_of result ≡ drop_at (words line.now) }
 {

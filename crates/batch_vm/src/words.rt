@@ -10,7 +10,7 @@ use batch_model::{JobKind, JobName};
 use script_text::{number, vmo, word_at};
 use vm_base::VmoName;
 
-/// A word of a line, counted from 0. `None` exactly where the line has no such word.
+/// Returns a word of a line, counted from 0. `None` exactly if the line has no such word.
 pub fn word(line: &[u8], index: u64) -> Option<&[u8]>
     ensures { MatchOption result (slice_get (words line.now) index ≡ None) (λ w. slice_get (words line.now) index ≡ Some w.now) }
 {
@@ -18,21 +18,22 @@ pub fn word(line: &[u8], index: u64) -> Option<&[u8]>
     Some(&line[start..end])
 }
 
-/// Whether a line has more words than so many.
+/// Reports whether a line has more words than so many.
 pub fn has_more(line: &[u8], count: u64) -> bool
     ensures { result ≡ nat_lt count (length (words line.now)) }
 {
     word_at(line, count).is_some()
 }
 
-/// The number of a word, in either spelling, which is below 2^32. `None` where it is spelled otherwise.
+/// Returns the number of a word, in either spelling, which is below 2^32. `None` if it is spelled otherwise.
 fn small_number(word: &[u8]) -> Option<u32>
     ensures { result ≡ below NAMES (number word.now) }
 {
     u32::try_from(number(word)?).ok()
 }
 
-/// The number of a job: `j`, and a decimal number below 2^32 without leading zeros. `None` where it is spelled otherwise.
+/// Reads the number of a job: `j`, and a decimal number below 2^32 without leading zeros. `None` if it is spelled
+/// otherwise.
 #[tactic(auto, using(crate::proofs::PlaceLaws::small_decimal))]
 fn job_number(word: &[u8]) -> Option<u32>
     ensures { result ≡ name_behind 106 word.now }
@@ -47,7 +48,7 @@ fn job_number(word: &[u8]) -> Option<u32>
     small_number(behind)
 }
 
-/// The name of a job: `j` and its number. `None` where it is spelled otherwise.
+/// Returns the name of a job: `j` and its number. `None` if it is spelled otherwise.
 #[tactic(auto, unfolding(batch_model::specs::BatchLanguage::job_name))]
 pub fn job_name(word: &[u8]) -> Option<JobName>
     ensures { result ≡ job_name word.now }
@@ -55,7 +56,7 @@ pub fn job_name(word: &[u8]) -> Option<JobName>
     Some(JobName(job_number(word)?))
 }
 
-/// What a job does: `commit`, `zero` or `decommit`. `None` where it is spelled otherwise.
+/// Returns what a job does: `commit`, `zero` or `decommit`. `None` if it is spelled otherwise.
 #[tactic(auto, unfolding(batch_model::specs::BatchLanguage::job_kind))]
 pub fn job_kind(word: &[u8]) -> Option<JobKind>
     ensures { result ≡ job_kind word.now }
@@ -71,28 +72,28 @@ pub fn job_kind(word: &[u8]) -> Option<JobKind>
     }
 }
 
-/// The name of a job at a place of a line.
+/// Returns the name of a job at a place of a line.
 pub fn job_name_at(line: &[u8], index: u64) -> Option<JobName>
     ensures { result ≡ at_place job_name (words line.now) index }
 {
     job_name(word(line, index)?)
 }
 
-/// What a job does, at a place of a line.
+/// Returns what a job does, at a place of a line.
 pub fn job_kind_at(line: &[u8], index: u64) -> Option<JobKind>
     ensures { result ≡ at_place job_kind (words line.now) index }
 {
     job_kind(word(line, index)?)
 }
 
-/// The name of a VMO at a place of a line.
+/// Returns the name of a VMO at a place of a line.
 pub fn vmo_at(line: &[u8], index: u64) -> Option<VmoName>
     ensures { result ≡ at_place vmo (words line.now) index }
 {
     vmo(word(line, index)?)
 }
 
-/// A number at a place of a line.
+/// Returns a number at a place of a line.
 pub fn number_at(line: &[u8], index: u64) -> Option<u64>
     ensures { result ≡ at_place number (words line.now) index }
 {

@@ -14,7 +14,7 @@ use served::push_answer;
 use vm_base::{Failed, TEXT_BYTES, TEXT_ROOM};
 use word_text::{put, put_field};
 
-/// How many lines a reply has.
+/// Returns how many lines a reply has.
 #[tactic(auto, unfolding(batch_model::specs::BatchLanguage::batch_reply_lines))]
 pub fn batch_line_count(reply: &BatchReply) -> u64
     ensures { result ≡ length (batch_reply_lines reply.now) }

@@ -11,7 +11,7 @@ use vm_base::{Refusal, TEXT_BYTES, TEXT_ROOM};
 use vm_model::{Answer, Reply, Run};
 use word_text::{put, put_data, put_field, put_number};
 
-/// How many lines a reply has.
+/// Returns how many lines a reply has.
 #[tactic(auto, unfolding(vm_model::specs::Language::Text::reply_lines))]
 pub fn line_count(reply: &Reply) -> u64
     ensures { result ≡ length (reply_lines reply.now) }
@@ -40,7 +40,7 @@ pub fn write_line(reply: &Reply, index: u64, out: &mut [u8]) -> usize
     }
 }
 
-/// A reply as an answer. If the reply owns runs, which no answer borrows, these runs.
+/// Returns a reply as an answer. If the reply owns runs, which no answer borrows, these runs.
 fn lend(reply: &Reply) -> Result<Answer<'_>, &[Run]>
     ensures { MatchResult result (λ answer. reply_for answer ≡ reply.now)
         (λ runs. reply.now ≡ Reply.Runs runs.now) }
@@ -63,7 +63,7 @@ fn lend(reply: &Reply) -> Result<Answer<'_>, &[Run]>
     })
 }
 
-/// How many lines an answer has.
+/// Returns how many lines an answer has.
 pub fn answer_line_count(answer: &Answer<'_>) -> u64
     ensures { result ≡ length (reply_lines (reply_for answer.now)) }
 {
@@ -86,7 +86,7 @@ pub fn write_answer_line(answer: &Answer<'_>, index: u64, out: &mut [u8]) -> usi
     put_run(&runs_of(answer)[index as usize - 1], out, 0)
 }
 
-/// The runs of an answer. Each has a line behind the first line. Only `Runs` has any.
+/// Returns the runs of an answer. Each has a line behind the first line. Only `Runs` has any.
 #[tactic(auto, unfolding(vm_model::specs::Language::Text::reply_lines))]
 fn runs_of<'b>(answer: &'b Answer<'_>) -> &'b [Run]
     ensures count { length (reply_lines (reply_for answer.now)) ≡ length result.now + 1 }
@@ -130,7 +130,7 @@ fn put_first_line(answer: &Answer<'_>, out: &mut [u8]) -> usize
     }
 }
 
-/// A refusal's name.
+/// Returns a refusal's name.
 fn name_of(refusal: Refusal) -> &'static [u8]
     ensures name { result.now ≡ refusal_name refusal }
     ensures short { length result.now < 100 }

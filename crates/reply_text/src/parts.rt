@@ -104,7 +104,7 @@ fn put_hex(number: u64, out: &mut [u8], at: usize) -> usize
     put(&[hex_digit((number % 16) as u8)], out, at)
 }
 
-/// A hexadecimal digit, in lower case.
+/// Returns a hexadecimal digit, in lower case.
 fn hex_digit(digit: u8) -> u8
     requires { digit < 16 }
     ensures { result ≡ digit_glyph false digit }

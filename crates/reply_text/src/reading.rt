@@ -13,8 +13,8 @@ use vm_model::PinNumbers;
 /// The most digits that a number of 64 bits has, in decimal or hexadecimal.
 const MOST_DIGITS: usize = 20;
 
-/// The address that a reply line tells, without its line feed: `OK` and `0x` with hexadecimal digits, in
-/// lower case and without leading zeros. `None` exactly if the line is that of no address.
+/// Returns the address that a reply line has, without its line feed: `OK` and `0x` with hexadecimal digits, in lower
+/// case and without leading zeros. `None` exactly if the line is that of no address.
 pub fn read_address(line: &[u8]) -> Option<u64>
     ensures { MatchOption result
         ((address : ℕ) → address < 2 ^ 64 → reply_lines (Reply.Address address) ≢ (line.now ++ codes "\n") ∷ [])
@@ -26,7 +26,7 @@ pub fn read_address(line: &[u8]) -> Option<u64>
     spelled(16, word)
 }
 
-/// The frames of a pin that a reply line tells, without its line feed: `OK`, and each number in decimal behind a
+/// Returns the frames of a pin that a reply line has, without its line feed: `OK`, and each number in decimal behind a
 /// space. `None` exactly if no list of at most 256 frames has this line.
 pub fn read_pins(line: &[u8]) -> Option<PinNumbers>
     ensures { MatchOption result
@@ -40,7 +40,7 @@ pub fn read_pins(line: &[u8]) -> Option<PinNumbers>
     numbers_of(text)
 }
 
-/// The numbers of a text, each in decimal behind a space.
+/// Returns the numbers of a text, each in decimal behind a space.
 fn numbers_of(text: &[u8]) -> Option<PinNumbers>
     ensures { MatchOption result
         ((numbers : List ℕ) → length numbers ≤ PIN_PAGES → AllByRecursion (λ n. n < 2 ^ 64) numbers → text.now ≢ all_spaced numbers)
@@ -60,7 +60,8 @@ fn numbers_of(text: &[u8]) -> Option<PinNumbers>
     Some(numbers)
 }
 
-/// The number at the front of a text, in decimal behind a space, and what stands behind it: nothing, or a space.
+/// Returns the number at the front of a text, in decimal behind a space, and what stands behind it: nothing, or a
+/// space.
 fn next_number(text: &[u8]) -> Option<(u64, &[u8])>
     ensures number { MatchOption result
         ((n : ℕ) (more : List ℕ) → n < 2 ^ 64 → begins_space more ≡ true → text.now ≢ spaced n ++ more)
@@ -81,7 +82,7 @@ fn next_number(text: &[u8]) -> Option<(u64, &[u8])>
     Some((number, more))
 }
 
-/// How many bytes stand before the first space of a text.
+/// Returns how many bytes stand before the first space of a text.
 fn word_len(text: &[u8]) -> usize
     ensures len { result ≡ position_or_len is_space text.now }
     ensures at_most { result ≤ length text.now }
@@ -89,22 +90,22 @@ fn word_len(text: &[u8]) -> usize
     first_space(text).unwrap_or(text.len())
 }
 
-/// Where the first space of a text stands.
+/// Returns where the first space of a text stands.
 fn first_space(text: &[u8]) -> Option<usize>
     ensures { result ≡ position is_space text.now }
 {
     text.iter().position(|byte| *byte == b' ')
 }
 
-/// What stands behind the front of a line, or `None` if the line begins otherwise.
+/// Returns what stands behind the front of a line, or `None` if the line begins otherwise.
 fn behind<'a>(front: &[u8], line: &'a [u8]) -> Option<&'a [u8]>
     ensures { MatchOption result ((rest : List ℕ) → line.now ≢ front.now ++ rest) (λ rest. line.now ≡ front.now ++ rest.now) }
 {
     line.strip_prefix(front)
 }
 
-/// The number that a word spells in decimal or in hexadecimal, in lower case and without leading zeros.
-/// `None` if it spells none of 64 bits.
+/// Returns the number that a word spells in decimal or in hexadecimal, in lower case and without leading zeros. `None`
+/// if it spells none of 64 bits.
 fn spelled(base: u64, word: &[u8]) -> Option<u64>
     requires base { (base ≡ 10) ⊎ (base ≡ 16) }
     ensures { MatchOption result ((n : ℕ) → n < 2 ^ 64 → word.now ≢ digits base false n) (λ n. word.now ≡ digits base false n) }
@@ -127,8 +128,8 @@ fn spelled(base: u64, word: &[u8]) -> Option<u64>
     appended(base, high, digit)
 }
 
-/// The number with one more digit behind those of `high`. `None` if `high` would be a leading zero, or the number does
-/// not fit.
+/// Returns the number with one more digit behind those of `high`. `None` if `high` would be a leading zero, or the
+/// number does not fit.
 fn appended(base: u64, high: u64, digit: u64) -> Option<u64>
     requires base { (base ≡ 10) ⊎ (base ≡ 16) }
     requires digit { digit < base }
@@ -142,7 +143,7 @@ fn appended(base: u64, high: u64, digit: u64) -> Option<u64>
     Some(high * base + digit)
 }
 
-/// The value of a digit, in lower case. `None` if the byte is no digit of the base.
+/// Returns the value of a digit, in lower case. `None` if the byte is no digit of the base.
 fn digit_of(base: u64, byte: u8) -> Option<u64>
     requires base { (base ≡ 10) ⊎ (base ≡ 16) }
     ensures { MatchOption result ((d : ℕ) → d < base → byte ≢ digit_glyph false d) (λ d. (d < base) × (byte ≡ digit_glyph false d)) }

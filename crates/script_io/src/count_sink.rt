@@ -24,14 +24,14 @@ impl Model for CountSink {
 }
 
 impl CountSink {
-    /// A sink that took nothing yet.
+    /// Makes a sink that took nothing yet.
     pub fn new() -> CountSink
         ensures { result ≡ 0 }
     {
         CountSink { taken: 0 }
     }
 
-    /// How many bytes it took. The number stays at 2^64 - 1.
+    /// Returns how many bytes it took. The number stays at 2^64 - 1.
     pub fn taken(&self) -> u64
         ensures { result ≡ self.now }
     {

@@ -54,7 +54,7 @@ impl Model for LineBuffer {
 }
 
 impl LineBuffer {
-    /// An empty buffer.
+    /// Makes an empty buffer.
     pub(crate) fn new(alloc: Global) -> Result<LineBuffer, HostMemory>
         ensures { IfOk result (λ b. b ≡ record { line = []; seen = []; fresh = [] }) }
     {
@@ -69,21 +69,21 @@ impl LineBuffer {
         })
     }
 
-    /// The line that was found last.
+    /// Returns the line that was found last.
     pub(crate) fn line(&self) -> &[u8]
         ensures { result.now ≡ self.now.line }
     {
         &self.bytes[self.line_start..self.line_end]
     }
 
-    /// How many bytes the line that was found last has.
+    /// Returns how many bytes the line that was found last has.
     pub(crate) fn line_len(&self) -> usize
         ensures { result ≡ length self.now.line }
     {
         self.line_end - self.line_start
     }
 
-    /// How many bytes were searched.
+    /// Returns how many bytes were searched.
     pub(crate) fn seen_len(&self) -> usize
         ensures { result ≡ length self.now.seen }
     {
@@ -198,14 +198,14 @@ fn pull_behind<S: Source>(
     source.pull(&mut behind[..room])
 }
 
-/// The memory of a buffer. What its bytes are does not matter.
+/// Returns the memory of a buffer. What its bytes are does not matter.
 fn zero_bytes(alloc: Global) -> Result<Vec<u8>, HostMemory>
     ensures { IfOk result (λ v. length v.items ≡ BUFFER_BYTES) }
 {
     vec![in alloc; 0u8; BUFFER_BYTES].map_err(|_| HostMemory)
 }
 
-/// The place of the first line feed.
+/// Returns the place of the first line feed.
 #[inline(always)]
 fn feed_place(bytes: &[u8]) -> Option<usize>
     ensures { MatchOption result (HasNoFeed bytes.now) (λ n. (n < length bytes.now)

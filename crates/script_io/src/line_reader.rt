@@ -59,8 +59,8 @@ impl Model for Lines {
 }
 
 impl Lines {
-    /// A reader that takes at most `limit + 1` bytes of its source. `HostMemory` if the host has too little memory for
-    /// the buffer.
+    /// Makes a reader that takes at most `limit + 1` bytes of its source. `HostMemory` if the host has too little
+    /// memory for the buffer.
     pub fn new(alloc: Global, limit: u64) -> Result<Lines, HostMemory>
         requires { limit < 2 ^ 63 }
         ensures { IfOk result (λ r. r ≡ record {
@@ -82,7 +82,8 @@ impl Lines {
         })
     }
 
-    /// The line that the last call of `next` fetched, without its line feed. It has no bytes if that call fetched none.
+    /// Returns the line that the last call of `next` fetched, without its line feed. It has no bytes if that call
+    /// fetched none.
     pub fn line(&self) -> &[u8]
         ensures bytes { result.now ≡ self.now.line }
         ensures len { length result.now ≤ LINE_BYTES }
@@ -194,7 +195,7 @@ fn measure(buffer: &mut LineBuffer, dropped: &mut u64) -> Fetch
     Fetch::TooLong
 }
 
-/// If the bytes that were searched are of a line that is too long, drops them and counts them.
+/// Drops the bytes that were searched and counts them, if they are of a line that is too long.
 fn drop_long(buffer: &mut LineBuffer, dropped: &mut u64)
     requires fits { dropped.old + length buffer.old.seen < 2 ^ 64 }
     requires long { 0 < dropped.old → LINE_BYTES < dropped.old }

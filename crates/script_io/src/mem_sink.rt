@@ -33,7 +33,7 @@ impl Model for MemSink {
 }
 
 impl MemSink {
-    /// A sink for `room` bytes, whose memory is taken now. It takes at most `piece` bytes a call, and the calls
+    /// Makes a sink for `room` bytes, whose memory is taken now. It takes at most `piece` bytes a call, and the calls
     /// numbered in `fails`, from 1, fail. `HostMemory` if the host has too little memory.
     pub fn new(
         alloc: Global,
@@ -57,7 +57,7 @@ impl MemSink {
         })
     }
 
-    /// The bytes that it took.
+    /// Returns the bytes that it took.
     pub fn bytes(&self) -> &[u8]
         ensures { result.now ≡ self.now.contents }
     {

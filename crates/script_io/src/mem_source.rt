@@ -33,8 +33,8 @@ impl Model for MemSource {
 }
 
 impl MemSource {
-    /// A source of a copy of the bytes. It gives at most `piece` bytes a call, and the calls numbered in `fails`, from
-    /// 1, fail. `HostMemory` if the host has too little memory.
+    /// Makes a source of a copy of the bytes. It gives at most `piece` bytes a call, and the calls numbered in `fails`,
+    /// from 1, fail. `HostMemory` if the host has too little memory.
     pub fn new(
         alloc: Global,
         bytes: &[u8],

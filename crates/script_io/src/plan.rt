@@ -26,7 +26,7 @@ impl Model for Plan {
 }
 
 impl Plan {
-    /// No call yet, and these calls are to fail.
+    /// Makes a plan with no call yet, in which these calls are to fail.
     pub(crate) fn new(alloc: Global, fails: &[u64]) -> Result<Plan, HostMemory>
         ensures { IfOk result (λ p. p ≡ record { fails = fails.now; calls = 0; faults = 0 }) }
     {

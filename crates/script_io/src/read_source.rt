@@ -25,7 +25,7 @@ impl<R> Model for ReadSource<R> {
 }
 
 impl<R> ReadSource<R> {
-    /// A source over the reader.
+    /// Makes a source over the reader.
     pub fn new(reader: R) -> ReadSource<R>
         ensures { result ≡ (reader, 0) }
     {

@@ -20,7 +20,7 @@ pub enum Status {
     ScriptLimit,
 }
 
-/// The exit status of the process: 0, 2, 3, 4, 5 and 6 in the order of the variants.
+/// Returns the exit status of the process: 0, 2, 3, 4, 5 and 6 in the order of the variants.
 pub fn code(status: Status) -> u8
     ensures { result ≡ code_of status }
 {

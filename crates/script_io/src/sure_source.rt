@@ -22,7 +22,7 @@ impl<'a> Model for SureSource<'a> {
 }
 
 impl<'a> SureSource<'a> {
-    /// A source of these bytes.
+    /// Makes a source of these bytes.
     pub fn new(bytes: &'a [u8]) -> SureSource<'a>
         ensures { result ≡ bytes.now }
     {

@@ -25,7 +25,7 @@ impl<W> Model for WriteSink<W> {
 }
 
 impl<W> WriteSink<W> {
-    /// A sink over the writer.
+    /// Makes a sink over the writer.
     pub fn new(writer: W) -> WriteSink<W>
         ensures { result ≡ (writer, 0) }
     {
@@ -38,7 +38,7 @@ impl<W: Write> Sink for WriteSink<W> {
 
     ghost faults = { λ s. s.1 };
 
-    /// A write of 0 bytes is a fault too.
+    /// Pushes bytes as the trait says. A write of 0 bytes is a fault too.
     fn push(&mut self, bytes: &[u8]) -> Result<usize, Failed>
         requires { 0 < length bytes.now }
         ensures count { IfOk result (λ n. (1 ≤ n) × (n ≤ length bytes.now)) }

@@ -17,8 +17,9 @@ use crate::words::is_word;
 use vm_base::DATA_BYTES;
 use vm_model::Call;
 
-/// The command of this word and these arguments. `None` if there is none. Byte data is lent from `room`. The function
-/// is not inlined: a function writes all of its locals, and a read or a write should not pay for those of all commands.
+/// Returns the command of this word and these arguments. `None` if there is none. Byte data is lent from `room`. The
+/// function is not inlined: a function writes all of its locals, and a read or a write should not pay for those of all
+/// commands.
 #[inline(never)]
 pub fn call<'a>(word: &[u8], arguments: &[&[u8]], room: &'a mut [u8]) -> Option<Call<'a>>
     requires { DATA_BYTES ≤ length room.old }
@@ -38,7 +39,7 @@ pub fn call<'a>(word: &[u8], arguments: &[&[u8]], room: &'a mut [u8]) -> Option<
     }
 }
 
-/// The command of a word of four bytes.
+/// Returns the command of a word of four bytes.
 fn call_of_four<'a>(word: &[u8], arguments: &[&[u8]]) -> Option<Call<'a>>
     ensures { option_map command_of result ≡ by_word (rows_of 4) word.now (map (λ a. a.now) arguments.now) }
 {
@@ -51,7 +52,7 @@ fn call_of_four<'a>(word: &[u8], arguments: &[&[u8]]) -> Option<Call<'a>>
     }
 }
 
-/// The command of a word of seven bytes.
+/// Returns the command of a word of seven bytes.
 fn call_of_seven<'a>(word: &[u8], arguments: &[&[u8]]) -> Option<Call<'a>>
     ensures { option_map command_of result ≡ by_word (rows_of 7) word.now (map (λ a. a.now) arguments.now) }
 {
@@ -62,7 +63,7 @@ fn call_of_seven<'a>(word: &[u8], arguments: &[&[u8]]) -> Option<Call<'a>>
     }
 }
 
-/// The command of a word of eight bytes.
+/// Returns the command of a word of eight bytes.
 fn call_of_eight<'a>(word: &[u8], arguments: &[&[u8]]) -> Option<Call<'a>>
     ensures { option_map command_of result ≡ by_word (rows_of 8) word.now (map (λ a. a.now) arguments.now) }
 {
@@ -85,7 +86,7 @@ fn call_of_eight<'a>(word: &[u8], arguments: &[&[u8]]) -> Option<Call<'a>>
     }
 }
 
-/// The command of a word of nine bytes.
+/// Returns the command of a word of nine bytes.
 fn call_of_nine<'a>(word: &[u8], arguments: &[&[u8]], room: &'a mut [u8]) -> Option<Call<'a>>
     requires { DATA_BYTES ≤ length room.old }
     ensures { option_map command_of result ≡ by_word (rows_of 9) word.now (map (λ a. a.now) arguments.now) }
@@ -103,7 +104,7 @@ fn call_of_nine<'a>(word: &[u8], arguments: &[&[u8]], room: &'a mut [u8]) -> Opt
     }
 }
 
-/// The command of a word of ten bytes.
+/// Returns the command of a word of ten bytes.
 fn call_of_ten<'a>(word: &[u8], arguments: &[&[u8]]) -> Option<Call<'a>>
     ensures { option_map command_of result ≡ by_word (rows_of 10) word.now (map (λ a. a.now) arguments.now) }
 {
@@ -118,7 +119,7 @@ fn call_of_ten<'a>(word: &[u8], arguments: &[&[u8]]) -> Option<Call<'a>>
     }
 }
 
-/// The command of a word of eleven bytes.
+/// Returns the command of a word of eleven bytes.
 fn call_of_eleven<'a>(word: &[u8], arguments: &[&[u8]]) -> Option<Call<'a>>
     ensures { option_map command_of result ≡ by_word (rows_of 11) word.now (map (λ a. a.now) arguments.now) }
 {
@@ -129,7 +130,7 @@ fn call_of_eleven<'a>(word: &[u8], arguments: &[&[u8]]) -> Option<Call<'a>>
     }
 }
 
-/// The command of a word of twelve bytes.
+/// Returns the command of a word of twelve bytes.
 fn call_of_twelve<'a>(word: &[u8], arguments: &[&[u8]]) -> Option<Call<'a>>
     ensures { option_map command_of result ≡ by_word (rows_of 12) word.now (map (λ a. a.now) arguments.now) }
 {
@@ -146,7 +147,7 @@ fn call_of_twelve<'a>(word: &[u8], arguments: &[&[u8]]) -> Option<Call<'a>>
     }
 }
 
-/// The command of a word of thirteen bytes.
+/// Returns the command of a word of thirteen bytes.
 fn call_of_thirteen<'a>(word: &[u8], arguments: &[&[u8]]) -> Option<Call<'a>>
     ensures { option_map command_of result ≡ by_word (rows_of 13) word.now (map (λ a. a.now) arguments.now) }
 {
@@ -157,7 +158,7 @@ fn call_of_thirteen<'a>(word: &[u8], arguments: &[&[u8]]) -> Option<Call<'a>>
     }
 }
 
-/// The command of a word of sixteen bytes.
+/// Returns the command of a word of sixteen bytes.
 fn call_of_sixteen<'a>(word: &[u8], arguments: &[&[u8]]) -> Option<Call<'a>>
     ensures { option_map command_of result ≡ by_word (rows_of 16) word.now (map (λ a. a.now) arguments.now) }
 {

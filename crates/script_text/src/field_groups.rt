@@ -7,7 +7,7 @@ use crate::fields::{child_kind, number, region, vmo};
 use vm_base::{RegionName, VmoName};
 use vm_model::ChildKind;
 
-/// A VMO and a number.
+/// Reads a VMO and a number.
 #[inline(always)]
 pub fn vmo_and_number(name: &[u8], value: &[u8]) -> Option<(VmoName, u64)>
     ensures { result ≡ vmo_and_number name.now value.now }
@@ -15,7 +15,7 @@ pub fn vmo_and_number(name: &[u8], value: &[u8]) -> Option<(VmoName, u64)>
     vmo(name).zip(number(value))
 }
 
-/// A VMO and a range of it, the offset and the length.
+/// Reads a VMO and a range of it, the offset and the length.
 #[inline(always)]
 pub fn range_of_vmo(name: &[u8], offset: &[u8], len: &[u8]) -> Option<(VmoName, u64, u64)>
     ensures { result ≡ range_of_vmo name.now offset.now len.now }
@@ -23,7 +23,7 @@ pub fn range_of_vmo(name: &[u8], offset: &[u8], len: &[u8]) -> Option<(VmoName, 
     Some((vmo(name)?, number(offset)?, number(len)?))
 }
 
-/// A region and a number.
+/// Reads a region and a number.
 #[inline(always)]
 pub fn region_and_number(name: &[u8], value: &[u8]) -> Option<(RegionName, u64)>
     ensures { result ≡ region_and_number name.now value.now }
@@ -31,7 +31,7 @@ pub fn region_and_number(name: &[u8], value: &[u8]) -> Option<(RegionName, u64)>
     region(name).zip(number(value))
 }
 
-/// A region and a range of it, the address and the length.
+/// Reads a region and a range of it, the address and the length.
 #[inline(always)]
 pub fn range_of_region(name: &[u8], addr: &[u8], len: &[u8]) -> Option<(RegionName, u64, u64)>
     ensures { result ≡ range_of_region name.now addr.now len.now }
@@ -39,14 +39,14 @@ pub fn range_of_region(name: &[u8], addr: &[u8], len: &[u8]) -> Option<(RegionNa
     Some((region(name)?, number(addr)?, number(len)?))
 }
 
-/// An offset and a size.
+/// Reads an offset and a size.
 pub fn range(offset: &[u8], size: &[u8]) -> Option<(u64, u64)>
     ensures { result ≡ range offset.now size.now }
 {
     number(offset).zip(number(size))
 }
 
-/// A child, its parent and its kind.
+/// Reads a child, its parent and its kind.
 pub fn child(name: &[u8], parent: &[u8], kind: &[u8]) -> Option<(VmoName, VmoName, ChildKind)>
     ensures { result ≡ child name.now parent.now kind.now }
 {

@@ -22,7 +22,7 @@ enum Radix {
 }
 
 impl Radix {
-    /// How many digits there are.
+    /// Returns how many digits there are.
     fn base(self) -> u64
         ensures { result ≡ base_of self }
     {
@@ -32,7 +32,7 @@ impl Radix {
         }
     }
 
-    /// What one digit stands for, or `None` if the byte is no digit.
+    /// Returns what one digit stands for, or `None` if the byte is no digit.
     fn value(self, byte: u8) -> Option<u64>
         ensures { result ≡ value_in self byte }
     {
@@ -45,8 +45,8 @@ impl Radix {
     }
 }
 
-/// The number that a word of digits spells. `None` if the word is empty, a byte is no digit, or the number does not
-/// fit.
+/// Returns the number that a word of digits spells. `None` if the word is empty, a byte is no digit, or the number does
+/// not fit.
 #[inline(always)]
 #[tactic(auto, unfolding(vm_model::specs::Language::Reading::digits_from))]
 fn digits(radix: Radix, word: &[u8]) -> Option<u64>
@@ -63,8 +63,8 @@ fn digits(radix: Radix, word: &[u8]) -> Option<u64>
     Some(number)
 }
 
-/// A number: decimal digits, or `0x` and hexadecimal digits of either case. `None` if it is spelled otherwise, or is
-/// not below 2^64.
+/// Returns a number: decimal digits, or `0x` and hexadecimal digits of either case. `None` if it is spelled otherwise,
+/// or is not below 2^64.
 #[inline(always)]
 #[tactic(auto, unfolding(vm_model::specs::Language::Reading::number))]
 pub fn number(word: &[u8]) -> Option<u64>
@@ -76,15 +76,15 @@ pub fn number(word: &[u8]) -> Option<u64>
     }
 }
 
-/// The value of one byte: a number, in either spelling, of at most 255. `None` if it is spelled otherwise.
+/// Reads the value of one byte: a number, in either spelling, of at most 255. `None` if it is spelled otherwise.
 pub fn byte(word: &[u8]) -> Option<u8>
     ensures { result ≡ byte word.now }
 {
     u8::try_from(number(word)?).ok()
 }
 
-/// The number of a name: the letter, and a decimal number without leading zeros. `None` if it is spelled otherwise, or
-/// the number is not below 2^32.
+/// Reads the number of a name: the letter, and a decimal number without leading zeros. `None` if it is spelled
+/// otherwise, or the number is not below 2^32.
 fn name_behind(letter: u8, word: &[u8]) -> Option<u32>
     ensures { result ≡ name_behind letter word.now }
 {
@@ -98,7 +98,8 @@ fn name_behind(letter: u8, word: &[u8]) -> Option<u32>
     u32::try_from(digits(Radix::Decimal, behind)?).ok()
 }
 
-/// The name of a VMO: `v` and a decimal number below 2^32 without leading zeros. `None` if it is spelled otherwise.
+/// Returns the name of a VMO: `v` and a decimal number below 2^32 without leading zeros. `None` if it is spelled
+/// otherwise.
 #[tactic(auto, unfolding(vm_model::specs::Language::Reading::vmo))]
 pub fn vmo(word: &[u8]) -> Option<VmoName>
     ensures { result ≡ vmo word.now }
@@ -106,7 +107,8 @@ pub fn vmo(word: &[u8]) -> Option<VmoName>
     Some(VmoName(name_behind(b'v', word)?))
 }
 
-/// The name of a region: `r` and a decimal number below 2^32 without leading zeros. `None` if it is spelled otherwise.
+/// Returns the name of a region: `r` and a decimal number below 2^32 without leading zeros. `None` if it is spelled
+/// otherwise.
 #[tactic(auto, unfolding(vm_model::specs::Language::Reading::region))]
 pub fn region(word: &[u8]) -> Option<RegionName>
     ensures { result ≡ region word.now }
@@ -114,7 +116,8 @@ pub fn region(word: &[u8]) -> Option<RegionName>
     Some(RegionName(name_behind(b'r', word)?))
 }
 
-/// The name of a pin: `p` and a decimal number below 2^32 without leading zeros. `None` if it is spelled otherwise.
+/// Returns the name of a pin: `p` and a decimal number below 2^32 without leading zeros. `None` if it is spelled
+/// otherwise.
 #[tactic(auto, unfolding(vm_model::specs::Language::Reading::pin))]
 pub fn pin(word: &[u8]) -> Option<PinName>
     ensures { result ≡ pin word.now }
@@ -122,8 +125,8 @@ pub fn pin(word: &[u8]) -> Option<PinName>
     Some(PinName(name_behind(b'p', word)?))
 }
 
-/// Byte data: `-` for no bytes, or two hexadecimal digits of either case for each of 1 to `DATA_BYTES` bytes. `None` if
-/// it is spelled otherwise.
+/// Reads byte data: `-` for no bytes, or two hexadecimal digits of either case for each of 1 to `DATA_BYTES` bytes.
+/// `None` if it is spelled otherwise.
 pub fn byte_data(word: &[u8]) -> Option<Bytes4k>
     ensures { result ≡ byte_data word.now }
 {
@@ -131,8 +134,8 @@ pub fn byte_data(word: &[u8]) -> Option<Bytes4k>
     Some(byte_data_into(word, &mut room)?.to_bytes())
 }
 
-/// Byte data as `byte_data` reads it, decoded to the front of `room`, which has at least `DATA_BYTES` bytes, and
-/// lent from there.
+/// Reads byte data as `byte_data` does, decoded to the front of `room`, which has at least `DATA_BYTES` bytes, and lent
+/// from there.
 #[tactic(auto, unfolding(vm_model::specs::Language::Reading::byte_data))]
 pub fn byte_data_into<'a>(word: &[u8], room: &'a mut [u8]) -> Option<LentBytes<'a>>
     requires { DATA_BYTES ≤ length room.old }
@@ -149,8 +152,8 @@ pub fn byte_data_into<'a>(word: &[u8], room: &'a mut [u8]) -> Option<LentBytes<'
     Some(LentBytes::new(decoded))
 }
 
-/// What an access may do: the letters of reading, writing and executing that are allowed, in this order, or `none`.
-/// `None` if it is spelled otherwise.
+/// Returns what an access may do: the letters of reading, writing and executing that are allowed, in this order, or
+/// `none`. `None` if it is spelled otherwise.
 #[tactic(auto, unfolding(vm_model::specs::Language::Reading::perm))]
 pub fn perm(word: &[u8]) -> Option<Perm>
     ensures { result ≡ perm word.now }
@@ -176,7 +179,7 @@ pub fn perm(word: &[u8]) -> Option<Perm>
     }
 }
 
-/// What a child shows of its parent: `snapshot`, `slice` or `reference`. `None` if it is spelled otherwise.
+/// Returns what a child shows of its parent: `snapshot`, `slice` or `reference`. `None` if it is spelled otherwise.
 #[tactic(auto, unfolding(vm_model::specs::Language::Reading::child_kind))]
 pub fn child_kind(word: &[u8]) -> Option<ChildKind>
     ensures { result ≡ child_kind word.now }

@@ -3,7 +3,7 @@
 ghost use Rattle.std.specs.Prelude.{◌≡◌, ◌≤◌, map};
 ghost use Rattle.vm_model.specs.Language.Reading.{are_flags, bit, stands};
 
-/// Whether a word stands among others.
+/// Reports whether a word stands among others.
 pub fn stands(word: &[u8], words: &[&[u8]]) -> bool
     ensures { result ≡ stands word.now (map (λ w. w.now) words.now) }
 {
@@ -17,7 +17,7 @@ pub fn stands(word: &[u8], words: &[&[u8]]) -> bool
     false
 }
 
-/// Whether the words are flags that are known, and none of them stands twice.
+/// Reports whether the words are flags that are known, and none of them stands twice.
 pub fn are_flags(known: &[&[u8]], words: &[&[u8]]) -> bool
     ensures { result ≡ are_flags (map (λ w. w.now) known.now) (map (λ w. w.now) words.now) }
 {
@@ -31,7 +31,7 @@ pub fn are_flags(known: &[&[u8]], words: &[&[u8]]) -> bool
     true
 }
 
-/// The bit of a flag if the flag stands, else 0.
+/// Returns the bit of a flag if the flag stands, else 0.
 pub fn bit(set: bool, value: u32) -> u32
     ensures bit { result ≡ bit set value }
     ensures at_most { result ≤ value }

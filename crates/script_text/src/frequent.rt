@@ -13,7 +13,7 @@ use crate::words::{begins_with, behind_blanks, is_blank, next_short_word};
 use vm_base::DATA_BYTES;
 use vm_model::{Call, LentBytes};
 
-/// What stands behind a word, if a line begins with this word.
+/// Returns what stands behind a word, if a line begins with this word.
 #[inline(always)]
 #[tactic(auto, using(crate::proofs::FrequentLaws::begins_with))]
 pub fn behind_word<'a>(word: &[u8], line: &'a [u8]) -> Option<&'a [u8]>
@@ -27,7 +27,7 @@ pub fn behind_word<'a>(word: &[u8], line: &'a [u8]) -> Option<&'a [u8]>
     if is_cut(behind) { Some(behind) } else { None }
 }
 
-/// Whether a word may end before these bytes: the first one is a blank, or there are none.
+/// Reports whether a word may end before these bytes: the first one is a blank, or there are none.
 #[inline(always)]
 fn is_cut(behind: &[u8]) -> bool
     ensures { result ≡ begins_blank behind.now }
@@ -38,7 +38,7 @@ fn is_cut(behind: &[u8]) -> bool
     }
 }
 
-/// Whether a line has no word.
+/// Reports whether a line has no word.
 #[inline(always)]
 #[tactic(auto, using(crate::proofs::FrequentLaws::no_word))]
 pub(crate) fn has_no_word(line: &[u8]) -> bool
@@ -47,7 +47,7 @@ pub(crate) fn has_no_word(line: &[u8]) -> bool
     behind_blanks(line).is_empty()
 }
 
-/// The words of a line that has three. `None` if it has fewer or more.
+/// Returns the words of a line that has three. `None` if it has fewer or more.
 #[inline(always)]
 fn three_words(line: &[u8]) -> Option<(&[u8], &[u8], &[u8])>
     ensures { option_map (λ p. (p.0.now, p.1.now, p.2.now)) result ≡ three_words (words line.now) }
@@ -61,8 +61,8 @@ fn three_words(line: &[u8]) -> Option<(&[u8], &[u8], &[u8])>
     Some((first, second, third))
 }
 
-/// The command `vmo_read` of these arguments. The function is not inlined, since the machine has registers enough for
-/// it alone.
+/// Returns the command `vmo_read` of these arguments. The function is not inlined, since the machine has registers
+/// enough for it alone.
 #[inline(never)]
 #[tactic(auto, using(crate::proofs::FrequentLaws::vmo_range_of_three))]
 pub fn vmo_read_of<'a>(arguments: &[u8]) -> Option<Call<'a>>
@@ -73,7 +73,7 @@ pub fn vmo_read_of<'a>(arguments: &[u8]) -> Option<Call<'a>>
     Some(Call::VmoRead { name, offset, len })
 }
 
-/// The command `mem_read` of these arguments. The function is not inlined, as that of `vmo_read`.
+/// Returns the command `mem_read` of these arguments. The function is not inlined, as that of `vmo_read`.
 #[inline(never)]
 #[tactic(auto, using(crate::proofs::FrequentLaws::region_range_of_three))]
 pub fn mem_read_of<'a>(arguments: &[u8]) -> Option<Call<'a>>
@@ -84,7 +84,7 @@ pub fn mem_read_of<'a>(arguments: &[u8]) -> Option<Call<'a>>
     Some(Call::MemRead { region, addr, len })
 }
 
-/// The command `vmo_write` of these arguments, whose data is lent from `room`.
+/// Returns the command `vmo_write` of these arguments, whose data is lent from `room`.
 pub fn vmo_write_of<'a>(arguments: &[u8], room: &'a mut [u8]) -> Option<Call<'a>>
     requires { DATA_BYTES ≤ length room.old }
     ensures { option_map command_of result ≡ vmo_write (words arguments.now) }
@@ -100,7 +100,7 @@ pub fn vmo_write_of<'a>(arguments: &[u8], room: &'a mut [u8]) -> Option<Call<'a>
     })
 }
 
-/// The command `mem_write` of these arguments, whose data is lent from `room`.
+/// Returns the command `mem_write` of these arguments, whose data is lent from `room`.
 pub fn mem_write_of<'a>(arguments: &[u8], room: &'a mut [u8]) -> Option<Call<'a>>
     requires { DATA_BYTES ≤ length room.old }
     ensures { option_map command_of result ≡ mem_write (words arguments.now) }
@@ -116,8 +116,8 @@ pub fn mem_write_of<'a>(arguments: &[u8], room: &'a mut [u8]) -> Option<Call<'a>
     })
 }
 
-/// The byte data that is the one word of a line. If the line does not end with a blank, no search for the end of the
-/// data is needed: data with a blank in it is refused.
+/// Returns the byte data that is the one word of a line. If the line does not end with a blank, no search for the end
+/// of the data is needed: data with a blank in it is refused.
 #[inline(always)]
 fn only_data<'a>(line: &[u8], room: &'a mut [u8]) -> Option<LentBytes<'a>>
     requires { DATA_BYTES ≤ length room.old }
@@ -134,7 +134,7 @@ fn only_data<'a>(line: &[u8], room: &'a mut [u8]) -> Option<LentBytes<'a>>
     byte_data_into(text, room)
 }
 
-/// Whether the last byte of a line is a blank.
+/// Reports whether the last byte of a line is a blank.
 #[inline(always)]
 fn ends_blank(line: &[u8]) -> bool
     ensures { result ≡ ends_blank line.now }

@@ -64,7 +64,7 @@ pub fn read_call<'a>(line: &[u8], room: &'a mut [u8]) -> Result<Option<Call<'a>>
     }
 }
 
-/// A line from its first word on, which says the same.
+/// Returns a line from its first word on, which says the same.
 fn from_first_word(line: &[u8]) -> &[u8]
     ensures { reading_of_words (words line.now)
         ≡ (if is_silent result.now then Blank else order_or_outside (order_in (words result.now))) }
@@ -72,14 +72,14 @@ fn from_first_word(line: &[u8]) -> &[u8]
     behind_blanks(line)
 }
 
-/// Whether a line that begins with no blank says nothing: it has no byte, or it is a comment.
+/// Reports whether a line that begins with no blank says nothing: it has no byte, or it is a comment.
 fn is_silent(line: &[u8]) -> bool
     ensures { result ≡ is_silent line.now }
 {
     matches!(line, [] | [b'#', ..])
 }
 
-/// The command of a line. `None` if it has none. Most lines begin with one of four words.
+/// Returns the command of a line. `None` if it has none. Most lines begin with one of four words.
 #[inline(always)]
 fn order<'a>(line: &[u8], room: &'a mut [u8]) -> Option<Call<'a>>
     requires { DATA_BYTES ≤ length room.old }
@@ -116,8 +116,8 @@ fn order_of_words<'a>(line: &[u8], room: &'a mut [u8]) -> Option<Call<'a>>
     order_of_more(word, first, second, rest, room)
 }
 
-/// The command of a line that begins with these three words. It cuts the rest of the line into its words once. The function is not
-/// inlined: a function writes all of its locals, and a short line should not pay for the list of words.
+/// Returns the command of a line that begins with these three words. It cuts the rest of the line into its words once. The
+/// function is not inlined: a function writes all of its locals, and a short line should not pay for the list of words.
 #[inline(never)]
 fn order_of_more<'a>(
     word: &[u8],

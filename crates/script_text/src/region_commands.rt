@@ -16,7 +16,7 @@ use crate::flags::{are_flags, bit, stands};
 use vm_base::{DATA_BYTES, MapFlags, Perm, RegionName};
 use vm_model::Call;
 
-/// The one argument of a command of a region.
+/// Returns the one argument of a command of a region.
 fn one_region(arguments: &[&[u8]]) -> Option<RegionName>
     ensures { result ≡ one_region (map (λ a. a.now) arguments.now) }
 {
@@ -26,7 +26,7 @@ fn one_region(arguments: &[&[u8]]) -> Option<RegionName>
     region(name)
 }
 
-/// The arguments of a command of a range of a region: its name, the address and the length.
+/// Returns the arguments of a command of a range of a region: its name, the address and the length.
 fn region_range(arguments: &[&[u8]]) -> Option<(RegionName, u64, u64)>
     ensures { result ≡ region_range (map (λ a. a.now) arguments.now) }
 {
@@ -36,7 +36,7 @@ fn region_range(arguments: &[&[u8]]) -> Option<(RegionName, u64, u64)>
     range_of_region(name, addr, len)
 }
 
-/// `root_create REGION`
+/// Reads the arguments of `root_create REGION`.
 #[tactic(auto, using(crate::proofs::ShapeLaws::of_region_by_one))]
 pub fn root_create<'a>(arguments: &[&[u8]]) -> Option<Call<'a>>
     ensures { option_map command_of result ≡ of_region RootCreate (map (λ a. a.now) arguments.now) }
@@ -45,7 +45,8 @@ pub fn root_create<'a>(arguments: &[&[u8]]) -> Option<Call<'a>>
     Some(Call::RootCreate { region })
 }
 
-/// `vmar_allocate REGION PARENT OFFSET LEN [specific] [upper_limit] [can_read] [can_write] [can_execute]`
+/// Reads the arguments of `vmar_allocate REGION PARENT OFFSET LEN [specific] [upper_limit] [can_read] [can_write]
+/// [can_execute]`.
 pub fn vmar_allocate<'a>(arguments: &[&[u8]]) -> Option<Call<'a>>
     ensures { option_map command_of result ≡ vmar_allocate (map (λ a. a.now) arguments.now) }
 {
@@ -67,7 +68,7 @@ pub fn vmar_allocate<'a>(arguments: &[&[u8]]) -> Option<Call<'a>>
     })
 }
 
-/// Whether the words are flags of a region, and none of them stands twice.
+/// Reports whether the words are flags of a region, and none of them stands twice.
 fn are_region_flags(flags: &[&[u8]]) -> bool
     ensures { result ≡ are_flags region_flag_words (map (λ a. a.now) flags.now) }
 {
@@ -81,7 +82,7 @@ fn are_region_flags(flags: &[&[u8]]) -> bool
     are_flags(&known, flags)
 }
 
-/// How a region is placed.
+/// Returns how a region is placed.
 fn region_flags(flags: &[&[u8]]) -> MapFlags
     ensures { result ≡ region_flags (map (λ a. a.now) flags.now) }
 {
@@ -91,7 +92,7 @@ fn region_flags(flags: &[&[u8]]) -> MapFlags
     )
 }
 
-/// What a region allows.
+/// Returns what a region allows.
 fn region_caps(flags: &[&[u8]]) -> Perm
     ensures { result ≡ region_caps (map (λ a. a.now) flags.now) }
 {
@@ -102,7 +103,8 @@ fn region_caps(flags: &[&[u8]]) -> Perm
     )
 }
 
-/// `vmar_map REGION OFFSET VMO VMO_OFFSET LEN PERM [specific] [specific_overwrite] [upper_limit] [allow_faults]`
+/// Reads the arguments of `vmar_map REGION OFFSET VMO VMO_OFFSET LEN PERM [specific] [specific_overwrite] [upper_limit]
+/// [allow_faults]`.
 pub fn vmar_map<'a>(arguments: &[&[u8]]) -> Option<Call<'a>>
     ensures { option_map command_of result ≡ vmar_map (map (λ a. a.now) arguments.now) }
 {
@@ -126,7 +128,7 @@ pub fn vmar_map<'a>(arguments: &[&[u8]]) -> Option<Call<'a>>
     })
 }
 
-/// Whether the words are flags of a mapping, and none of them stands twice.
+/// Reports whether the words are flags of a mapping, and none of them stands twice.
 fn are_map_flags(flags: &[&[u8]]) -> bool
     ensures { result ≡ are_flags map_flag_words (map (λ a. a.now) flags.now) }
 {
@@ -139,7 +141,7 @@ fn are_map_flags(flags: &[&[u8]]) -> bool
     are_flags(&known, flags)
 }
 
-/// How a mapping is placed.
+/// Returns how a mapping is placed.
 fn map_flags(flags: &[&[u8]]) -> MapFlags
     ensures { result ≡ map_flags (map (λ a. a.now) flags.now) }
 {
@@ -151,7 +153,7 @@ fn map_flags(flags: &[&[u8]]) -> MapFlags
     )
 }
 
-/// `vmar_unmap REGION ADDR LEN`
+/// Reads the arguments of `vmar_unmap REGION ADDR LEN`.
 #[tactic(auto, using(crate::proofs::ShapeLaws::of_region_range_by_range))]
 pub fn vmar_unmap<'a>(arguments: &[&[u8]]) -> Option<Call<'a>>
     ensures { option_map command_of result ≡ of_region_range VmarUnmap (map (λ a. a.now) arguments.now) }
@@ -160,7 +162,7 @@ pub fn vmar_unmap<'a>(arguments: &[&[u8]]) -> Option<Call<'a>>
     Some(Call::VmarUnmap { region, addr, len })
 }
 
-/// `vmar_protect REGION ADDR LEN PERM`
+/// Reads the arguments of `vmar_protect REGION ADDR LEN PERM`.
 pub fn vmar_protect<'a>(arguments: &[&[u8]]) -> Option<Call<'a>>
     ensures { option_map command_of result ≡ vmar_protect (map (λ a. a.now) arguments.now) }
 {
@@ -177,7 +179,7 @@ pub fn vmar_protect<'a>(arguments: &[&[u8]]) -> Option<Call<'a>>
     })
 }
 
-/// `vmar_destroy REGION`
+/// Reads the arguments of `vmar_destroy REGION`.
 #[tactic(auto, using(crate::proofs::ShapeLaws::of_region_by_one))]
 pub fn vmar_destroy<'a>(arguments: &[&[u8]]) -> Option<Call<'a>>
     ensures { option_map command_of result ≡ of_region VmarDestroy (map (λ a. a.now) arguments.now) }
@@ -186,7 +188,7 @@ pub fn vmar_destroy<'a>(arguments: &[&[u8]]) -> Option<Call<'a>>
     Some(Call::VmarDestroy { region })
 }
 
-/// `maps REGION`
+/// Reads the arguments of `maps REGION`.
 #[tactic(auto, using(crate::proofs::ShapeLaws::of_region_by_one))]
 pub fn maps<'a>(arguments: &[&[u8]]) -> Option<Call<'a>>
     ensures { option_map command_of result ≡ of_region Maps (map (λ a. a.now) arguments.now) }
@@ -195,7 +197,7 @@ pub fn maps<'a>(arguments: &[&[u8]]) -> Option<Call<'a>>
     Some(Call::Maps { region })
 }
 
-/// `mem_read REGION ADDR LEN`
+/// Reads the arguments of `mem_read REGION ADDR LEN`.
 #[tactic(auto, using(crate::proofs::ShapeLaws::of_region_range_by_range))]
 pub fn mem_read<'a>(arguments: &[&[u8]]) -> Option<Call<'a>>
     ensures { option_map command_of result ≡ of_region_range MemRead (map (λ a. a.now) arguments.now) }
@@ -204,7 +206,7 @@ pub fn mem_read<'a>(arguments: &[&[u8]]) -> Option<Call<'a>>
     Some(Call::MemRead { region, addr, len })
 }
 
-/// `mem_write REGION ADDR DATA`
+/// Reads the arguments of `mem_write REGION ADDR DATA`.
 pub fn mem_write<'a>(arguments: &[&[u8]], room: &'a mut [u8]) -> Option<Call<'a>>
     requires { DATA_BYTES ≤ length room.old }
     ensures { option_map command_of result ≡ mem_write (map (λ a. a.now) arguments.now) }
@@ -221,7 +223,7 @@ pub fn mem_write<'a>(arguments: &[&[u8]], room: &'a mut [u8]) -> Option<Call<'a>
     })
 }
 
-/// `stat`
+/// Reads the arguments of `stat`.
 pub fn stat<'a>(arguments: &[&[u8]]) -> Option<Call<'a>>
     ensures { option_map command_of result ≡ stat (map (λ a. a.now) arguments.now) }
 {

@@ -15,7 +15,7 @@ use crate::flags::{are_flags, stands};
 use vm_base::{DATA_BYTES, VmoName};
 use vm_model::Call;
 
-/// The one argument of a command of a VMO.
+/// Returns the one argument of a command of a VMO.
 fn one_vmo(arguments: &[&[u8]]) -> Option<VmoName>
     ensures { result ≡ one_vmo (map (λ a. a.now) arguments.now) }
 {
@@ -25,7 +25,7 @@ fn one_vmo(arguments: &[&[u8]]) -> Option<VmoName>
     vmo(name)
 }
 
-/// The arguments of a command of a range of a VMO: its name, the offset and the length.
+/// Returns the arguments of a command of a range of a VMO: its name, the offset and the length.
 #[inline(always)]
 fn vmo_range(arguments: &[&[u8]]) -> Option<(VmoName, u64, u64)>
     ensures { result ≡ vmo_range (map (λ a. a.now) arguments.now) }
@@ -36,7 +36,7 @@ fn vmo_range(arguments: &[&[u8]]) -> Option<(VmoName, u64, u64)>
     range_of_vmo(name, offset, len)
 }
 
-/// `vmo_create VMO SIZE [resizable]`
+/// Reads the arguments of `vmo_create VMO SIZE [resizable]`.
 pub fn vmo_create<'a>(arguments: &[&[u8]]) -> Option<Call<'a>>
     ensures { option_map command_of result ≡ vmo_create (map (λ a. a.now) arguments.now) }
 {
@@ -54,7 +54,7 @@ pub fn vmo_create<'a>(arguments: &[&[u8]]) -> Option<Call<'a>>
     })
 }
 
-/// `vmo_create_child VMO PARENT KIND OFFSET SIZE [resizable] [no_write]`
+/// Reads the arguments of `vmo_create_child VMO PARENT KIND OFFSET SIZE [resizable] [no_write]`.
 pub fn vmo_create_child<'a>(arguments: &[&[u8]]) -> Option<Call<'a>>
     ensures { option_map command_of result ≡ vmo_create_child (map (λ a. a.now) arguments.now) }
 {
@@ -77,7 +77,7 @@ pub fn vmo_create_child<'a>(arguments: &[&[u8]]) -> Option<Call<'a>>
     })
 }
 
-/// `vmo_close VMO`
+/// Reads the arguments of `vmo_close VMO`.
 #[tactic(auto, using(crate::proofs::ShapeLaws::of_vmo_by_one))]
 pub fn vmo_close<'a>(arguments: &[&[u8]]) -> Option<Call<'a>>
     ensures { option_map command_of result ≡ of_vmo VmoClose (map (λ a. a.now) arguments.now) }
@@ -86,7 +86,7 @@ pub fn vmo_close<'a>(arguments: &[&[u8]]) -> Option<Call<'a>>
     Some(Call::VmoClose { name })
 }
 
-/// `vmo_size VMO`
+/// Reads the arguments of `vmo_size VMO`.
 #[tactic(auto, using(crate::proofs::ShapeLaws::of_vmo_by_one))]
 pub fn vmo_size<'a>(arguments: &[&[u8]]) -> Option<Call<'a>>
     ensures { option_map command_of result ≡ of_vmo VmoSize (map (λ a. a.now) arguments.now) }
@@ -95,7 +95,7 @@ pub fn vmo_size<'a>(arguments: &[&[u8]]) -> Option<Call<'a>>
     Some(Call::VmoSize { name })
 }
 
-/// `vmo_set_size VMO SIZE`
+/// Reads the arguments of `vmo_set_size VMO SIZE`.
 pub fn vmo_set_size<'a>(arguments: &[&[u8]]) -> Option<Call<'a>>
     ensures { option_map command_of result ≡ vmo_set_size (map (λ a. a.now) arguments.now) }
 {
@@ -106,7 +106,7 @@ pub fn vmo_set_size<'a>(arguments: &[&[u8]]) -> Option<Call<'a>>
     Some(Call::VmoSetSize { name, size })
 }
 
-/// `vmo_read VMO OFFSET LEN`
+/// Reads the arguments of `vmo_read VMO OFFSET LEN`.
 #[inline(always)]
 #[tactic(auto, using(crate::proofs::ShapeLaws::of_vmo_range_by_range))]
 pub fn vmo_read<'a>(arguments: &[&[u8]]) -> Option<Call<'a>>
@@ -116,7 +116,7 @@ pub fn vmo_read<'a>(arguments: &[&[u8]]) -> Option<Call<'a>>
     Some(Call::VmoRead { name, offset, len })
 }
 
-/// `vmo_write VMO OFFSET DATA`
+/// Reads the arguments of `vmo_write VMO OFFSET DATA`.
 pub fn vmo_write<'a>(arguments: &[&[u8]], room: &'a mut [u8]) -> Option<Call<'a>>
     requires { DATA_BYTES ≤ length room.old }
     ensures { option_map command_of result ≡ vmo_write (map (λ a. a.now) arguments.now) }
@@ -133,7 +133,7 @@ pub fn vmo_write<'a>(arguments: &[&[u8]], room: &'a mut [u8]) -> Option<Call<'a>
     })
 }
 
-/// `vmo_fill VMO OFFSET LEN BYTE`
+/// Reads the arguments of `vmo_fill VMO OFFSET LEN BYTE`.
 pub fn vmo_fill<'a>(arguments: &[&[u8]]) -> Option<Call<'a>>
     ensures { option_map command_of result ≡ vmo_fill (map (λ a. a.now) arguments.now) }
 {
@@ -150,7 +150,7 @@ pub fn vmo_fill<'a>(arguments: &[&[u8]]) -> Option<Call<'a>>
     })
 }
 
-/// `vmo_commit VMO OFFSET LEN`
+/// Reads the arguments of `vmo_commit VMO OFFSET LEN`.
 #[tactic(auto, using(crate::proofs::ShapeLaws::of_vmo_range_by_range))]
 pub fn vmo_commit<'a>(arguments: &[&[u8]]) -> Option<Call<'a>>
     ensures { option_map command_of result ≡ of_vmo_range VmoCommit (map (λ a. a.now) arguments.now) }
@@ -159,7 +159,7 @@ pub fn vmo_commit<'a>(arguments: &[&[u8]]) -> Option<Call<'a>>
     Some(Call::VmoCommit { name, offset, len })
 }
 
-/// `vmo_decommit VMO OFFSET LEN`
+/// Reads the arguments of `vmo_decommit VMO OFFSET LEN`.
 #[tactic(auto, using(crate::proofs::ShapeLaws::of_vmo_range_by_range))]
 pub fn vmo_decommit<'a>(arguments: &[&[u8]]) -> Option<Call<'a>>
     ensures { option_map command_of result ≡ of_vmo_range VmoDecommit (map (λ a. a.now) arguments.now) }
@@ -168,7 +168,7 @@ pub fn vmo_decommit<'a>(arguments: &[&[u8]]) -> Option<Call<'a>>
     Some(Call::VmoDecommit { name, offset, len })
 }
 
-/// `vmo_zero VMO OFFSET LEN`
+/// Reads the arguments of `vmo_zero VMO OFFSET LEN`.
 #[tactic(auto, using(crate::proofs::ShapeLaws::of_vmo_range_by_range))]
 pub fn vmo_zero<'a>(arguments: &[&[u8]]) -> Option<Call<'a>>
     ensures { option_map command_of result ≡ of_vmo_range VmoZero (map (λ a. a.now) arguments.now) }
@@ -177,7 +177,7 @@ pub fn vmo_zero<'a>(arguments: &[&[u8]]) -> Option<Call<'a>>
     Some(Call::VmoZero { name, offset, len })
 }
 
-/// `vmo_pin PIN VMO OFFSET LEN`
+/// Reads the arguments of `vmo_pin PIN VMO OFFSET LEN`.
 pub fn vmo_pin<'a>(arguments: &[&[u8]]) -> Option<Call<'a>>
     ensures { option_map command_of result ≡ vmo_pin (map (λ a. a.now) arguments.now) }
 {
@@ -194,7 +194,7 @@ pub fn vmo_pin<'a>(arguments: &[&[u8]]) -> Option<Call<'a>>
     })
 }
 
-/// `vmo_unpin PIN`
+/// Reads the arguments of `vmo_unpin PIN`.
 pub fn vmo_unpin<'a>(arguments: &[&[u8]]) -> Option<Call<'a>>
     ensures { option_map command_of result ≡ vmo_unpin (map (λ a. a.now) arguments.now) }
 {
@@ -204,7 +204,7 @@ pub fn vmo_unpin<'a>(arguments: &[&[u8]]) -> Option<Call<'a>>
     Some(Call::VmoUnpin { pin: pin(token)? })
 }
 
-/// `vmo_info VMO`
+/// Reads the arguments of `vmo_info VMO`.
 #[tactic(auto, using(crate::proofs::ShapeLaws::of_vmo_by_one))]
 pub fn vmo_info<'a>(arguments: &[&[u8]]) -> Option<Call<'a>>
     ensures { option_map command_of result ≡ of_vmo VmoInfo (map (λ a. a.now) arguments.now) }

@@ -9,7 +9,7 @@ ghost use Rattle.script_text.specs.inside.Places.{IsWordFrom};
 
 use memchr::memchr3;
 
-/// A space, a tab or a carriage return.
+/// Reports whether a byte is a space, a tab or a carriage return.
 #[inline(always)]
 pub fn is_blank(byte: u8) -> bool
     ensures { result ≡ is_blank byte }
@@ -17,8 +17,8 @@ pub fn is_blank(byte: u8) -> bool
     matches!(byte, b' ' | b'\t' | b'\r')
 }
 
-/// Whether a line begins with these bytes. They are compared one by one: if they are known to the compiler, as the words of
-/// commands are, this costs less than to compare many at a time.
+/// Reports whether a line begins with these bytes. They are compared one by one: if they are known to the compiler, as the
+/// words of commands are, this costs less than to compare many at a time.
 #[inline(always)]
 pub fn begins_with(line: &[u8], front: &[u8]) -> bool
     ensures { result ≡ pointwise nat_eq (take (length front.now) line.now) front.now }
@@ -34,7 +34,7 @@ pub fn begins_with(line: &[u8], front: &[u8]) -> bool
     true
 }
 
-/// Whether two words are the same.
+/// Reports whether two words are the same.
 #[inline(always)]
 pub fn is_word(word: &[u8], known: &[u8]) -> bool
     ensures { result ≡ is_word word.now known.now }
@@ -42,14 +42,14 @@ pub fn is_word(word: &[u8], known: &[u8]) -> bool
     word.len() == known.len() && begins_with(word, known)
 }
 
-/// Where the first word of a line begins.
+/// Returns where the first word of a line begins.
 fn word_start(line: &[u8]) -> Option<usize>
     ensures { result ≡ position (λ byte. not (is_blank byte)) line.now }
 {
     line.iter().position(|byte| !is_blank(*byte))
 }
 
-/// How many bytes stand before the first blank of a line.
+/// Returns how many bytes stand before the first blank of a line.
 #[inline(always)]
 #[tactic(auto, using(crate::proofs::Cutting::len_by_search))]
 fn word_len(line: &[u8]) -> usize
@@ -76,7 +76,7 @@ fn short_word_len(line: &[u8]) -> usize
     line.len()
 }
 
-/// A line from its first word on. It has no byte if the line has no word.
+/// Returns a line from its first word on. It has no byte if the line has no word.
 #[inline(always)]
 pub fn behind_blanks(line: &[u8]) -> &[u8]
     ensures words { words result.now ≡ words line.now }
@@ -93,7 +93,7 @@ pub fn behind_blanks(line: &[u8]) -> &[u8]
     rest
 }
 
-/// The first word of a line, and what stands behind it. `None` if the line has no word.
+/// Returns the first word of a line, and what stands behind it. `None` if the line has no word.
 #[inline(always)]
 pub fn next_word(line: &[u8]) -> Option<(&[u8], &[u8])>
     ensures words { MatchOption result (words line.now ≡ []) (λ r. words line.now ≡ r.0.now ∷ words r.1.now) }
@@ -119,8 +119,8 @@ pub fn next_short_word(line: &[u8]) -> Option<(&[u8], &[u8])>
     Some(line.split_at(short_word_len(line)))
 }
 
-/// The first word at or behind a place of a line: where it begins, and the place behind its last byte. `None` if only
-/// blanks are left.
+/// Returns the first word at or behind a place of a line: where it begins, and the place behind its last byte. `None`
+/// if only blanks are left.
 fn word_from(line: &[u8], place: usize) -> Option<(usize, usize)>
     requires { place ≤ length line.now }
     ensures { MatchOption result (words (drop place line.now) ≡ []) (λ p. IsWordFrom line.now place p.0 p.1) }
@@ -132,8 +132,8 @@ fn word_from(line: &[u8], place: usize) -> Option<(usize, usize)>
     Some((start, start + word_len(rest)))
 }
 
-/// Where a word of a line stands: the place of its first byte and the place behind its last, both counted from the
-/// line's first byte. Words are counted from 0. `None` if the line has no such word.
+/// Returns where a word of a line stands: the place of its first byte and the place behind its last, both counted from
+/// the line's first byte. Words are counted from 0. `None` if the line has no such word.
 pub fn word_at(line: &[u8], index: u64) -> Option<(usize, usize)>
     ensures none { IsNone result ↔ (length (words line.now) ≤ index) }
     ensures word { IfSome result (λ p. slice_get (words line.now) index ≡ Some (slice_range line.now p.0 p.1)) }

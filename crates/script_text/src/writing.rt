@@ -26,7 +26,7 @@ pub fn write_command(command: &Command, out: &mut [u8]) -> usize
     put(b"\n", out, end)
 }
 
-/// The word of a command.
+/// Returns the word of a command.
 #[tactic(auto, unfolding(vm_model::specs::Language::Spelling::command_words))]
 fn command_word(command: &Command) -> &'static [u8]
     ensures word { slice_get (command_words command.now) 0 ≡ Some result.now }

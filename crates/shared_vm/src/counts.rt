@@ -13,7 +13,7 @@ pub(crate) struct Counts {
 }
 
 impl Counts {
-    /// No task was done yet.
+    /// Makes the counts of no tasks done.
     pub(crate) fn none() -> Counts
         ensures { result ≡ record { a0 = 0; a1 = 0; a2 = 0; a3 = 0 } }
     {
@@ -25,7 +25,7 @@ impl Counts {
         }
     }
 
-    /// How many tasks an actor did.
+    /// Returns how many tasks an actor did.
     pub(crate) fn of(self, actor: u32) -> u64
         ensures { result ≡ count_of self actor }
     {
@@ -37,7 +37,7 @@ impl Counts {
         }
     }
 
-    /// The counts when an actor did one task more.
+    /// Returns the counts when an actor did one task more.
     pub(crate) fn raised(self, actor: u32) -> Counts
         requires { count_of self actor + 1 < 2 ^ 64 }
         ensures { result ≡ raised self actor }

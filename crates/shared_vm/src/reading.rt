@@ -12,7 +12,8 @@ use script_io::{Fetch, Lines, Source, Status};
 use std::alloc::Global;
 use vm_base::{HostMemory, INPUT_BYTES};
 
-/// The status that reading ends with behind a line: one if the host had too little memory for its task, else none.
+/// Returns the status that reading ends with behind a line: one if the host had too little memory for its task, else
+/// none.
 fn lack(added: Result<(), HostMemory>) -> Option<Status>
     ensures { result ≡ lack added }
 {
@@ -45,7 +46,7 @@ fn add_next<S: Source>(scripts: &mut Scripts, lines: &mut Lines, source: &mut S)
     }
 }
 
-/// The tasks if all lines were read, else the status that reading ended with.
+/// Returns the tasks if all lines were read, else the status that reading ended with.
 fn told(status: Status, scripts: Scripts) -> Result<Scripts, Status>
     ensures { result ≡ told status scripts }
 {

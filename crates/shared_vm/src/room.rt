@@ -124,7 +124,7 @@ impl<P: PageStore> Room<P> {
     }
 }
 
-/// An empty journal with room for so many deeds.
+/// Makes an empty journal with room for so many deeds.
 fn journal_for(alloc: Global, count: u64) -> Result<Vec<Deed>, HostMemory>
     ensures items { IfOk result (λ v. v.items ≡ []) }
     ensures len { IfOk result (λ v. vec_len v ≡ 0) }
@@ -133,7 +133,7 @@ fn journal_for(alloc: Global, count: u64) -> Result<Vec<Deed>, HostMemory>
     Vec::with_capacity(alloc, count as usize).map_err(|_| HostMemory)
 }
 
-/// The machine's reply to a task, which it does.
+/// Does a task, and returns the machine's reply.
 fn reply_to<P: PageStore>(vm: &mut Vm, store: &mut P, task: &Task) -> Reply
     requires agrees { Agrees (P.content store.old) vm.old }
     requires next { (P.content store.old).next < KOIDS }

@@ -20,7 +20,7 @@ use std::sync::Wait;
 use std::thread::Threads;
 use vm_base::Failed;
 
-/// The status of a run that has done its tasks, by whether its text was written.
+/// Returns the status of a run that has done its tasks, by whether its text was written.
 fn status_of(pushed: Result<(), Failed>) -> Status
     ensures { result ≡ status_of pushed }
 {

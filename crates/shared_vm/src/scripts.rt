@@ -106,7 +106,7 @@ impl Scripts {
         }
     }
 
-    /// The tasks of an actor.
+    /// Returns the tasks of an actor.
     pub(crate) fn tasks(&self, actor: u32) -> &[Task]
         ensures { result.now ≡ tasks_of self.now actor }
     {
@@ -118,7 +118,7 @@ impl Scripts {
         }
     }
 
-    /// How many tasks the actors have together.
+    /// Returns how many tasks the actors have together.
     pub(crate) fn count(&self) -> u64
         requires { task_count self.now < 2 ^ 32 }
         ensures { result ≡ task_count self.now }
@@ -138,7 +138,7 @@ fn push_to(tasks: &mut Vec<Task>, task: Task) -> Result<(), HostMemory>
     }
 }
 
-/// The actor that a word names.
+/// Returns the actor that a word names.
 fn actor_of(word: &[u8]) -> Option<u32>
     ensures { result ≡ actor_of word.now }
 {
@@ -155,7 +155,7 @@ fn actor_of(word: &[u8]) -> Option<u32>
     }
 }
 
-/// Whether a word begins with `#`.
+/// Reports whether a word begins with `#`.
 fn is_comment(word: &[u8]) -> bool
     ensures { result ≡ is_comment word.now }
 {

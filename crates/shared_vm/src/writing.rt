@@ -15,7 +15,7 @@ use word_text::put;
 /// How many bytes stand before each line: an actor's name and a space.
 const NAME_BYTES: usize = 3;
 
-/// An actor's name and a space.
+/// Returns an actor's name and a space.
 fn actor_text(actor: u32) -> &'static [u8]
     ensures text { result.now ≡ actor_text actor }
     ensures len { length result.now ≡ NAME_BYTES }

@@ -1,4 +1,4 @@
-//! Comparing reply lines with what the own machine may answer.
+//! Comparing reply lines with what the checker's machine may answer.
 
 ghost use Rattle.std.specs.Prelude.{◌≡◌, ◌≢◌, ◌<◌, ◌≤◌, ◌++◌, ◌∷◌, [], ℕ, List, Option, true, false, codes, length, if◌then◌else◌, IsTrue, MatchResult};
 ghost use Rattle.std.specs.List.{AllByRecursion};
@@ -25,7 +25,7 @@ use script_text::read_call;
 use vm_base::{HostMemory, PIN_PAGES, PinName, Tag};
 use vm_model::{Answer, Call, Runs};
 
-/// The own machine, and the numbers that were seen of the frames of its pinned pages.
+/// The checker's machine, and the numbers that were seen of the frames of its pinned pages.
 #[derive(Drop)]
 pub(crate) struct Own {
     pub(crate) machine: EagerMachine,
@@ -43,7 +43,8 @@ pub(crate) enum Heard {
     Never,
 }
 
-/// The frames of the pages of a pin that a call takes away, in ascending order of the pages. None for other calls.
+/// Returns the frames of the pages of a pin that a call takes away, in ascending order of the pages. None for other
+/// calls.
 fn freed_by(machine: &EagerMachine, call: &Call<'_>) -> ArrayVec<u32, PIN_PAGES>
     ensures { IsGoodMachine (machine_of machine.now) → Frees (machine_of machine.now) (command_of call.now) result.items }
 {
@@ -53,7 +54,7 @@ fn freed_by(machine: &EagerMachine, call: &Call<'_>) -> ArrayVec<u32, PIN_PAGES>
     }
 }
 
-/// The frames of the pages of a pin, in ascending order of the pages.
+/// Returns the frames of the pages of a pin, in ascending order of the pages.
 fn frames_of(machine: &EagerMachine, pin: PinName) -> ArrayVec<u32, PIN_PAGES>
     ensures { IsGoodMachine (machine_of machine.now) → HasFrames (machine_of machine.now) pin.0 result.items }
 {
@@ -89,7 +90,7 @@ fn forget_one(machine: &EagerMachine, numbers: &mut Numbers, frame: u32)
     }
 }
 
-/// What a line is to an answer that tells no frames.
+/// Compares a line with an answer that tells no frames.
 fn hear_answer(answer: Answer<'_>, line: &[u8], room: &mut [u8]) -> Heard
     requires { TEXT_ROOM ≤ length room.old }
     ensures { Hears (reply_for answer.entry) (line.now ++ codes "\n") result }
@@ -106,7 +107,7 @@ fn hear_answer(answer: Answer<'_>, line: &[u8], room: &mut [u8]) -> Heard
     }
 }
 
-/// Whether a line tells numbers that these frames of a pin may have. If so, they are seen.
+/// Reports whether a line has numbers that these frames of a pin may have. If so, they are seen.
 fn hear_frames(numbers: &mut Numbers, frames: &[u64], line: &[u8]) -> bool
     requires { AllByRecursion (λ frame. frame < length numbers.old) frames.now }
     ensures heard { AreHeard (length numbers.old) (number_of numbers.old) (number_of numbers.new) frames.now (line.now ++ codes "\n") result }
@@ -118,7 +119,7 @@ fn hear_frames(numbers: &mut Numbers, frames: &[u64], line: &[u8]) -> bool
     }
 }
 
-/// The same of the numbers that a line tells.
+/// Does the same with the numbers that a line has.
 fn see_told(numbers: &mut Numbers, frames: &[u64], told: &[u64]) -> bool
     requires { AllByRecursion (λ frame. frame < length numbers.old) frames.now }
     ensures heard { (line : List ℕ) → reply_lines (Reply.Pins told.now) ≡ line ∷ []
@@ -128,7 +129,8 @@ fn see_told(numbers: &mut Numbers, frames: &[u64], told: &[u64]) -> bool
     numbers.see_all(frames, told)
 }
 
-/// What a reply line is to a call, if it isn't `HOST_MEMORY`. `HostMemory`, with nothing changed, if the host has too little memory.
+/// Compares a reply line with a call, if it isn't `HOST_MEMORY`. `HostMemory`, with nothing changed, if the host has too
+/// little memory.
 fn hear_call(
     own: &mut Own,
     call: &Call<'_>,
@@ -158,14 +160,14 @@ fn hear_call(
     }
 }
 
-/// The end of a reply, or a line that never comes.
+/// Returns the end of a reply, or a line that never comes.
 fn ends_if(is: bool) -> Heard
     ensures { result ≡ (if is then Heard.Ends else Heard.Never) }
 {
     if is { Heard::Ends } else { Heard::Never }
 }
 
-/// What a reply line is to a call.
+/// Compares a reply line with a call.
 fn hear_order(
     own: &mut Own,
     call: &Call<'_>,
@@ -183,8 +185,8 @@ fn hear_order(
     hear_call(own, call, line, rooms)
 }
 
-/// What a reply line is to a line of the script that is not blank. `HostMemory`, with nothing changed, if the host has too little
-/// memory.
+/// Compares a reply line with a line of the script that is not blank. `HostMemory`, with nothing changed, if the host has too
+/// little memory.
 pub(crate) fn hear(
     own: &mut Own,
     pending: &[u8],

@@ -29,12 +29,12 @@ pub(crate) enum Phase {
     Idle,
     /// The reply to a line of the script.
     Due,
-    /// The next line of a reply of which a part was told.
+    /// The next line of a reply of which a part was given.
     Listing,
 }
 
 /// A checker of transcripts. It keeps a machine of its own, whose frames have numbers of its own, and the numbers that were
-/// told of the frames of pinned pages.
+/// given of the frames of pinned pages.
 ///
 /// Its memory grows with what this machine holds at one time: names, mappings, pages that are ready for an access, and a row for
 /// each held page of each VMO. It grows with each region that is made, since one that is destroyed keeps its name. Nothing else
@@ -48,7 +48,7 @@ pub struct Checker {
     phase: Phase,
     /// The line of the script that waits for its reply.
     pending: ArrayVec<u8, LINE_BYTES>,
-    /// The answer of which `count` lines were told.
+    /// The answer of which `count` lines were given.
     listed: Answer<'static>,
     count: u64,
     written: [u8; DATA_BYTES],
@@ -56,8 +56,8 @@ pub struct Checker {
 }
 
 impl Checker {
-    /// A checker of transcripts on a machine with `frames` page frames, from 1 to 65,536, that has read no line. It takes its
-    /// memory at the first line.
+    /// Makes a checker of transcripts on a machine with `frames` page frames, from 1 to 65,536, that has read no line. It
+    /// takes its memory at the first line.
     pub fn new(alloc: Global, frames: u32) -> Checker
         requires { 1 ≤ frames × frames ≤ FRAMES }
         ensures { HasRead frames result [] }
@@ -100,7 +100,7 @@ impl Checker {
         }
     }
 
-    /// Whether the lines that were read are a whole transcript: each line of the script has its reply.
+    /// Reports whether the lines that were read are a whole transcript: each line of the script has its reply.
     pub fn complete(&self) -> bool
         ensures { (frames : ℕ) (lines : List (List ℕ)) → HasRead frames self.now lines → (IsTrue result ↔ AreWhole frames lines) }
     {
@@ -171,7 +171,7 @@ impl Checker {
         }
     }
 
-    /// Reads a line of a reply of which none was told.
+    /// Reads a line of a reply of which none was given.
     fn hear_due(&mut self, reply: &[u8]) -> Result<Verdict, HostMemory>
         requires filled { self.old.filled ≡ true }
         requires due { self.old.phase ≡ Phase.Due }
@@ -210,7 +210,7 @@ impl Checker {
         }
     }
 
-    /// Reads the next line of a reply of which a part was told.
+    /// Reads the next line of a reply of which a part was given.
     fn hear_listed(&mut self, reply: &[u8]) -> Verdict
         requires filled { self.old.filled ≡ true }
         requires listing { self.old.phase ≡ Phase.Listing }

@@ -14,7 +14,7 @@ use served::frames_asked;
 use std::alloc::Global;
 use vm_base::{Failed, HostMemory, SCRIPT_BYTES};
 
-/// The status that reading ends with behind a line: one if the host had too little memory for it, else none.
+/// Returns the status that reading ends with behind a line: one if the host had too little memory for it, else none.
 fn lack(read: Result<(), HostMemory>) -> Option<Status>
     ensures { result ≡ lack read }
 {
@@ -24,7 +24,7 @@ fn lack(read: Result<(), HostMemory>) -> Option<Status>
     }
 }
 
-/// The status of a check whose report was written, or not.
+/// Returns the status of a check whose report was written, or not.
 fn status_of(pushed: Result<(), Failed>) -> Status
     ensures { result ≡ status_of pushed }
 {

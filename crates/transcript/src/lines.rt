@@ -1,4 +1,4 @@
-//! What the lines of a transcript tell, and what the reply lines among them do.
+//! What the lines of a transcript say, and what the reply lines among them do.
 
 ghost use Rattle.std.specs.Prelude.{◌≡◌, ◌≢◌, ◌≤◌, ◌<◌, ◌^◌, ◌++◌, ◌∷◌, [], ℕ, List, Option, Some, None, codes, length, take, IfSome, MatchOption, IsTrue, ◌↔◌, slice_get};
 ghost use Rattle.vm_base.specs.declared.limits.TheConstants.{LINE_BYTES, TEXT_ROOM, DATA_BYTES};
@@ -13,7 +13,7 @@ use reply_text::{read_address, write_answer_line};
 use script_text::read_call;
 use vm_model::Answer;
 
-/// The line of a script that a line of a transcript tells, behind `> `.
+/// Returns the line of a script that a line of a transcript has, behind `> `.
 #[tactic(auto, unfolding(moving_machine::specs::Transcript::told))]
 pub(crate) fn script_in(line: &[u8]) -> Option<&[u8]>
     requires { length line.now ≤ LINE_BYTES }
@@ -24,7 +24,7 @@ pub(crate) fn script_in(line: &[u8]) -> Option<&[u8]>
     line.strip_prefix(b"> ")
 }
 
-/// The reply line that a line of a transcript tells, behind `< `.
+/// Returns the reply line that a line of a transcript has, behind `< `.
 #[tactic(auto, unfolding(moving_machine::specs::Transcript::told))]
 pub(crate) fn reply_in(line: &[u8]) -> Option<&[u8]>
     requires { length line.now ≤ LINE_BYTES }
@@ -34,7 +34,7 @@ pub(crate) fn reply_in(line: &[u8]) -> Option<&[u8]>
     line.strip_prefix(b"< ")
 }
 
-/// Whether a line of a script says nothing.
+/// Reports whether a line of a script says nothing.
 pub(crate) fn is_blank(line: &[u8], room: &mut [u8]) -> bool
     requires { DATA_BYTES ≤ length room.old }
     ensures { IsTrue result ↔ (reading line.now ≡ Blank) }
@@ -42,7 +42,7 @@ pub(crate) fn is_blank(line: &[u8], room: &mut [u8]) -> bool
     matches!(read_call(line, room), Ok(None))
 }
 
-/// Whether line `index` of an answer, counted from 0, is this one.
+/// Reports whether line `index` of an answer, counted from 0, is this one.
 pub(crate) fn is_line(answer: &Answer<'_>, index: u64, line: &[u8], room: &mut [u8]) -> bool
     requires index { index < length (reply_lines (reply_for answer.now)) }
     requires room { TEXT_ROOM ≤ length room.old }
@@ -52,7 +52,7 @@ pub(crate) fn is_line(answer: &Answer<'_>, index: u64, line: &[u8], room: &mut [
     ends_line(&room[..len], line)
 }
 
-/// Whether a text is this line and a line feed.
+/// Reports whether a text is this line and a line feed.
 fn ends_line(text: &[u8], line: &[u8]) -> bool
     ensures { IsTrue result ↔ (text.now ≡ line.now ++ codes "\n") }
 {
@@ -62,7 +62,7 @@ fn ends_line(text: &[u8], line: &[u8]) -> bool
     }
 }
 
-/// The address that a reply line tells, 0 if it tells none.
+/// Returns the address that a reply line has, or 0 if it has none.
 pub(crate) fn address_in(line: &[u8]) -> u64
     ensures { (address : ℕ) → address < 2 ^ 64 → first_line (Reply.Address address) ≡ line.now ++ codes "\n" → result ≡ address }
 {

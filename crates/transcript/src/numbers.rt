@@ -10,8 +10,8 @@ use std::alloc::Global;
 use std::marker::Model;
 use vm_base::HostMemory;
 
-/// For each frame of the own machine the number that was seen of it, if one was. Each number is of one frame at most.
-/// Clauses see the list of these, by frame.
+/// For each frame of the checker's machine the number that was seen of it, if one was. Each number is of one frame at
+/// most. Clauses see the list of these, by frame.
 #[derive(Drop)]
 pub(crate) struct Numbers {
     /// The number of each frame.
@@ -32,7 +32,7 @@ impl Model for Numbers {
 }
 
 impl Numbers {
-    /// The numbers of a machine with no frames.
+    /// Returns the numbers of a machine with no frames.
     pub(crate) fn none(alloc: Global) -> Numbers
         ensures { result ≡ [] }
     {
@@ -42,7 +42,8 @@ impl Numbers {
         }
     }
 
-    /// The numbers of a machine with so many frames, of which none was seen. `HostMemory` if the host has too little memory.
+    /// Returns the numbers of a machine with so many frames, of which none was seen. `HostMemory` if the host has too little
+    /// memory.
     pub(crate) fn new(alloc: Global, frames: u32) -> Result<Numbers, HostMemory>
         ensures { IfOk result (λ numbers. numbers ≡ replicate frames None) }
     {
@@ -52,7 +53,7 @@ impl Numbers {
         })
     }
 
-    /// Whether a frame may have a number: the one that was seen of it, or else one that no frame has.
+    /// Reports whether a frame may have a number: the one that was seen of it, or else one that no frame has.
     fn may_have(&self, frame: u64, number: u64) -> bool
         ensures { result ≡ may_have (length self.now) (number_of self.now) (number_of self.now frame) number }
     {
@@ -107,14 +108,14 @@ impl Numbers {
     }
 }
 
-/// No number of each frame, or no frame of each number.
+/// Makes a table with no number of each frame, or no frame of each number.
 fn empty(alloc: Global, frames: u32) -> Result<Vec<Option<u64>>, HostMemory>
     ensures { IfOk result (λ v. v.items ≡ replicate frames None) }
 {
     vec![in alloc; None; frames as usize].map_err(|_| HostMemory)
 }
 
-/// The value at a place, if there is one.
+/// Returns the value at a place, if there is one.
 fn value_at(values: &Vec<Option<u64>>, at: u64) -> Option<u64>
     ensures { result ≡ number_of values.now.items at }
 {

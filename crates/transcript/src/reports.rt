@@ -37,7 +37,7 @@ pub(crate) struct Check {
 }
 
 impl Check {
-    /// A check of no lines yet.
+    /// Makes a check of no lines yet.
     pub(crate) fn new(alloc: Global, frames: u32) -> Check
         requires { 1 ≤ frames × frames ≤ FRAMES }
         ensures checked { IsChecked frames result [] }
@@ -110,7 +110,7 @@ impl Check {
         }
     }
 
-    /// The report of the lines that were read.
+    /// Returns the report of the lines that were read.
     pub(crate) fn report(&self) -> Report
         requires { self.now.lines < 2 ^ 63 }
         ensures { (frames : ℕ) (lines : List (List ℕ)) → IsChecked frames self.now lines → IsReport frames lines result }
@@ -126,7 +126,7 @@ impl Check {
     }
 }
 
-/// How many lines of the script a line is: 1 or 0.
+/// Returns how many lines of the script a line is: 1 or 0.
 fn asks(line: &[u8]) -> u64
     requires { length line.now ≤ LINE_BYTES }
     ensures count { result ≡ is_asked (told line.now) }

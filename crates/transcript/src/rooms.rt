@@ -14,7 +14,7 @@ pub(crate) struct Rooms {
 }
 
 impl Rooms {
-    /// Rooms with zeros in them.
+    /// Makes rooms with zeros in them.
     pub(crate) fn new() -> Rooms {
         Rooms {
             read: [0; DATA_BYTES],

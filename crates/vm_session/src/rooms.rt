@@ -17,7 +17,7 @@ pub(crate) struct Rooms {
 }
 
 impl Rooms {
-    /// Rooms with zeros in them.
+    /// Makes rooms with zeros in them.
     pub(crate) fn new() -> Rooms {
         Rooms {
             written: [0; DATA_BYTES],

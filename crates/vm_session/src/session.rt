@@ -17,7 +17,7 @@ use vm_base::SCRIPT_BYTES;
 ///
 /// `run` runs the script that a source gives, and writes the replies to a sink. Each line is answered, and its replies
 /// are written, before the next line is looked at. `work NUMBER COUNT` reads nothing. It does `COUNT` commands, at most
-/// `WORK_COUNT`, that are generated from a number below 2^64, and writes one line that tells what became of them. The
+/// `WORK_COUNT`, that are generated from a number below 2^64, and writes one line that says what became of them. The
 /// machine has 1,024 page frames, or as many as `--frames N` at the end says, with one to five digits, from 1 to
 /// 65,536.
 ///

@@ -35,7 +35,7 @@ impl Tally {
     }
 }
 
-/// Writes the line that tells of the counts and of what is in use, to the front of `out`. The answer is where it ends.
+/// Writes the line of the counts and of what is in use to the front of `out`, and returns where it ends.
 pub(crate) fn write_tally<P: PageStore>(tally: Tally, store: &P, out: &mut [u8]) -> usize
     requires { TEXT_ROOM ≤ length out.old }
     ensures line { take result out.new
@@ -48,7 +48,7 @@ pub(crate) fn write_tally<P: PageStore>(tally: Tally, store: &P, out: &mut [u8])
     put(b"\n", out, at)
 }
 
-/// Writes what the line tells behind the first `at` bytes of `out`, which stay, and answers where it ends.
+/// Writes what the line says behind the first `at` bytes of `out`, which stay, and returns where it ends.
 fn put_tally(tally: Tally, used: u64, vmos: u64, out: &mut [u8], at: usize) -> usize
     requires { at + 200 ≤ length out.old }
     ensures written { take result out.new ≡ take at out.old ++ tally_text tally used vmos }

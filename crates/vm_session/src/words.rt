@@ -24,9 +24,9 @@ pub(crate) enum Task {
     },
 }
 
-/// What the words ask for: `run`, or `work NUMBER COUNT`. The number has one to twenty digits and is below 2^64. The
-/// count has one to seven digits and is at most `WORK_COUNT`. Behind either may stand `--frames N`, with one to five
-/// digits, from 1 to `FRAMES`. `None` for any other words.
+/// Returns what the words ask for: `run`, or `work NUMBER COUNT`. The number has one to twenty digits and is below
+/// 2^64. The count has one to seven digits and is at most `WORK_COUNT`. Behind either may stand `--frames N`, with one
+/// to five digits, from 1 to `FRAMES`. `None` for any other words.
 pub(crate) fn task_asked(words: &[String]) -> Option<Task>
     ensures task { result ≡ task_asked words.now }
     ensures bounds { IfSome result HasBounds }
@@ -43,7 +43,7 @@ pub(crate) fn task_asked(words: &[String]) -> Option<Task>
     None
 }
 
-/// What the words behind `run` ask for.
+/// Returns what the words behind `run` ask for.
 fn run_asked(words: &[String]) -> Option<Task>
     ensures task { result ≡ option_map (λ frames. Task.Run frames) (frames_in (map string_bytes words.now)) }
     ensures bounds { IfSome result HasBounds }
@@ -52,7 +52,7 @@ fn run_asked(words: &[String]) -> Option<Task>
     Some(Task::Run { frames })
 }
 
-/// What the words behind `work` ask for.
+/// Returns what the words behind `work` ask for.
 fn work_asked(words: &[String]) -> Option<Task>
     ensures task { result ≡ work_in (map string_bytes words.now) }
     ensures bounds { IfSome result HasBounds }

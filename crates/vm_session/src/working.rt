@@ -19,7 +19,7 @@ use vm_base::FRAMES;
 use vm_core::Vm;
 
 /// Does `count` commands that are generated from a number, one after another, on a machine with `frames` page frames,
-/// from 1 to 65,536, and pushes the line that tells what became of them.
+/// from 1 to 65,536, and pushes the line that says what became of them.
 ///
 /// `HostMemory` if the host has too little memory for the frames. `WriteFault` if the sink fails.
 pub(crate) fn work<P: PageStore, K: Sink>(

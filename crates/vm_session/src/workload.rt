@@ -10,7 +10,7 @@ use vm_model::{Call, ChildKind};
 /// The size of each VMO of a workload, in bytes.
 const BYTES: u64 = 64 * PAGE;
 
-/// The number that comes after `x`: one step of a linear congruential generator of 64 bits.
+/// Returns the number that comes after `x`: one step of a linear congruential generator of 64 bits.
 #[tactic(auto, unfolding(vm_model::specs::Scripts::Workload::number_after))]
 pub(crate) fn number_after(x: u64) -> u64
     ensures { result ≡ number_after x }
@@ -19,7 +19,7 @@ pub(crate) fn number_after(x: u64) -> u64
         .wrapping_add(1442695040888963407)
 }
 
-/// The command that a number gives.
+/// Returns the command that a number gives.
 #[tactic(auto, unfolding(vm_model::specs::Scripts::Workload::command_for))]
 pub(crate) fn call_for(x: u64) -> Call<'static>
     ensures { command_of result ≡ command_for x }

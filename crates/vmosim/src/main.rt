@@ -22,8 +22,8 @@ use vm_session::{Status, code};
 #[cfg(test)]
 mod tests;
 
-/// The words of the command line behind the program's name. `HostMemory` if there is no memory for them, `Usage` if one
-/// of them is no text.
+/// Returns the words of the command line behind the program's name. `HostMemory` if there is no memory for them,
+/// `Usage` if one of them is no text.
 fn words(rt: &(impl Env + AllocGlobal)) -> Result<Vec<String>, Status> {
     let args = match env::args(rt) {
         Ok(args) => args,

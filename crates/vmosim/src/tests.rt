@@ -12,7 +12,7 @@ use std::test::Fail;
 use std::thread::Threads;
 use vm_session::Status;
 
-/// The words of a command line, parted by single blanks.
+/// Returns the words of a command line, parted by single blanks.
 fn words_of(alloc: Global, line: &str) -> Result<Vec<String>, AllocError> {
     let mut words = Vec::new(alloc);
     for word in line.split(' ') {
@@ -21,7 +21,7 @@ fn words_of(alloc: Global, line: &str) -> Result<Vec<String>, AllocError> {
     Ok(words)
 }
 
-/// How the call ends over an empty tree, what it writes, and the tree then.
+/// Returns how the call ends over an empty tree, what it writes, and the tree then.
 fn ended<R: Threads + Wait + Sync>(
     rt: &R,
     alloc: Global,
@@ -79,7 +79,7 @@ OK 11
 OK frames=1024 used=2 free=1022 vmos=2
 ";
 
-/// The snapshot leaves one hidden node, which has the page that `v2` shows; `v1` has a page of its own.
+/// Shows that the snapshot leaves one hidden node, which has the page that `v2` shows; `v1` has a page of its own.
 #[test]
 fn a_script_is_run_over_the_clone_tree(rt: HostRuntime) -> Result<(), Fail> {
     let (status, sink, tree) = ended(&rt, rt.alloc(), "run", SHARING)?;
@@ -89,7 +89,7 @@ fn a_script_is_run_over_the_clone_tree(rt: HostRuntime) -> Result<(), Fail> {
     Ok(())
 }
 
-/// The tasks of one actor stand in its own order, and the tree is the one that they leave.
+/// Shows that the tasks of one actor stand in its own order, and the tree is the one that they leave.
 #[test]
 fn actors_run_over_the_clone_tree(rt: HostRuntime) -> Result<(), Fail> {
     let script = "a2 vmo_create v1 4096\na2 vmo_write v1 0 11\n# note\na2 vmo_read v1 0 2\na2\n";

@@ -36,7 +36,7 @@ use vm_session::{Status, run};
 /// actors, which take turns on it in any order, and the call may wait; it promises this if it returns. With `check` one line tells
 /// whether a script and its replies are a legal run, where the kernel may move pages that no pin covers, and the tree stays as it was.
 ///
-/// The tree is there at first and has nothing. It is there afterwards, but for an answer `HostMemory` to `actors`.
+/// The tree is there at first and has nothing. It is there afterwards, except after an answer `HostMemory` to `actors`.
 pub fn top<R: Threads + Wait + Sync, G: Gate, S: Source, K: Sink>(
     rt: &R,
     alloc: Global,

@@ -3,7 +3,7 @@
 ghost use Rattle.std.specs.Prelude.{◌≡◌};
 ghost use Rattle.vmosim.specs.Verbs.{has_verb};
 
-/// Whether the first word is this one.
+/// Reports whether the first word is this one.
 pub(crate) fn has_verb(verb: &[u8], words: &[String]) -> bool
     ensures { result ≡ has_verb verb.now words.now }
 {

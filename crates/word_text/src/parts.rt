@@ -40,7 +40,7 @@ pub fn put_decimal(number: u64, out: &mut [u8], at: usize) -> usize
     end
 }
 
-/// How many decimal digits a number has.
+/// Returns how many decimal digits a number has.
 fn digit_count(number: u64) -> usize
     ensures count { result ≡ length (decimal number) }
     ensures short { result ≤ 20 }
@@ -96,7 +96,7 @@ pub fn put_perm(perm: Perm, out: &mut [u8], at: usize) -> usize
     put_word(letters(perm), out, at)
 }
 
-/// The letters of a permission's named bits, or `none` if it has none.
+/// Returns the letters of a permission's named bits, or `none` if it has none.
 fn letters(perm: Perm) -> &'static [u8]
     ensures letters { result.now ≡ perm_text perm.0 }
     ensures short { length result.now ≤ 4 }
