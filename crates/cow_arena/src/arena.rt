@@ -45,7 +45,7 @@ impl Model for CowArena {
 }
 
 impl CowArena {
-    /// No nodes.
+    /// Makes an arena with no nodes.
     pub fn new(alloc: Global) -> CowArena
         ensures nodes { nodes_of result ≡ λ k. None }
         ensures lists { result.lists ≡ 0 }
@@ -149,7 +149,7 @@ impl CowArena {
         Ok(pair)
     }
 
-    /// The number of nodes for which there is room. The number of each node is below it.
+    /// Returns the number of nodes for which there is room. The number of each node is below it.
     pub fn capacity(&self) -> usize
         ensures capacity { result ≡ self.now.slots.capacity }
         ensures below { (k : ℕ) → IsSome (nodes_of self.now k) → k < result }
@@ -157,7 +157,7 @@ impl CowArena {
         self.nodes.capacity()
     }
 
-    /// A copy of a node. The function is inlined, so that a caller reads no more of the node than it asks for.
+    /// Returns a copy of a node. The function is inlined, so that a caller reads no more of the node than it asks for.
     #[inline(always)]
     pub fn node(&self, at: NodeId) -> Node
         requires { IsSome (nodes_of self.now at.0) }
@@ -166,7 +166,7 @@ impl CowArena {
         self.nodes[at.0]
     }
 
-    /// A node where it stands, not copied.
+    /// Returns a node where it stands, not copied.
     #[inline(always)]
     pub fn look(&self, at: NodeId) -> &Node
         requires { IsSome (nodes_of self.now at.0) }
@@ -175,7 +175,7 @@ impl CowArena {
         &self.nodes[at.0]
     }
 
-    /// Which child of its parent a node is. `None` if and only if it has no parent.
+    /// Returns which child of its parent a node is. `None` if and only if it has no parent.
     pub fn side(&self, at: NodeId) -> Option<Side>
         requires { IsSome (nodes_of self.now at.0) }
         ensures side { result ≡ side_in (nodes_of self.now) at.0 }
@@ -184,7 +184,7 @@ impl CowArena {
         Some(above(&self.nodes, at)?.side_of(at))
     }
 
-    /// The other child of the parent of a node. `None` if and only if it has no parent.
+    /// Returns the other child of the parent of a node. `None` if and only if it has no parent.
     pub fn sibling(&self, at: NodeId) -> Option<NodeId>
         requires { IsSome (nodes_of self.now at.0) }
         ensures sibling { result ≡ sibling_in (nodes_of self.now) at.0 }
@@ -314,7 +314,7 @@ impl CowArena {
         self.nodes[sibling.0].list = list;
     }
 
-    /// How many nodes are hidden: fewer than there are visible ones, or none.
+    /// Returns how many nodes are hidden: fewer than there are visible ones, or none.
     pub fn hidden(&self) -> u64
         ensures count { result ≡ hidden_count self.now }
         ensures fewer { HasFewerHidden self.now }
@@ -323,14 +323,14 @@ impl CowArena {
     }
 }
 
-/// Where a window of `seen` pages begins: at `first`, or at 0 if it has no page.
+/// Returns where a window of `seen` pages begins: at `first`, or at 0 if it has no page.
 pub fn window_first(first: PageNo, seen: PageNo) -> PageNo
     ensures { result ≡ window_first first seen }
 {
     if seen == 0 { 0 } else { first }
 }
 
-/// The parent of a node, if it has one.
+/// Returns the parent of a node, if it has one.
 fn above(nodes: &Slab<Node>, at: NodeId) -> Option<Node>
     requires node { ContainsKey nodes.now at.0 }
     requires parent { (node : Node) → get nodes.now at.0 ≡ Some node → IfSome node.parent (λ it. ContainsKey nodes.now it.0) }
@@ -340,7 +340,7 @@ fn above(nodes: &Slab<Node>, at: NodeId) -> Option<Node>
     Some(nodes[parent.0])
 }
 
-/// The other child of this node.
+/// Returns the other child of this node.
 fn sibling_of(parent: &Node, at: NodeId) -> Option<NodeId>
     ensures { result ≡ child_on parent.now (other_side (side_of parent.now at.0)) }
 {
@@ -350,8 +350,8 @@ fn sibling_of(parent: &Node, at: NodeId) -> Option<NodeId>
     }
 }
 
-/// A node as it is in the place of its parent, with the window that it had through both over the nodes above. `room` is
-/// how many pages the node above the parent has.
+/// Returns a node as it is in the place of its parent, with the window that it had through both over the nodes above.
+/// `room` is how many pages the node above the parent has.
 fn lifted(node: Node, parent: Node, room: PageNo) -> Node
     requires { parent.first + parent.seen ≤ room }
     ensures { result ≡ lifted parent node }
@@ -436,7 +436,7 @@ fn splice_nodes(
     nodes[sibling.0] = node;
 }
 
-/// How many pages the parent has, or 0 if there is none.
+/// Returns how many pages the parent has, or 0 if there is none.
 fn room_in(nodes: &Slab<Node>, parent: Option<NodeId>) -> PageNo
     requires { IfSome parent (λ it. ContainsKey nodes.now it.0) }
     ensures { IfSome parent (λ it. (node : Node) → get nodes.now it.0 ≡ Some node → result ≡ node.count) }
@@ -447,7 +447,7 @@ fn room_in(nodes: &Slab<Node>, parent: Option<NodeId>) -> PageNo
     }
 }
 
-/// A link to a child, changed to lead to `to` if it led to `from`.
+/// Returns a link to a child, changed to lead to `to` if it led to `from`.
 fn moved_link(link: Option<NodeId>, from: NodeId, to: NodeId) -> Option<NodeId>
     ensures { result ≡ moved_link from.0 to.0 link }
 {

@@ -50,7 +50,7 @@ pub struct Node {
 }
 
 impl Node {
-    /// The side on which a child of this hidden node stands.
+    /// Returns the side on which a child of this hidden node stands.
     pub fn side_of(&self, child: NodeId) -> Side
         ensures { result ≡ side_of self.now child.0 }
     {
@@ -61,7 +61,7 @@ impl Node {
         }
     }
 
-    /// The child on this side. `None` if the node is visible.
+    /// Returns the child on this side. `None` if the node is visible.
     pub fn child_on(&self, side: Side) -> Option<NodeId>
         ensures { result ≡ child_on self.now side }
     {
@@ -72,7 +72,7 @@ impl Node {
     }
 }
 
-/// Whether a link leads to this node.
+/// Reports whether a link leads to this node.
 #[tactic(auto, unfolding(vm_base::specs::Entries::passes))]
 pub(crate) fn leads_to(link: Option<NodeId>, to: NodeId) -> bool
     ensures { result ≡ leads_to link to.0 }

@@ -21,8 +21,8 @@ use std::marker::Brand;
 use std::sync::ledger::{Blank, Ledger};
 use vm_base::PageNo;
 
-/// The first row on the walk from a page of a node upwards, within the windows. `Nothing` exactly where there is none. The walk
-/// takes jumps where they serve.
+/// Returns the first row on the walk from a page of a node upwards, within the windows. `Nothing` exactly if there is none.
+/// The walk takes jumps where they serve.
 #[inline(always)]
 pub fn holder_by_jumps(
     arena: &CowArena,
@@ -175,8 +175,8 @@ fn rise<L: Ledger>(
     Holder::Nothing
 }
 
-/// Where a walk that goes on upwards from a page of a node comes to by the node's jump, if it has one that serves the page, or
-/// by one step. `None` only where the page is outside the node's window.
+/// Returns where a walk that goes on upwards from a page of a node comes to by the node's jump, if it has one that serves the
+/// page, or by one step. `None` only where the page is outside the node's window.
 #[inline(always)]
 fn next_place(
     arena: &CowArena,
@@ -253,7 +253,7 @@ pub fn renew_jump(jumps: &mut JumpTable, arena: &CowArena, lists: &PageLists, at
     note_jump(jumps, arena, lists, at, parent, further);
 }
 
-/// Lets no jump to a node that goes be taken any more, nor to its parent, which goes with it.
+/// Lets no jump to a node that goes be taken from now on, nor to its parent, which goes with it.
 pub fn retire_pair(jumps: &mut JumpTable, arena: &CowArena, leaf: NodeId)
     requires { IsSome (nodes_of arena.now leaf.0) }
     ensures { ArePairRetired (nodes_of arena.now) jumps.old jumps.new leaf.0 }
@@ -291,9 +291,9 @@ fn note_jump(
     jumps.set(at, jump);
 }
 
-/// The way from a node as far as its jump or step and the jump or step from there lead, where these two lead over as many nodes.
-/// The jump of a child of the node leads as far. So from a node with n nodes above it, a walk comes to its root by O(log n) jumps
-/// and steps.
+/// Returns the way from a node as far as its jump or step and the jump or step from there lead, where these two lead over as
+/// many nodes. The jump of a child of the node leads as far. So from a node with n nodes above it, a walk comes to its root
+/// by O(log n) jumps and steps.
 fn far_jump(arena: &CowArena, lists: &PageLists, jumps: &JumpTable, at: NodeId) -> Option<Jump>
     requires forest { IsForest (nodes_of arena.now) arena.now.lists }
     requires node { IsSome (nodes_of arena.now at.0) }
@@ -308,8 +308,8 @@ fn far_jump(arena: &CowArena, lists: &PageLists, jumps: &JumpTable, at: NodeId) 
     joined(arena, lists, at, near, far)
 }
 
-/// The way from a node as far as its jump or step and the jump or step from there lead. If the two bar every page, it is only the
-/// first of them.
+/// Returns the way from a node as far as its jump or step and the jump or step from there lead. If the two bar every page, it
+/// is only the first of them.
 fn way_of(arena: &CowArena, lists: &PageLists, jumps: &JumpTable, at: NodeId) -> Option<Jump>
     requires forest { IsForest (nodes_of arena.now) arena.now.lists }
     requires node { IsSome (nodes_of arena.now at.0) }
@@ -323,7 +323,7 @@ fn way_of(arena: &CowArena, lists: &PageLists, jumps: &JumpTable, at: NodeId) ->
     }
 }
 
-/// A jump or a step of a node, and the jump or the step from there, as one.
+/// Returns a jump or a step of a node, and the jump or the step from there, as one.
 fn two_jumps(
     arena: &CowArena,
     lists: &PageLists,
@@ -341,7 +341,7 @@ fn two_jumps(
     joined(arena, lists, at, near, far)
 }
 
-/// The jump of a node that sees some page, or else its step.
+/// Returns the jump of a node that sees some page, or else its step.
 fn jump_of(arena: &CowArena, lists: &PageLists, jumps: &JumpTable, at: NodeId) -> Option<Jump>
     requires forest { IsForest (nodes_of arena.now) arena.now.lists }
     requires node { IsSome (nodes_of arena.now at.0) }
@@ -357,7 +357,7 @@ fn jump_of(arena: &CowArena, lists: &PageLists, jumps: &JumpTable, at: NodeId) -
     }
 }
 
-/// The step from a node to its parent, as a jump over one node. `None` where the node has no parent.
+/// Returns the step from a node to its parent, as a jump over one node. `None` if the node has no parent.
 fn step_of(arena: &CowArena, lists: &PageLists, jumps: &JumpTable, at: NodeId) -> Option<Jump>
     requires forest { IsForest (nodes_of arena.now) arena.now.lists }
     requires node { IsSome (nodes_of arena.now at.0) }
@@ -376,8 +376,8 @@ fn step_of(arena: &CowArena, lists: &PageLists, jumps: &JumpTable, at: NodeId) -
     })
 }
 
-/// A jump of a node, and one on from there, as one. It serves no page that the rows of the node between may hold. `None` where the
-/// two serve no page in common.
+/// Returns a jump of a node, and one on from there, as one. It serves no page that the rows of the node between may hold.
+/// `None` if the two serve no page in common.
 fn joined(arena: &CowArena, lists: &PageLists, at: NodeId, jump: Jump, next: Jump) -> Option<Jump>
     requires node { IsSome (nodes_of arena.now jump.to.0) }
     requires jump { IsJump (tree_of arena.now lists.now) at.0 jump }
@@ -399,8 +399,8 @@ fn joined(arena: &CowArena, lists: &PageLists, at: NodeId, jump: Jump, next: Jum
     })
 }
 
-/// Which pages of a list may have a row, by their numbers modulo 64. A list without rows has none, even if it shares its word of
-/// the filter with lists that have some.
+/// Returns which pages of a list may have a row, by their numbers modulo 64. A list without rows has none, even if it shares
+/// its word of the filter with lists that have some.
 fn row_pages(lists: &PageLists, list: ListId) -> u64
     ensures { (page : ℕ) → bit_at result (page % 64) ≡ 0 → slots_of lists.now list.0 page ≡ None }
 {
@@ -410,7 +410,7 @@ fn row_pages(lists: &PageLists, list: ListId) -> u64
     lists.pages(list)
 }
 
-/// Pages by their numbers modulo 64, of a node to which they come this many pages further on.
+/// Returns pages by their numbers modulo 64, as those of a node to which they come this many pages further on.
 fn turned(pages: u64, shift: u64) -> u64
     ensures { (p : ℕ) → bit_at result (p % 64) ≡ 0 → bit_at pages ((p + shift) % 64) ≡ 0 }
 {

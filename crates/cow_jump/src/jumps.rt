@@ -8,8 +8,8 @@ use cow_arena::{NodeId, Side};
 use std::alloc::Global;
 use vm_base::PageNo;
 
-/// A way upwards from the pages of a node to those of a node above it, past the rows of all nodes between. It serves the pages
-/// below `end` that lie in the node's window, but for those that are barred.
+/// A way upwards from the pages of a node to those of a node above it, past the rows of all nodes between. It serves the
+/// pages below `end` that lie in the node's window, except for those that are barred.
 #[derive(Clone, Copy)]
 pub struct Jump {
     /// The node to which it leads.
@@ -48,7 +48,7 @@ pub struct JumpTable {
 }
 
 impl JumpTable {
-    /// No node has a jump. It takes no memory.
+    /// Makes a table in which no node has a jump. It takes no memory.
     pub fn new(alloc: Global) -> JumpTable
         ensures jumps { (k : ℕ) → jump_in result k ≡ None }
         ensures serials { (k : ℕ) → serial_in result k ≡ 0 }
@@ -59,7 +59,7 @@ impl JumpTable {
         }
     }
 
-    /// The serial number of a node. 0 where it has none.
+    /// Returns the serial number of a node. 0 if it has none.
     #[inline(always)]
     pub(crate) fn serial(&self, at: NodeId) -> u64
         ensures { result ≡ serial_in self.now at.0 }
@@ -71,7 +71,7 @@ impl JumpTable {
         }
     }
 
-    /// The jump of a node, if it has one that is to be taken: the node to which it leads is still there.
+    /// Returns the jump of a node, if it has one that is to be taken: the node to which it leads is still there.
     #[inline(always)]
     pub(crate) fn get(&self, at: NodeId) -> Option<Jump>
         ensures { IfSome result (λ jump. (jump_in self.now at.0 ≡ Some jump) × IsTaken self.now jump) }
@@ -86,7 +86,7 @@ impl JumpTable {
         Some(jump)
     }
 
-    /// Where the jump of a node leads from a page, if the node has one that serves the page.
+    /// Returns where the jump of a node leads from a page, if the node has one that serves the page.
     #[inline(always)]
     pub(crate) fn take(&self, at: NodeId, page: PageNo) -> Option<Place>
         ensures { IfSome result (λ place. IsServed self.now at.0 page place) }
@@ -138,7 +138,7 @@ impl JumpTable {
         self.set_serial(to, serial);
     }
 
-    /// Lets no jump to a node be taken any more.
+    /// Lets no jump to a node be taken from now on.
     pub(crate) fn retire(&mut self, at: NodeId)
         ensures { AreRetired self.old self.new at.0 }
     {

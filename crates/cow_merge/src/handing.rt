@@ -19,8 +19,8 @@ use frame_pool::FramePool;
 use page_list::{ListId, PageLists, Slot};
 use vm_base::PageNo;
 
-/// Whether a hidden node hands its list over to this child: the child sees the hidden node from page 0 on, and it has
-/// fewer rows.
+/// Reports whether a hidden node hands its list over to this child: the child sees the hidden node from page 0 on, and
+/// it has fewer rows.
 pub(crate) fn goes_over(arena: &CowArena, lists: &PageLists, hidden: NodeId, child: NodeId) -> bool
     requires hidden { IsSome (nodes_of arena.now hidden.0) }
     requires child { IsSome (nodes_of arena.now child.0) }
@@ -33,8 +33,8 @@ pub(crate) fn goes_over(arena: &CowArena, lists: &PageLists, hidden: NodeId, chi
     node.seen > 0 && has_fewer(lists, node.list, arena.node(hidden).list)
 }
 
-/// Whether a list has fewer rows than another. The function goes through both side by side, so it costs the rows of the
-/// smaller.
+/// Reports whether a list has fewer rows than another. The function goes through both side by side, so it costs the
+/// rows of the smaller.
 fn has_fewer(lists: &PageLists, list: ListId, other: ListId) -> bool {
     let mut at = 0;
     let mut beside = 0;

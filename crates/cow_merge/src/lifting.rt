@@ -81,7 +81,7 @@ fn take_below(
     Some((page, slot))
 }
 
-/// Whether `page` is at or past `to`, if there is a `to`.
+/// Reports whether `page` is at or past `to`, if there is a `to`.
 fn is_past(page: PageNo, to: Option<PageNo>) -> bool
     ensures { result ≡ true → (p : ℕ) → page ≤ p → IsBefore to p → ⊥ }
 {
@@ -122,8 +122,8 @@ fn settle(
     note_place(frames, moved, node.list, to);
 }
 
-/// Whether the row of a page of a hidden node is seen through the child on this side. For a row with a frame the bit of
-/// the side says so. A zero row is seen through the child if and only if the child itself sees it.
+/// Reports whether the row of a page of a hidden node is seen through the child on this side. For a row with a frame
+/// the bit of the side says so. A zero row is seen through the child if and only if the child itself sees it.
 fn is_seen_through(lists: &PageLists, side: Side, node: Node, page: PageNo, slot: Slot) -> bool
     ensures frame { (tag : Tag) (left right : Bool) → slot ≡ Slot.Frame tag left right → result ≡ not (bit_on side left right) }
     ensures zero { slot ≡ Slot.Zero → IsTrue result ↔ SeesRow (slots_of lists.now) node page }
@@ -137,8 +137,8 @@ fn is_seen_through(lists: &PageLists, side: Side, node: Node, page: PageNo, slot
     }
 }
 
-/// Whether a node sees the row of a page of its parent: the page lies in its window, and it has no row of its own
-/// there.
+/// Reports whether a node sees the row of a page of its parent: the page lies in its window, and it has no row of its
+/// own there.
 fn sees_row(lists: &PageLists, node: Node, page: PageNo) -> bool
     ensures { IsTrue result ↔ SeesRow (slots_of lists.now) node page }
 {
@@ -147,8 +147,8 @@ fn sees_row(lists: &PageLists, node: Node, page: PageNo) -> bool
         && lists.find(node.list, page - node.first).is_none()
 }
 
-/// The slot with the bits that it has in the list of node `at`, which is `node`, at a page of this node. If the node is
-/// visible, both bits are clear. If it is hidden, each bit says whether no VMO on its side sees the row.
+/// Returns the slot with the bits that it has in the list of node `at`, which is `node`, at a page of this node. If the
+/// node is visible, both bits are clear. If it is hidden, each bit says whether no VMO on its side sees the row.
 fn slot_in(
     arena: &CowArena,
     lists: &PageLists,

@@ -196,7 +196,7 @@ fn cut_upwards(
     }
 }
 
-/// `true` only if each page from `from` to below `to` is one of `pages`.
+/// Returns `true` only if each page from `from` to below `to` is one of `pages`.
 fn has_all(pages: Pages, from: PageNo, to: PageNo) -> bool
     ensures { result ≡ true → (q : ℕ) → from ≤ q → q < to → IsOutside pages q → ⊥ }
 {
@@ -279,8 +279,8 @@ fn cut_rows(
     }
 }
 
-/// The least page of a list, from `from` on and below `to`, that has a row and to which no page of `skip` comes. Page
-/// `q` comes to page `q + shift`. `None` if and only if there is no such page.
+/// Returns the least page of a list, from `from` on and below `to`, that has a row and to which no page of `skip`
+/// comes. Page `q` comes to page `q + shift`. `None` if and only if there is no such page.
 fn next_outside(
     lists: &PageLists,
     list: ListId,
@@ -306,14 +306,15 @@ fn next_outside(
     next_below(lists, list, skip.to + shift, to)
 }
 
-/// Whether `page` is one of `pages`.
+/// Reports whether `page` is one of `pages`.
 fn is_inside(pages: Pages, page: PageNo) -> bool
     ensures { result ≡ true → (pages.from ≤ page) × (page < pages.to) }
 {
     pages.from <= page && page < pages.to
 }
 
-/// The least page of a list, from `from` on and below `to`, that has a row. `None` if and only if there is none.
+/// Returns the least page of a list, from `from` on and below `to`, that has a row. `None` if and only if there is
+/// none.
 pub(crate) fn next_below(
     lists: &PageLists,
     list: ListId,
@@ -358,7 +359,7 @@ pub(crate) fn cut_off(
     give_back_last(frames, answer);
 }
 
-/// Whether a row has a frame and its bit of this side is set. If so, nobody in sight sees the row from there.
+/// Reports whether a row has a frame and its bit of this side is set. If so, nobody in sight sees the row from there.
 fn is_split(side: Side, slot: Slot) -> bool
     ensures { result ≡ is_split side slot }
 {

@@ -73,7 +73,7 @@ fn uncover_row(
     lists.replace(above, page_above, without_bits(slot));
 }
 
-/// The slot with no split bit set.
+/// Returns the slot with no split bit set.
 fn without_bits(slot: Slot) -> Slot
     ensures { result ≡ without_bits slot }
 {

@@ -87,9 +87,9 @@ pub(crate) fn leave_out_beside(
     Pages { from: 0, to: 0 }
 }
 
-/// The way one node further down, to a child of a node. The way had the pages `from` to below `to` of that node, which
-/// come to pages of the leaf's parent `shift` further on. If none of them lies in the child's window, the new way has
-/// no pages.
+/// Returns the way one node further down, to a child of a node. The way had the pages `from` to below `to` of that
+/// node, which come to pages of the leaf's parent `shift` further on. If none of them lies in the child's window, the
+/// new way has no pages.
 pub(crate) fn enter(arena: &CowArena, child: NodeId, shift: PageNo, from: PageNo, to: PageNo) -> Way
     requires child { IsSome (nodes_of arena.now child.0) }
     ensures { (node : Node) → nodes_of arena.now child.0 ≡ Some node → IsEntered node child shift from to result }
@@ -103,8 +103,8 @@ pub(crate) fn enter(arena: &CowArena, child: NodeId, shift: PageNo, from: PageNo
     }
 }
 
-/// The pages of the leaf that come to the same pages of its parent as the pages of a way. Pages of the leaf come to
-/// pages of the parent `shift` further on.
+/// Returns the pages of the leaf that come to the same pages of its parent as the pages of a way. Pages of the leaf
+/// come to pages of the parent `shift` further on.
 pub(crate) fn pages_of(way: Way, shift: PageNo) -> Pages
     requires from { shift ≤ way.from + way.shift }
     requires to { way.to + way.shift < 2 ^ 64 }
@@ -118,8 +118,8 @@ pub(crate) fn pages_of(way: Way, shift: PageNo) -> Pages
     }
 }
 
-/// The child of a hidden node into which the way goes on: the one whose window has more of the way's pages. If both
-/// have as many, it is one that is a VMO's node, or else one without rows.
+/// Returns the child of a hidden node into which the way goes on: the one whose window has more of the way's pages. If
+/// both have as many, it is one that is a VMO's node, or else one without rows.
 pub(crate) fn wider(arena: &CowArena, lists: &PageLists, way: Way) -> NodeId
     requires forest { IsForest (nodes_of arena.now) arena.now.lists }
     requires hidden { IsSomeAnd (nodes_of arena.now way.at.0) (λ node. node.koid ≡ None) }
@@ -137,7 +137,7 @@ pub(crate) fn wider(arena: &CowArena, lists: &PageLists, way: Way) -> NodeId
     }
 }
 
-/// Whether the way goes on to `child` and not to `other`.
+/// Reports whether the way goes on to `child` and not to `other`.
 fn is_wider(arena: &CowArena, lists: &PageLists, child: NodeId, other: NodeId, way: Way) -> bool
     requires child { IsSome (nodes_of arena.now child.0) }
     requires other { IsSome (nodes_of arena.now other.0) }
@@ -149,8 +149,8 @@ fn is_wider(arena: &CowArena, lists: &PageLists, child: NodeId, other: NodeId, w
     beside < pages || (pages == beside && is_nearer(arena, lists, child, other))
 }
 
-/// Whether the way prefers `node` to `other`, if both windows have as many pages: `other` is no VMO's node, and `node`
-/// is one or has no rows.
+/// Reports whether the way prefers `node` to `other`, if both windows have as many pages: `other` is no VMO's node, and
+/// `node` is one or has no rows.
 fn is_nearer(arena: &CowArena, lists: &PageLists, node: NodeId, other: NodeId) -> bool
     requires node { IsSome (nodes_of arena.now node.0) }
     requires other { IsSome (nodes_of arena.now other.0) }

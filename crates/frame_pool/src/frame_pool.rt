@@ -51,7 +51,7 @@ impl Model for FramePool {
 }
 
 impl FramePool {
-    /// A pool with no frames.
+    /// Makes a pool with no frames.
     pub fn new(alloc: Global) -> FramePool
         ensures frames { result.frames ≡ 0 }
         ensures taken { (t : ℕ) → taken_frames result t ≡ None }
@@ -256,7 +256,7 @@ impl FramePool {
         self.links[tag.0 as usize] = link;
     }
 
-    /// The backlink of a taken frame, as it was set last.
+    /// Returns the backlink of a taken frame, as it was set last.
     pub fn backlink(&self, tag: Tag) -> Backlink
         requires { IsSome (taken_frames self.now tag.0) }
         ensures { result ≡ links_of self.now tag.0 }
@@ -264,14 +264,14 @@ impl FramePool {
         self.links[tag.0 as usize]
     }
 
-    /// How many frames are free.
+    /// Returns how many frames are free.
     pub fn free(&self) -> u32
         ensures { result + taken_count self.now ≡ self.now.frames }
     {
         self.frames - self.buffer.len() as u32 + self.idle.len() as u32
     }
 
-    /// How many frames the machine has, taken or free. Every tag that is taken is below this number.
+    /// Returns how many frames the machine has, taken or free. Every tag that is taken is below this number.
     pub fn frames(&self) -> u32
         ensures value { result ≡ self.now.frames }
         ensures below { (tag : ℕ) → IsSome (taken_frames self.now tag) → tag < result }
@@ -281,7 +281,7 @@ impl FramePool {
     }
 }
 
-/// The bytes of a page of zeros.
+/// Returns the bytes of a page of zeros.
 fn blank_frame() -> [u8; PAGE_BYTES]
     ensures { result ≡ zeros }
 {

@@ -50,7 +50,7 @@ impl Model for FlatStore {
 }
 
 impl FlatStore {
-    /// A store with no frames and no VMO.
+    /// Makes a store with no frames and no VMO.
     pub fn new(alloc: Global) -> FlatStore
         ensures content { ⟦<FlatStore as PageStore>⟧.content result ≡ nothing }
     {
@@ -384,7 +384,7 @@ fn take_copy(pool: &mut FramePool, from: Tag) -> Tag
     pool.take_copy(from).unwrap()
 }
 
-/// Gives a taken frame back if no VMO shows it any more.
+/// Gives a taken frame back if no VMO shows it.
 fn give_back_unshown(pool: &mut FramePool, tag: Tag, viewers: u64)
     requires { IsSome (taken_frames pool.old tag.0) }
     ensures frames { pool.new.frames ≡ pool.old.frames }

@@ -9,7 +9,7 @@ use crate::page_store::PageStore;
 use vm_base::{PAGE, PageNo};
 use vm_model::Target;
 
-/// How many pages a name has: as many as its limit says, or all of its VMO.
+/// Returns how many pages a name has: as many as its limit says, or all of its VMO.
 pub fn pages_of_name<P: PageStore>(store: &P, t: &Target) -> PageNo
     requires { IsInside (P.content store.now) t.now }
     ensures { result ≡ name_pages (P.content store.now) t.now }
@@ -20,7 +20,7 @@ pub fn pages_of_name<P: PageStore>(store: &P, t: &Target) -> PageNo
     }
 }
 
-/// The size in bytes of what a name stands for (`zx_vmo_get_size`): its pages', at most 2^48.
+/// Returns the size in bytes of what a name stands for (`zx_vmo_get_size`): its pages', at most 2^48.
 pub fn size_of_name<P: PageStore>(store: &P, t: &Target) -> u64
     requires good { IsGood (P.content store.now) }
     requires inside { IsInside (P.content store.now) t.now }

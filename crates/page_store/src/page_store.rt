@@ -89,7 +89,7 @@ pub trait PageStore: Drop {
         ensures kept { spare self.old ≤ spare self.new }
         ensures answer { answers self.old (Reserve n) (is_ok result) self.new };
 
-    /// What a page below the count is.
+    /// Returns what a page below the count is.
     fn look(&self, v: Koid, page: PageNo) -> Look
         requires page { page < pages_of (content self.now) v.0 }
         ensures { result ≡ look_at (content self.now) v.0 ((content self.now).page v.0 page) };
@@ -118,7 +118,7 @@ pub trait PageStore: Drop {
         ensures zero { content self.new ≡ zeroed (content self.old) v.0 page (page + 1) }
         ensures spare { spare self.old ≤ spare self.new + 1 };
 
-    /// How many pages a VMO has.
+    /// Returns how many pages a VMO has.
     fn count(&self, v: Koid) -> PageNo
         requires { IsSome ((content self.now).count v.0) }
         ensures { (content self.now).count v.0 ≡ Some result };
@@ -148,33 +148,34 @@ pub trait PageStore: Drop {
         ensures bytes { Overwrites (content self.old) (content self.new) tag.0 at bytes.now }
         ensures spare { spare self.new ≡ spare self.old };
 
-    /// The first page that is held, from page `from` of a VMO on. `None` if and only if none is.
+    /// Returns the first page that is held, from page `from` of a VMO on. `None` if and only if none is.
     fn next_held(&self, v: Koid, from: PageNo) -> Option<PageNo>
         requires { IsSome ((content self.now).count v.0) }
         ensures some { IfSome result (λ page. (from ≤ page) × IsSome ((content self.now).page v.0 page)
             × ((p : ℕ) → from ≤ p → p < page → (content self.now).page v.0 p ≡ None)) }
         ensures none { IfNone result ((p : ℕ) → from ≤ p → (content self.now).page v.0 p ≡ None) };
 
-    /// The least koid of the VMOs that show a frame, of which there is one at least. That VMO is charged for the frame.
+    /// Returns the least koid of the VMOs that show a frame, of which there is one at least. That VMO is charged for
+    /// the frame.
     fn least_viewer(&self, tag: Tag) -> Koid
         requires { IsShown (content self.now) tag.0 }
         ensures { IsLeastViewer (content self.now) tag.0 result.0 };
 
-    /// How many VMOs show the frame of a page that is held.
+    /// Returns how many VMOs show the frame of a page that is held.
     fn viewers(&self, v: Koid, page: PageNo) -> u64
         requires page { page < pages_of (content self.now) v.0 }
         requires held { IsSome ((content self.now).page v.0 page) }
         ensures { IfSome ((content self.now).page v.0 page) (λ held. result ≡ viewers (content self.now) held.tag) };
 
-    /// How many page frames the machine has.
+    /// Returns how many page frames the machine has.
     fn frames(&self) -> u32
         ensures { result ≡ (content self.now).frames };
 
-    /// How many page frames no page shows.
+    /// Returns how many page frames no page shows.
     fn free(&self) -> u32
         ensures { result + used (content self.now) ≡ (content self.now).frames };
 
-    /// How many VMOs there are.
+    /// Returns how many VMOs there are.
     fn vmos(&self) -> u64
         ensures { result ≡ vmos_of (content self.now) };
 

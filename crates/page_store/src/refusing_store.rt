@@ -70,8 +70,8 @@ impl<P> Model for RefusingStore<P> {
 }
 
 impl<P: PageStore> RefusingStore<P> {
-    /// A store over an inner one that has nothing. Its calls numbered in `refuse`, from 1, are refused. `HostMemory` if
-    /// the host has too little memory for the list of them: the inner store is then dropped.
+    /// Makes a store over an inner one that has nothing. Its calls numbered in `refuse`, from 1, are refused.
+    /// `HostMemory` if the host has too little memory for the list of them: the inner store is then dropped.
     pub fn new(alloc: Global, inner: P, refuse: &[u64]) -> Result<RefusingStore<P>, HostMemory>
         requires { P.content inner ≡ nothing }
         ensures inner { IfOk result (λ s. s.0 ≡ inner) }
@@ -81,14 +81,15 @@ impl<P: PageStore> RefusingStore<P> {
         Ok(RefusingStore { inner, plan })
     }
 
-    /// How many calls of `fill`, `create`, `snapshot` and `reserve` there were, the refused ones too, up to 2^64 - 1.
+    /// Returns how many calls of `fill`, `create`, `snapshot` and `reserve` there were, the refused ones too, up to
+    /// 2^64 - 1.
     pub fn calls(&self) -> u64
         ensures { result ≡ self.now.1.calls }
     {
         self.plan.calls
     }
 
-    /// The inner store.
+    /// Returns the inner store.
     pub fn inner(&self) -> &P
         ensures { result.now ≡ self.now.0 }
     {
@@ -272,7 +273,7 @@ impl<P: PageStore> PageStore for RefusingStore<P> {
 
 fn may_cross<T: Send>() {}
 
-/// The store may go to another thread if the inner one may.
+/// Shows that the store may go to another thread if the inner one may.
 fn refusing_store_may_cross<P: PageStore + Send>() {
     may_cross::<RefusingStore<P>>();
 }

@@ -43,7 +43,7 @@ impl Model for PinTable {
 }
 
 impl PinTable {
-    /// A table with no pin.
+    /// Makes a table with no pin.
     pub fn new(alloc: Global) -> PinTable
         ensures { (n : ℕ) → pins_of result n ≡ None }
     {
@@ -84,7 +84,7 @@ impl PinTable {
         pin_pages(&mut self.pages, koid, first, count);
     }
 
-    /// The VMO of a pin, its first page and its page count. `None` if and only if there is no such pin.
+    /// Returns the VMO of a pin, its first page and its page count. `None` if and only if there is no such pin.
     pub fn get(&self, pin: PinName) -> Option<(Koid, PageNo, u64)>
         ensures { option_map pin_of result ≡ pins_of self.now pin.0 }
     {
@@ -106,7 +106,7 @@ impl PinTable {
         (held.koid, held.first, held.count)
     }
 
-    /// The least pinned page of a VMO from `from` on. `None` if and only if there is none.
+    /// Returns the least pinned page of a VMO from `from` on. `None` if and only if there is none.
     pub fn next_pinned(&self, koid: Koid, from: PageNo) -> Option<PageNo>
         ensures { IsNextPinned (is_pinned (pins_of self.now) koid.0) from result }
     {
@@ -116,8 +116,8 @@ impl PinTable {
         }
     }
 
-    /// Whether one of `count` pages of a VMO, from `first` on, is pinned. It takes one look-up. `first + count` may
-    /// pass 2^64.
+    /// Reports whether one of `count` pages of a VMO, from `first` on, is pinned. It takes one look-up. `first + count`
+    /// may pass 2^64.
     pub fn pinned(&self, koid: Koid, first: PageNo, count: u64) -> bool
         ensures { result ≡ any_pinned (pins_of self.now) koid.0 first (first + count) }
     {

@@ -15,7 +15,7 @@ use pair_map::{ExtentMap, PairMap};
 use vm_base::{PAGES_END, PageNo, RegionName};
 use vm_model::Region;
 
-/// A live region.
+/// Returns a live region.
 pub(crate) fn held(regions: &PairMap<Region>, name: RegionName) -> Region
     requires { is_live_region (values_of regions.now 0) name.0 ≡ true }
     ensures region { values_of regions.now 0 name.0 ≡ Some result }
@@ -27,7 +27,7 @@ pub(crate) fn held(regions: &PairMap<Region>, name: RegionName) -> Region
     }
 }
 
-/// Whether `count` is at least 1, and all of `count` pages from `first` on are pages of the region.
+/// Reports whether `count` is at least 1, and all of `count` pages from `first` on are pages of the region.
 pub(crate) fn reaches_over(region: Region, first: PageNo, count: u64) -> bool
     requires pages { first + count ≤ PAGES_END }
     requires region { end_of region ≤ PAGES_END }
@@ -36,15 +36,15 @@ pub(crate) fn reaches_over(region: Region, first: PageNo, count: u64) -> bool
     first < first + count && (region.first <= first && first + count <= region.first + region.count)
 }
 
-/// Whether all pages of a region are among `count` pages from `first` on, which may pass 2^64.
+/// Reports whether all pages of a region are among `count` pages from `first` on, which may pass 2^64.
 pub(crate) fn lies_in(region: Region, first: PageNo, count: u64) -> bool
     ensures { result ≡ lies_in first (first + count) region }
 {
     first <= region.first && region.count <= count && region.first - first <= count - region.count
 }
 
-/// The page behind the last page that a place in a region may have, if the place ends at most `limit` pages behind the
-/// region's start.
+/// Returns the page behind the last page that a place in a region may have, if the place ends at most `limit` pages
+/// behind the region's start.
 pub(crate) fn end_within(region: Region, limit: u64) -> PageNo
     requires { end_of region ≤ PAGES_END }
     ensures { result ≡ min (min (region.first + limit) (2 ^ 64 - 1)) (end_of region) }
@@ -55,9 +55,9 @@ pub(crate) fn end_within(region: Region, limit: u64) -> PageNo
         .min(region.first + region.count)
 }
 
-/// The lowest page from `first` on of `count` pages, below the limit, that are in no child of the region and have no
-/// entry of it. The children and the entries are asked in turn. Each is asked for a place that is not before the
-/// other's.
+/// Returns the lowest page from `first` on of `count` pages, below the limit, that are in no child of the region and
+/// have no entry of it. The children and the entries are asked in turn. Each is asked for a place that is not before
+/// the other's.
 pub(crate) fn gap_in(
     children: &ExtentMap<RegionName>,
     maps: &MappingSet,
@@ -88,7 +88,7 @@ pub(crate) fn gap_in(
     }
 }
 
-/// Whether the child of a region that has this page also has a page before `first` or from `end` on.
+/// Reports whether the child of a region that has this page also has a page before `first` or from `end` on.
 pub(crate) fn reaches_out(
     children: &ExtentMap<RegionName>,
     region: RegionName,
@@ -105,7 +105,7 @@ pub(crate) fn reaches_out(
     }
 }
 
-/// The first child of a region that has no page but of `count` pages from `first` on.
+/// Returns the first child of a region that has no page but of `count` pages from `first` on.
 pub(crate) fn child_in(
     children: &ExtentMap<RegionName>,
     region: RegionName,

@@ -63,7 +63,7 @@ impl Model for Regions {
 }
 
 impl Regions {
-    /// No region was given.
+    /// Makes a tree in which no name was given.
     pub fn new(alloc: Global) -> Regions
         ensures { regions_of result ≡ λ n. None }
     {
@@ -120,7 +120,7 @@ impl Regions {
         self.allocate_below(name, parent, above, first, count, caps)
     }
 
-    /// What `allocate` does below a live region, which is `above`.
+    /// Does what `allocate` does below a live region, which is `above`.
     pub fn allocate_below(
         &mut self,
         name: RegionName,
@@ -161,7 +161,7 @@ impl Regions {
         Ok(())
     }
 
-    /// The region of a name, dead or live. `None` if and only if the name was never given.
+    /// Returns the region of a name, dead or live. `None` if and only if the name was never given.
     pub fn get(&self, name: RegionName) -> Option<Region>
         ensures region { result ≡ regions_of self.now name.0 }
         ensures good { AreGoodRegions (regions_of self.now) }
@@ -169,9 +169,9 @@ impl Regions {
         self.regions.find(0, name.0 as u64)
     }
 
-    /// The first page of the lowest free place of `count` pages in a live region. The place ends at most `limit` pages behind
-    /// the region's start. `None` if and only if there is none. The search needs no note of a place. It costs a search
-    /// for each change between children and mappings up to the place. If places are noted, `find_gap_noted` costs one
+    /// Returns the first page of the lowest free place of `count` pages in a live region. The place ends at most `limit`
+    /// pages behind the region's start. `None` if and only if there is none. The search needs no note of a place. It costs a
+    /// search for each change between children and mappings up to the place. If places are noted, `find_gap_noted` costs one
     /// search.
     pub fn find_gap(
         &self,
@@ -202,8 +202,8 @@ impl Regions {
         )
     }
 
-    /// What `find_gap` answers for a live region, which is `above`. The set of mappings has noted the live children of
-    /// each region. It costs one search by gaps, also if there is no place. The place is the lowest one.
+    /// Returns what `find_gap` answers for a live region, which is `above`. The set of mappings has noted the live
+    /// children of each region. It costs one search by gaps, also if there is no place. The place is the lowest one.
     pub fn find_gap_noted(
         &self,
         maps: &MappingSet,
@@ -228,7 +228,7 @@ impl Regions {
         maps.first_clear(above.root, region, above.first, count, end)
     }
 
-    /// Whether `count` pages from `first` on are a free place in a live region.
+    /// Reports whether `count` pages from `first` on are a free place in a live region.
     pub fn is_free(&self, maps: &MappingSet, region: RegionName, first: PageNo, count: u64) -> bool
         requires live { is_live_region (regions_of self.now) region.0 ≡ true }
         requires pages { first + count ≤ PAGES_END }
@@ -246,8 +246,8 @@ impl Regions {
             .is_some()
     }
 
-    /// What `is_free` answers for a live region, which is `above`. The set of mappings has noted the live children of
-    /// each region. It costs one look-up.
+    /// Returns what `is_free` answers for a live region, which is `above`. The set of mappings has noted the live
+    /// children of each region. It costs one look-up.
     pub fn is_free_noted(
         &self,
         maps: &MappingSet,
@@ -270,7 +270,7 @@ impl Regions {
         maps.is_clear(above.root, region, first, count)
     }
 
-    /// Whether a live child of a live region has one of `count` pages from `first` on.
+    /// Reports whether a live child of a live region has one of `count` pages from `first` on.
     pub fn meets(&self, region: RegionName, first: PageNo, count: u64) -> bool
         requires live { is_live_region (regions_of self.now) region.0 ≡ true }
         requires pages { first + count ≤ PAGES_END }
@@ -279,7 +279,8 @@ impl Regions {
         !self.children.is_open(region.0 as u64, first, count)
     }
 
-    /// Whether a live child of a live region has one of `count` pages from `first` on, and also a page outside them.
+    /// Reports whether a live child of a live region has one of `count` pages from `first` on, and also a page outside
+    /// them.
     pub fn cuts(&self, region: RegionName, first: PageNo, count: u64) -> bool
         requires live { is_live_region (regions_of self.now) region.0 ≡ true }
         requires pages { first + count ≤ PAGES_END }
@@ -363,7 +364,7 @@ impl Regions {
         self.destroy_childless(region, dying);
     }
 
-    /// What `destroy_one` does to a live region, which is `dying`.
+    /// Does what `destroy_one` does to a live region, which is `dying`.
     pub fn destroy_childless(&mut self, region: RegionName, dying: Region)
         requires dying { regions_of self.old region.0 ≡ Some dying }
         requires live { dying.live ≡ true }
@@ -378,7 +379,7 @@ impl Regions {
         leave_parent(&mut self.children, dying);
     }
 
-    /// The region of a name that was given to one that is live.
+    /// Returns the region of a name that was given to one that is live.
     fn live(&self, name: RegionName) -> Region
         requires { is_live_region (regions_of self.now) name.0 ≡ true }
         ensures region { regions_of self.now name.0 ≡ Some result }
@@ -387,8 +388,8 @@ impl Regions {
         held(&self.regions, name)
     }
 
-    /// A live region below a live one that has no page but of `count` pages from `first` on: the one to begin at, where
-    /// that is one.
+    /// Returns a live region below a live one that has no page but of `count` pages from `first` on: the one to begin
+    /// at, where that is one.
     fn within_from(
         &self,
         region: RegionName,
@@ -406,8 +407,8 @@ impl Regions {
         self.within(region, first, count)
     }
 
-    /// Where to go on above a region below a live one, which has this parent: at the parent, where that is live and has no
-    /// page but of `count` pages from `first` on, or else at the live one.
+    /// Returns where to go on above a region below a live one, which has this parent: at the parent, where that is live
+    /// and has no page but of `count` pages from `first` on, or else at the live one.
     fn start_above(
         &self,
         region: RegionName,
@@ -430,8 +431,8 @@ impl Regions {
         parent
     }
 
-    /// A live region below a live one, with all of its pages among `count` pages from `first` on. If there are any, one
-    /// of them is a child of the live region, or of a region that has the first or the last of these pages.
+    /// Returns a live region below a live one, with all of its pages among `count` pages from `first` on. If there are
+    /// any, one of them is a child of the live region, or of a region that has the first or the last of these pages.
     fn within(&self, region: RegionName, first: PageNo, count: u64) -> Option<RegionName>
         ensures { MatchOption result (HasNoneWithin (regions_of self.now) region.0 first (first + count))
             (λ name. IsWithin (regions_of self.now) region.0 first (first + count) name.0) }
@@ -443,8 +444,8 @@ impl Regions {
         self.within_over(region, last, first, count)
     }
 
-    /// A live child of a live region, or of a region below it that has this page. All of the child's pages are among
-    /// `count` pages from `first` on.
+    /// Returns a live child of a live region, or of a region below it that has this page. All of the child's pages are
+    /// among `count` pages from `first` on.
     fn within_over(
         &self,
         region: RegionName,
@@ -469,7 +470,7 @@ impl Regions {
         }
     }
 
-    /// A region that has no live child: this one, or the first child of the first child, and so on.
+    /// Returns a region that has no live child: this one, or the first child of the first child, and so on.
     fn childless(&self, region: RegionName) -> RegionName
         ensures within { (above first end : ℕ) → IsWithin (regions_of self.now) above first end region.0
             → IsWithin (regions_of self.now) above first end result.0 }

@@ -25,7 +25,7 @@ pub(crate) struct ChildRow {
 pub(crate) type ChildRows = BalancedTree<ChildRow>;
 
 impl ChildRow {
-    /// The row of a child, with no links.
+    /// Returns the row of a child, with no links.
     fn new(parent: Koid, child: Koid) -> ChildRow
         ensures { result ≡ row_of parent.0 child.0 }
     {
@@ -118,7 +118,7 @@ pub(crate) fn remove_child(rows: &mut ChildRows, parent: Option<Koid>, child: Ko
     }
 }
 
-/// The child with the lowest koid of a VMO. `None` if and only if the VMO has no child.
+/// Returns the child with the lowest koid of a VMO. `None` if and only if the VMO has no child.
 pub(crate) fn first_child(rows: &ChildRows, parent: Koid) -> Option<Koid>
     ensures none { result ≡ None → (v : ℕ) → is_under rows.now parent.0 v ≡ false }
     ensures some { (child : Koid) → result ≡ Some child → is_under rows.now parent.0 child.0 ≡ true }
@@ -127,7 +127,7 @@ pub(crate) fn first_child(rows: &ChildRows, parent: Koid) -> Option<Koid>
     child_under(parent, rows.next(pair_rank(parent.0, 0)))
 }
 
-/// The child of the row that follows, if it is under this parent.
+/// Returns the child of the row that follows, if it is under this parent.
 fn child_under(parent: Koid, next: Option<ChildRow>) -> Option<Koid>
     ensures child { option_map koid_number result ≡ second_in parent_in child_in parent.0 next }
     ensures fits { IfSome next (λ row. row.child.0 < 2 ^ 64) }

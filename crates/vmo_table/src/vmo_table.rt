@@ -37,7 +37,7 @@ impl Model for VmoTable {
 }
 
 impl VmoTable {
-    /// A table with no name and no VMO.
+    /// Makes a table with no name and no VMO.
     pub fn new(alloc: Global) -> VmoTable
         ensures names { (name : ℕ) → names_of result name ≡ None }
         ensures lineage { (v : ℕ) → lineage_in result v ≡ None }
@@ -136,14 +136,14 @@ impl VmoTable {
         let _named = self.names.insert(name, target);
     }
 
-    /// What a name stands for. `None` if and only if the name is not open.
+    /// Returns what a name stands for. `None` if and only if the name is not open.
     pub fn resolve(&self, name: VmoName) -> Option<Target>
         ensures { result ≡ names_of self.now name.0 }
     {
         self.names.get(&name).copied()
     }
 
-    /// Closes a name that is open (`zx_handle_close`). If nothing keeps its VMO any more, the VMO leaves the table, its
+    /// Closes a name that is open (`zx_handle_close`). If nothing keeps its VMO then, the VMO leaves the table, its
     /// children get its parent, and its koid is the answer. Otherwise the answer is `None`.
     pub fn close(&mut self, name: VmoName) -> Option<Koid>
         requires { IsSome (names_of self.old name.0) }
@@ -175,7 +175,7 @@ impl VmoTable {
         write_back(&mut self.vmos, koid, kept);
     }
 
-    /// Takes `n` keepers of a VMO away. If nothing keeps the VMO any more, it leaves the table, its children get its
+    /// Takes `n` keepers of a VMO away. If nothing keeps the VMO then, it leaves the table, its children get its
     /// parent, and its koid is the answer. A VMO that is not in the table has its koid as the answer too. Otherwise the
     /// answer is `None`.
     pub fn release(&mut self, koid: Koid, n: u64) -> Option<Koid>
@@ -195,7 +195,7 @@ impl VmoTable {
         settle(&mut self.vmos, &mut self.child_rows, koid, left)
     }
 
-    /// Whether a VMO of the table may change its size.
+    /// Reports whether a VMO of the table may change its size.
     pub fn resizable(&self, koid: Koid) -> bool
         requires { IsSome (lineage_in self.now koid.0) }
         ensures { IfSome (lineage_in self.now koid.0) (λ l. result ≡ l.resizable) }
@@ -203,8 +203,8 @@ impl VmoTable {
         self.vmos[&koid].resizable
     }
 
-    /// How many children a VMO of the table has: the VMOs whose parent it is, and the slices and references that stand
-    /// for it.
+    /// Returns how many children a VMO of the table has: the VMOs whose parent it is, and the slices and references
+    /// that stand for it.
     pub fn children(&self, koid: Koid) -> u64
         requires { IsSome (lineage_in self.now koid.0) }
         ensures { result ≡ children (names_of self.now) (lineage_in self.now) koid.0 }
@@ -215,8 +215,8 @@ impl VmoTable {
         vmo.children + vmo.slices + vmo.references
     }
 
-    /// Whether the frames of a VMO of the table may be given back by a decommit: the VMO is no snapshot, no VMO is its
-    /// child, and no reference stands for it.
+    /// Reports whether the frames of a VMO of the table may be given back by a decommit: the VMO is no snapshot, no VMO
+    /// is its child, and no reference stands for it.
     pub fn may_decommit(&self, koid: Koid) -> bool
         requires { IsSome (lineage_in self.now koid.0) }
         ensures { IfSome (lineage_in self.now koid.0) (λ l.

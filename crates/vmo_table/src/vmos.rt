@@ -33,7 +33,7 @@ pub(crate) struct Vmo {
     pub keepers: u128,
 }
 
-/// 1 if two kinds are the same, else 0.
+/// Returns 1 if two kinds are the same, else 0.
 fn bit_of(kind: NameKind, other: NameKind) -> u64
     ensures { result ≡ kind_bit kind other }
 {
@@ -41,7 +41,7 @@ fn bit_of(kind: NameKind, other: NameKind) -> u64
 }
 
 impl Vmo {
-    /// The VMO with one name more of this kind.
+    /// Returns the VMO with one name more of this kind.
     pub fn add_name(self, kind: NameKind) -> Vmo
         requires names { self.names ≤ NAMES }
         requires slices { self.slices ≤ NAMES }
@@ -56,7 +56,7 @@ impl Vmo {
         }
     }
 
-    /// The VMO with one name less of this kind.
+    /// Returns the VMO with one name less of this kind.
     pub fn take_name(self, kind: NameKind) -> Vmo
         requires names { 1 ≤ self.names }
         requires slices { kind_bit NameKind.Slice kind ≤ self.slices }
@@ -71,7 +71,7 @@ impl Vmo {
         }
     }
 
-    /// Whether a name or a keeper keeps the VMO.
+    /// Reports whether a name or a keeper keeps the VMO.
     fn is_kept(self) -> bool
         ensures { result ≡ is_kept self }
     {
