@@ -86,7 +86,7 @@ impl<P: PageStore> Interpreter<P> for BatchInterpreter {
     ghost long = { GivesBatch-long };
 }
 
-/// Answers one line. `Failed` where the sink failed; the line was done all the same.
+/// Answers one line. `Failed` if the sink failed; the line was done all the same.
 #[inline(always)]
 fn answer_line<P: PageStore, K: Sink>(
     store: &mut P,

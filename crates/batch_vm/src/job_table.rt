@@ -44,7 +44,7 @@ impl JobTable {
         self.jobs.find(name.0 as u64, 0)
     }
 
-    /// Adds a job that is not there. `HostMemory` where the host has too little memory, and then nothing changes.
+    /// Adds a job that is not there. `HostMemory` if the host has too little memory, and then nothing changes.
     pub fn add(&mut self, name: JobName, job: Job) -> Result<(), HostMemory>
         requires { jobs_of self.old name.0 ≡ None }
         ensures ok { OnOk result (jobs_of self.new ≡ with_key (jobs_of self.old) name.0 job) }
@@ -57,7 +57,7 @@ impl JobTable {
         Ok(())
     }
 
-    /// Notes how far a job that is there has got. It goes where no page of it is left.
+    /// Notes how far a job that is there has got. It goes if no page of it is left.
     pub fn advance(&mut self, name: JobName, job: Job)
         requires there { IsSome (jobs_of self.old name.0) }
         requires inside { job.next ≤ job.end }

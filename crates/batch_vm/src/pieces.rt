@@ -18,7 +18,7 @@ pub fn pages_left(job: &Job) -> u64
     (job.end - job.next) / PAGE
 }
 
-/// Returns the bytes of the next `pages` pages of a job, or of all that are left where these are fewer. `pages` may be any
+/// Returns the bytes of the next `pages` pages of a job, or of all that are left if these are fewer. `pages` may be any
 /// number.
 pub fn piece_len(job: &Job, pages: u64) -> u64
     requires { IsGoodJob job.now }

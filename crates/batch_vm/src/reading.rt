@@ -23,7 +23,7 @@ pub enum BatchLine {
 }
 
 /// Reads one line, without its line feed: a line of the machine, `begin JOB KIND VMO OFFSET LEN`, `step JOB PAGES` or `drop JOB`.
-/// `SyntaxFault` where it has more than `LINE_BYTES` bytes, or where it is not blank, no comment and no command.
+/// `SyntaxFault` if it has more than `LINE_BYTES` bytes, or if it is not blank, no comment and no command.
 pub fn read_batch_line(line: &[u8]) -> Result<BatchLine, SyntaxFault>
     ensures { batch_reading_of result ≡ batch_reading line.now }
 {

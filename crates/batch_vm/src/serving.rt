@@ -18,8 +18,8 @@ use std::alloc::Global;
 /// line behind the program's name, are `batch`, or `batch --frames N`. Each line is answered, and its replies written, before the
 /// next line is looked at. The machine has 1,024 page frames, or as many as N says, with one to five digits from 1 to 65,536.
 ///
-/// `HostMemory` where the host has too little memory for the buffers and the frames. `ScriptLimit` where the source gives more than
-/// 4,294,967,296 bytes. `ReadFault` and `WriteFault` where the source and the sink fail. `Usage` for other words, and then nothing is
+/// `HostMemory` if the host has too little memory for the buffers and the frames. `ScriptLimit` if the source gives more than
+/// 4,294,967,296 bytes. `ReadFault` and `WriteFault` if the source and the sink fail. `Usage` for other words, and then nothing is
 /// touched.
 pub fn run_batch<P: PageStore, S: Source, K: Sink>(
     alloc: Global,

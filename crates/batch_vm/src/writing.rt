@@ -54,7 +54,7 @@ fn write_left(pages: u64, out: &mut [u8]) -> usize
 }
 
 /// Pushes the text of an answer, line by line, through a buffer of at least `TEXT_ROOM` bytes. `Failed`
-/// where the sink failed, and then it took a front part of the text.
+/// if the sink failed, and then it took a front part of the text.
 #[inline(always)]
 #[tactic(auto, unfolding(batch_model::specs::BatchLanguage::batch_text, batch_model::specs::BatchLanguage::batch_reply_lines, vm_model::specs::Language::Text::text))]
 pub fn push_batch_answer<K: Sink>(

@@ -22,7 +22,7 @@ use std::sync::ledger::{Blank, Ledger};
 use vm_base::PageNo;
 
 /// Returns the first row on the walk from a page of a node upwards, within the windows. `Nothing` exactly if there is none.
-/// The walk takes jumps where they serve.
+/// The walk takes jumps if they serve.
 #[inline(always)]
 pub fn holder_by_jumps(
     arena: &CowArena,
@@ -140,7 +140,7 @@ pub fn holder_by_jumps_counted<L: Ledger>(
     rise(arena, lists, jumps, leaf, page, steps)
 }
 
-/// Goes up from a page that has no row in its node's list, by jumps where they serve, and counts the steps of a look-up for each
+/// Goes up from a page that has no row in its node's list, by jumps if they serve, and counts the steps of a look-up for each
 /// node to which it comes.
 fn rise<L: Ledger>(
     arena: &CowArena,
@@ -176,7 +176,7 @@ fn rise<L: Ledger>(
 }
 
 /// Returns where a walk that goes on upwards from a page of a node comes to by the node's jump, if it has one that serves the
-/// page, or by one step. `None` only where the page is outside the node's window.
+/// page, or by one step. `None` only if the page is outside the node's window.
 #[inline(always)]
 fn next_place(
     arena: &CowArena,

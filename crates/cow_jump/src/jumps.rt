@@ -43,7 +43,7 @@ pub(crate) struct Place {
 pub struct JumpTable {
     /// By the number of the node. A node past the last has no jump.
     pub entries: Vec<Option<Jump>>,
-    /// By the number of the node. It is 0 where the node is gone or not hidden, and so is that of a node past the last.
+    /// By the number of the node. It is 0 if the node is gone or not hidden, and so is that of a node past the last.
     pub serials: Vec<u64>,
 }
 
@@ -103,7 +103,7 @@ impl JumpTable {
         })
     }
 
-    /// Gives a node a jump, or none, where there is room for it.
+    /// Gives a node a jump, or none, if there is room for it.
     pub(crate) fn set(&mut self, at: NodeId, jump: Option<Jump>)
         ensures here { IsGiven self.new at.0 jump }
         ensures others { (k : ℕ) → k ≢ at.0 → jump_in self.new k ≡ jump_in self.old k }
@@ -114,7 +114,7 @@ impl JumpTable {
         }
     }
 
-    /// Gives a node a serial number, where there is room for it.
+    /// Gives a node a serial number, if there is room for it.
     fn set_serial(&mut self, at: NodeId, serial: u64)
         ensures here { (serial_in self.new at.0 ≡ serial) ⊎ (serial_in self.new at.0 ≡ 0) }
         ensures others { (k : ℕ) → k ≢ at.0 → serial_in self.new k ≡ serial_in self.old k }

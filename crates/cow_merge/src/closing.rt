@@ -34,9 +34,9 @@ use page_list::PageLists;
 /// - at each row above the parent, a search for another VMO that sees there what the page sees;
 /// - the rows of the parent, and for each that moves into a hidden sibling, a search on each side of the sibling;
 /// - if the list is taken over, in place of all rows of the parent: the sibling's rows, and the rows of the parent
-///   outside one of the two windows; and if the sibling is hidden, the rows on a way down from each of its two children
-///   to a VMO's node, and the rows of the parent under these and outside the windows of the two ways, which is all rows
-///   of the parent if one of the ways is longer than 64 nodes (`share_rows`);
+///   outside one of the two windows. If the sibling is hidden, also the rows on a way down from each of its two
+///   children to a VMO's node. The rows of the parent under these and outside the windows of the two ways come to that,
+///   or all of them if one of the ways is longer than 64 nodes (`share_rows`);
 /// - the rows of the smaller of the two lists, to decide which list stays.
 ///
 /// The tree is exact over the frames that are taken, before and after. Every other VMO shows what it showed.
@@ -49,7 +49,7 @@ pub fn close(arena: &mut CowArena, lists: &mut PageLists, frames: &mut FramePool
     close_with(arena, lists, frames, None, leaf);
 }
 
-/// Does what `close` does, and goes up to rows by jumps where they serve.
+/// Does what `close` does, and goes up to rows by jumps if they serve.
 pub fn close_by_jumps(
     arena: &mut CowArena,
     lists: &mut PageLists,

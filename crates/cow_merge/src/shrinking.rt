@@ -41,7 +41,7 @@ pub fn shrink(
     shrink_with(arena, lists, frames, None, leaf, count);
 }
 
-/// Does what `shrink` does, and goes up to rows by jumps where they serve.
+/// Does what `shrink` does, and goes up to rows by jumps if they serve.
 pub fn shrink_by_jumps(
     arena: &mut CowArena,
     lists: &mut PageLists,

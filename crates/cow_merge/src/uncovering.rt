@@ -17,7 +17,7 @@ use frame_pool::FramePool;
 use page_list::{ListId, PageLists, Slot};
 use vm_base::PageNo;
 
-/// Removes the own rows of a VMO's node that goes, where its parent has a row of the same page, and gives their frames
+/// Removes the own rows of a VMO's node that goes, if its parent has a row of the same page, and gives their frames
 /// back. The node sees the rows of the parent then, and their split bits say so.
 pub(crate) fn uncover(
     arena: &CowArena,

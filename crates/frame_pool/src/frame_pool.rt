@@ -107,7 +107,7 @@ impl FramePool {
         Some(idle)
     }
 
-    /// Takes a frame that was never taken, where no frame was given back. Apart, so that `take` stays short.
+    /// Takes a frame that was never taken, if no frame was given back. Apart, so that `take` stays short.
     #[inline(never)]
     fn take_fresh(&mut self) -> Option<Tag>
         requires { self.old.idle ≡ [] }
@@ -141,7 +141,7 @@ impl FramePool {
         Some(to)
     }
 
-    /// Takes a frame that was never taken, where no frame was given back, and copies the bytes of a taken frame to it.
+    /// Takes a frame that was never taken, if no frame was given back, and copies the bytes of a taken frame to it.
     #[inline(never)]
     fn take_fresh_copy(&mut self, from: Tag) -> Option<Tag>
         requires idle { self.old.idle ≡ [] }

@@ -54,8 +54,8 @@ pub fn what_fits_is_told_one_after_another()
         Fits own numbers mine told → may_tell own.state.content.frames numbers mine told ≡ true }
 {}
 
-/// States that the numbers that were seen are those of the frames of pinned pages: at the beginning, after a step that
-/// tells no frames, once those of other frames are forgotten, and after a pin.
+/// States that the numbers that were seen are those of the frames of pinned pages. So it is at the beginning, after a
+/// pin, and after a step that tells no frames, once those of other frames are forgotten.
 pub fn what_was_seen_is_of_pinned_pages()
     ensures begins { (frames : ℕ) → AreSeen (empty_machine frames) (λ t. None) }
     ensures left { (own next : Machine) (command : Command) (reply : Reply) → IsGoodMachine own → GivesName command →
@@ -67,9 +67,9 @@ pub fn what_was_seen_is_of_pinned_pages()
         AreSeen next (with_seen numbers mine told) }
 {}
 
-/// States that the checker's machine follows a transcript, turn by turn: from no lines on, over blank lines and lines
-/// outside the grammar, over commands that tell no choice, refusals, places and pins whose numbers fit; and if it
-/// forgets what is pinned no more.
+/// States that the checker's machine follows a transcript, turn by turn, from no lines on. A turn is a blank line, a
+/// line outside the grammar, a command that tells no choice, a refusal, a place, or a pin whose numbers fit. It still
+/// follows if it forgets what is no longer pinned.
 pub fn the_own_machine_follows_a_transcript()
     ensures begins { (frames : ℕ) (numbers : ℕ → Option ℕ) → Follows frames (empty_machine frames) numbers [] }
     ensures blank { (frames : ℕ) (own : Machine) (numbers : ℕ → Option ℕ) (tells : List Told) (line : List ℕ) →
@@ -99,8 +99,9 @@ pub fn the_own_machine_follows_a_transcript()
         Follows frames own numbers tells → AreLeft own numbers later → Follows frames own later tells }
 {}
 
-/// States that behind whole turns no reply line may come; behind a line of a script one that a machine gives for which
-/// the checker's machine stands; and a second line of a script only if the first is blank.
+/// States what may not follow. Behind whole turns no reply line may come. Behind a line of a script only one may come
+/// that a machine gives for which the checker's machine stands. A second line of a script may come only if the first is
+/// blank.
 pub fn what_may_not_follow()
     ensures due { (frames : ℕ) (own : Machine) (numbers : ℕ → Option ℕ) (tells : List Told) (line : List ℕ) (more : List Told) →
         Follows frames own numbers tells → MayBegin frames (tells ++ Answered line ∷ more) → ⊥ }

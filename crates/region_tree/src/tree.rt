@@ -32,7 +32,7 @@ pub struct Destroyed {
     pub name: RegionName,
     /// What it was before.
     pub region: Region,
-    /// Its parent, where that is live and lies in the range too, or else the region that the range is asked for by.
+    /// Its parent, if that is live and lies in the range too, or else the region that the range is asked for by.
     pub next: RegionName,
 }
 
@@ -389,7 +389,7 @@ impl Regions {
     }
 
     /// Returns a live region below a live one that has no page but of `count` pages from `first` on: the one to begin
-    /// at, where that is one.
+    /// at, if that is one.
     fn within_from(
         &self,
         region: RegionName,
@@ -407,8 +407,8 @@ impl Regions {
         self.within(region, first, count)
     }
 
-    /// Returns where to go on above a region below a live one, which has this parent: at the parent, where that is live
-    /// and has no page but of `count` pages from `first` on, or else at the live one.
+    /// Returns where to go on above a region below a live one, which has this parent. That is the parent, if it is live
+    /// and has no page but of `count` pages from `first` on, or else the live one.
     fn start_above(
         &self,
         region: RegionName,

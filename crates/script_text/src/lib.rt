@@ -1,13 +1,13 @@
 //! The grammar of scripts: what one line says, as a command or as nothing, how the fields of a command are spelled, and
 //! the one canonical line of each command.
 //!
-//! It stands on `vm_base` for names and sets of flags, on `vm_model` for commands and for the definitions of how a line
-//! is read and a command is spelled, on `word_text` for writing numbers, byte data and permissions, on `hex` for
-//! reading byte data, on `bitflags` for the bits of a set of flags, on `memchr` for the ends of words, and on
-//! `arrayvec` for the words of a line. It takes no memory of the host. The layer above hands in one line without its
-//! line feed: `read_call` lends byte data from a buffer of the caller, and `read_line` gives a command with data of its
-//! own. The readers of single fields are there for other front ends, `next_word` cuts a word off a line, and `word_at`
-//! says where a word of a line stands. A program that makes scripts hands commands to `write_command`.
+//! It stands on `vm_base` for names and sets of flags, and on `vm_model` for commands, and for how a line is read and a
+//! command is spelled. Numbers, byte data and permissions are written by `word_text`. Byte data is read by `hex`, the
+//! ends of words are found by `memchr`, the words of a line stand in an `arrayvec`, and sets of flags are `bitflags`.
+//! It takes no memory of the host. The layer above hands in one line without its line feed: `read_call` lends byte data
+//! from a buffer of the caller, and `read_line` gives a command with data of its own. The readers of single fields are
+//! there for other front ends, `next_word` cuts a word off a line, and `word_at` says where a word of a line stands. A
+//! program that makes scripts hands commands to `write_command`.
 //!
 //! `words` cuts a line, `fields`, `field_groups` and `flags` read its words, `command_words` finds a command by its
 //! word, and `vmo_commands` and `region_commands` have the commands one by one. `frequent` reads the lines of two

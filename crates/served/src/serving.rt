@@ -15,8 +15,8 @@ use std::alloc::Global;
 use vm_base::{FRAMES, SCRIPT_BYTES};
 
 /// Answers the lines of the script that a source gives, one after another, over a store that gets `frames` page frames, from 1 to
-/// `FRAMES`. Each turn of the loop fetches one line and pushes its answer, and takes bytes of the source only if no whole line is left:
-/// this is proved of a turn, and no clause here speaks of the order of pulls and pushes.
+/// `FRAMES`. Each turn of the loop fetches one line and pushes its answer, and takes bytes of the source only if no whole line is
+/// left. This is proved of a turn, and no clause here speaks of the order of pulls and pushes.
 ///
 /// `Done` if the script ended and each line was answered. `HostMemory` if the host has too little memory for the buffers and the
 /// frames, and then nothing was read or written. `ReadFault` if the source fails, and then each whole line that it gave was
@@ -60,9 +60,9 @@ pub fn serve<P: PageStore, I: Interpreter<P>, S: Source, K: Sink>(
     }
 }
 
-/// Does `serve` for the words of a command line that are `verb`, and behind it nothing or `--frames N`: over `DEFAULT_FRAMES` page
-/// frames, or as many as N says with one to five digits, from 1 to `FRAMES`. Its limit is `SCRIPT_BYTES`. `Usage` if and only if the
-/// words are others, and then nothing is touched.
+/// Does `serve` for the words of a command line that are `verb`, and behind it nothing or `--frames N`. There are `DEFAULT_FRAMES`
+/// page frames, or as many as N says with one to five digits, from 1 to `FRAMES`. Its limit is `SCRIPT_BYTES`. `Usage` if and only
+/// if the words are others, and then nothing is touched.
 pub fn serve_words<P: PageStore, I: Interpreter<P>, S: Source, K: Sink>(
     alloc: Global,
     verb: &[u8],

@@ -19,8 +19,8 @@ use vm_core::Vm;
 use vm_model::Reply;
 
 /// A machine and its store, the tasks of the actors, and the journal of what they did. Contracts see these, and the number of
-/// page frames that the machine began with. In every room the journal is a run of the machine from nothing but its frames:
-/// each deed is the next task of its actor, and the machine and its store stand for the state in which this run ends.
+/// page frames that the machine began with. In every room the journal is a run of the machine from nothing but its frames,
+/// and the machine and its store stand for the state in which this run ends. Each deed is the next task of its actor.
 #[derive(Drop)]
 pub struct Room<P: PageStore> {
     frames: u32,

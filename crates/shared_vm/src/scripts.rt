@@ -43,9 +43,9 @@ impl Scripts {
     }
 
     /// Adds the task of a line of at most `LINE_BYTES` bytes, without its line feed. If the first word is `a0`, `a1`, `a2` or
-    /// `a3`, the task is that actor's: what follows the word is read as a line of a script, and is a command, or is outside the
-    /// grammar, or says nothing and gives no task. Any other line that is neither blank nor a comment is a task of a0 that is
-    /// outside the grammar. `HostMemory` if the host has too little memory, and then the lists stay.
+    /// `a3`, the task is that actor's. What follows the word is read as a line of a script. It is a command, or is outside
+    /// the grammar, or says nothing and gives no task. Any other line that is neither blank nor a comment is a task of a0
+    /// that is outside the grammar. `HostMemory` if the host has too little memory, and then the lists stay.
     pub fn add(&mut self, line: &[u8]) -> Result<(), HostMemory>
         requires { length line.now ≤ LINE_BYTES }
         ensures ok { OnOk result (self.new ≡ with_line self.old line.now) }

@@ -1,4 +1,4 @@
-//! A room may go from one thread to another (`Send`), where its store may. The check finds it from the fields.
+//! A room may go from one thread to another (`Send`), if its store may. The check finds it from the fields.
 
 use crate::room::Room;
 use crate::scripts::Scripts;

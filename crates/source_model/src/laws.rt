@@ -49,8 +49,8 @@ pub fn look_ups_find_the_text()
         ((v : ℕ) (l : Link) → link v ≡ Some l → l.parent.0 < v) → IsTextOf (state_over c names backing link) }
 {}
 
-/// States that the pages that show a page, to which a write of it is pushed, are the page itself and those that the write
-/// comes to from child to child, by pages that the children show and do not hold.
+/// States which pages show a page, so that a write of it is pushed to them. They are the page itself and those that the
+/// write comes to from child to child, by pages that the children show and do not hold.
 pub fn a_write_comes_to_what_shows_its_page()
     ensures { (s : SourceState) → IsGoodSources s → (v p w q : ℕ) →
         (shows (below_of s) v p w q ≡ true) ↔ Reaches s v p w q }

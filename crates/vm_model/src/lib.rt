@@ -1,9 +1,9 @@
 //! The machine that the whole project is proved against, and the plain types that it speaks of.
 //!
-//! `specs/` is what a reader must believe: contents of a page store, owning and writing pages, the
-//! refusals and the step of each command, how a line is read and a reply is spelled, and what a
-//! legal run over a script is. `src/` has the types of commands, replies and their byte data, and
-//! `laws` states what holds of the definitions alone.
+//! `specs/` is what a reader must believe. It has contents of a page store, owning and writing
+//! pages, and the refusals and the step of each command. It also has how a line is read and a reply
+//! is spelled, and what a legal run over a script is. `src/` has the types of commands, replies and
+//! their byte data, and `laws` states what holds of the definitions alone.
 //!
 //! It stands on `vm_base`, on `arrayvec` for byte data and on `hex` for the words on hex text. The
 //! layers above may use all of it.

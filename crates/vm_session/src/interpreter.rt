@@ -49,7 +49,7 @@ impl<P: PageStore> Interpreter<P> for VmInterpreter {
     ghost long = { GivesText-long };
 }
 
-/// Answers one line. `Failed` where the sink failed; the line was done all the same.
+/// Answers one line. `Failed` if the sink failed; the line was done all the same.
 #[inline(always)]
 fn answer_line<P: PageStore, K: Sink>(
     store: &mut P,

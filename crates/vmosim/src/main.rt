@@ -1,9 +1,9 @@
 //! The program: the machine over standard input and output.
 //!
 //! It makes the clone tree (`cow_forest`) as the store, hands it to `top` with standard input and output as a source
-//! and a sink, and ends with the status of the run. It hands on its own runtime as the one that starts threads and waits for them,
-//! which `top` does for actors alone, a gate that holds no actor back, and the functions that page sources are filled from. It
-//! writes nothing to standard error.
+//! and a sink, and ends with the status of the run. It also hands on the functions that page sources are filled from, a
+//! gate that holds no actor back, and its own runtime. That starts threads and waits for them, which `top` does for
+//! actors alone. It writes nothing to standard error.
 #![tactic(auto)]
 
 mod top;

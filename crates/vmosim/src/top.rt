@@ -26,15 +26,15 @@ use std::thread::Threads;
 use transcript::run_check;
 use vm_session::{Status, run};
 
-/// Does what `words` ask for, over the clone tree: what `vm_session`'s `run` does over any store, and with its promises; with the
-/// first word `batch` what `batch_vm`'s `run_batch` does; with `sources` what `source_vm`'s `run_sources` does; with `actors` what
-/// `shared_vm`'s `run_actors` does; and with `check` what `transcript`'s `run_check` does. This is the call that the program makes.
+/// Does what `words` ask for, over the clone tree. That is what `vm_session`'s `run` does over any store, with its promises. The
+/// first word may name another call: `batch` is `batch_vm`'s `run_batch`, `sources` is `source_vm`'s `run_sources`, `actors` is
+/// `shared_vm`'s `run_actors`, and `check` is `transcript`'s `run_check`. This is the call that the program makes.
 ///
-/// What is written is the replies of one legal run of the plain machine, in which a snapshot copies its range at once, and
-/// the tree has that machine's pages then. With `batch` the machine has jobs too. With `sources` it is another one, whose VMOs are
-/// filled from `functions`, one for each kind. With `actors` the run does the tasks of four
-/// actors, which take turns on it in any order, and the call may wait; it promises this if it returns. With `check` one line tells
-/// whether a script and its replies are a legal run, where the kernel may move pages that no pin covers, and the tree stays as it was.
+/// What is written is the replies of one legal run of the plain machine, in which a snapshot copies its range at once, and the
+/// tree has that machine's pages then. With `batch` the machine has jobs too. With `sources` it is another one, whose VMOs are
+/// filled from `functions`, one for each kind. With `actors` the run does the tasks of four actors, which take turns on it in any
+/// order, and the call may wait; it promises this if it returns. With `check` one line says whether a script and its replies are
+/// a legal run, where the kernel may move pages that no pin covers, and the tree stays as it was.
 ///
 /// The tree is there at first and has nothing. It is there afterwards, except after an answer `HostMemory` to `actors`.
 pub fn top<R: Threads + Wait + Sync, G: Gate, S: Source, K: Sink>(
