@@ -22,10 +22,11 @@ class Trouble(Exception):
 
 
 class Words(argparse.ArgumentParser):
-    """The words of a command line. The help ends with the text given, as it is laid out."""
+    """The words of a command line of a tool, which stands in tools/ unless it names another folder. The help ends with the text given,
+    as it is laid out."""
 
     def __init__(self, tool, **more):
-        super().__init__(prog=f"tools/{tool}", allow_abbrev=False, formatter_class=argparse.RawDescriptionHelpFormatter, **more)
+        super().__init__(prog=tool if "/" in tool else f"tools/{tool}", allow_abbrev=False, formatter_class=argparse.RawDescriptionHelpFormatter, **more)
 
     def error(self, message):
         raise Trouble(WRONG_WORD, f"{message}; '{self.prog} --help' lists the words")
