@@ -16,7 +16,10 @@ PINNED = {"create": 4, "child": 6, "close": 3, "resize": 4, "read": 2, "write": 
 ALL = {"create": 5, "child": 8, "close": 4, "resize": 3, "read": 5, "write": 8, "fill": 4, "commit": 3, "decommit": 3, "zero": 4, "pin": 4,
        "unpin": 4, "info": 4, "root": 2, "allocate": 4, "map": 8, "unmap": 3, "protect": 3, "destroy": 1, "maps": 3, "mem_read": 8,
        "mem_write": 8, "stat": 1, "other": 1}
-THEMES = {"clones": CLONES, "spaces": SPACES, "pins": PINNED, "all": ALL}
+# What the harness of examples/harness knows: no children, no pins, and one address space without regions in it.
+HOST = {"create": 6, "close": 3, "resize": 3, "read": 5, "write": 5, "fill": 3, "commit": 3, "decommit": 3, "zero": 4, "info": 5,
+        "first_root": 2, "map": 10, "unmap": 4, "protect": 4, "maps": 3, "mem_read": 10, "mem_write": 10, "stat": 1}
+THEMES = {"clones": CLONES, "spaces": SPACES, "pins": PINNED, "all": ALL, "host": HOST}
 
 
 class Commands:
@@ -132,6 +135,9 @@ class Commands:
 
     def root(self):
         return f"root_create r{self.given + 1}"
+
+    def first_root(self):
+        return "root_create r1"
 
     def allocate(self):
         size = self.mixer.randint(1, 4) * PAGE
