@@ -25,7 +25,7 @@ def check_built():
 def script(before, lines, count):
     """Returns the text of a script: the lines before, and then `count` lines, which are repeated."""
     repeated = "".join(f"{it}\n" for it in lines)
-    return ("".join(f"{it}\n" for it in before) + repeated * (count // len(lines))).encode()
+    return ("".join(f"{it}\n" for it in before) + repeated * (count // max(len(lines), 1))).encode()
 
 
 def replies(text, words=("run",), seconds=None):
