@@ -16,10 +16,9 @@ use Rattle.vm_model.proofs.SoleLaws.{sole-hold_keeps}
 use Rattle.vm_model.proofs.WritingLaws.{Written-from_WritesPiece, WritesPiece-keeps}
 use Rattle.page_store.specs.Pages.{look_at}
 use Rattle.page_store.proofs.ViewerLaws.{in_use-viewers, sole-viewers, IsOneMore-hold, IsOneMore-zeroed, IsOneMore-moved, viewers-more}
-use Rattle.fault.specs.inside.Needing.{need_by, have_one_frame}
-use Rattle.fault.specs.declared.writable.WritablePage.{WritablePage}
-use Rattle.fault.specs.inside.Writable.{MayOwn, IsLooked}
-use Rattle.vm_model.specs.Machine.Access.{page_shown}
+use Rattle.vm_base.specs.declared.refusal.Refusal.{Refusal}
+use Rattle.fault.specs.inside.Needing.{need_by, have_one_frame, FitsAs, LacksRoom}
+use Rattle.fault.specs.inside.Writable.{MayOwn}
 
 -- ---- a page with a frame that is counted as new
 
@@ -124,8 +123,31 @@ pub need-one : (c : Content) (v p : ℕ) → need_by (look_at c v (c.page v p)) 
 unfolding need_from
 need-one c v p = need_by-sole c v (c.page v p)
 
-pub need-found : (c : Content) (page : WritablePage) → IsLooked c page → need_by page.look ≡ need_each c (page_shown page.entry ∷ [])
-need-found c page looked = ap need_by looked ∙ need-one c page.entry.koid.0 page.entry.page
+-- a count that is the need fits in as it does
+pub FitsAs-same : (c : Content) (count need : ℕ) → count ≡ need → FitsAs c count need
+FitsAs-same c count need same = record { enough = λ fits. omega (arith, fits, same); lack = λ few. omega (arith, few, same) }
+
+-- where a frame is free, one fits in, and so does the need of a page
+pub FitsAs-free : (c : Content) (v p : ℕ) → used c < c.frames → FitsAs c 1 (need_each c (record { koid = v; page = p } ∷ []))
+unfolding need_from
+FitsAs-free c v p free = record {
+  enough = λ fits. let most = at-most-one in omega (arith, fits, most);
+  lack = λ few. absurd (omega (arith, few, free));
+}
+  where
+    bit : (alone : Bool) → cond alone 0 1 ≤ 1
+    bit true = omega arith
+    bit false = omega arith
+
+    at-most-one : need_each c (record { koid = v; page = p } ∷ []) ≤ 1
+    at-most-one = bit (sole c v p)
+
+-- why there is no room for the count is why there is none for the need
+pub LacksRoom-as : (c : Content) (count need faults : ℕ) (refusal : Refusal) → FitsAs c count need → LacksRoom c count faults refusal → LacksRoom c need faults refusal
+LacksRoom-as c count need faults refusal fits lacks = elim lacks [
+  | inl frames ↦ inl (fits.lack frames.0, frames.1)
+  | inr host ↦ inr (fits.enough host.0, host.1, host.2)
+]
 
 -- ---- the need of two pages
 

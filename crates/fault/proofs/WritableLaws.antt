@@ -8,7 +8,7 @@ use Rattle.vm_base.proofs.EntryLaws.{some_same}
 use Rattle.vm_model.specs.declared.space.Entry.{Entry}
 use Rattle.vm_model.specs.declared.space.Readiness.{Readiness}
 use Rattle.vm_model.specs.declared.space.Readiness.TheVariants.{Read, Write}
-use Rattle.vm_model.specs.Contents.Content.{Page, Content, used, sole, is_sole_page}
+use Rattle.vm_model.specs.Contents.Content.{Page, Content, used, sole}
 use Rattle.vm_model.specs.Contents.Owning.{need_from, need_each}
 use Rattle.vm_model.specs.Space.Readiness.{frame_at, is_writable}
 use Rattle.vm_model.specs.Machine.Access.{refusal_at}
@@ -18,9 +18,7 @@ use Rattle.fault.specs.declared.checking.TouchedPage.{TouchedPage}
 use Rattle.fault.specs.declared.writable.WritablePage.{WritablePage}
 use Rattle.fault.specs.Table.{Places, AreTrue, ready_of, frame_in, IsOfEntry}
 use Rattle.fault.specs.inside.Touching.{IsTouched}
-use Rattle.page_store.specs.Pages.{look_at}
-use Rattle.page_store.specs.declared.page_store.Look.{Look}
-use Rattle.fault.specs.inside.Writable.{writing_frame, sole_frame, IsAbsent, IsSoleWith, IsWritable, MayOwn}
+use Rattle.fault.specs.inside.Writable.{writing_frame, IsAbsent, IsSoleWith, IsWritable, MayOwn}
 use Rattle.fault.proofs.CheckLaws.{below-free}
 
 -- a page that is ready for writing is ready for that
@@ -42,19 +40,6 @@ IsAbsent-stays places now root p page same absent = λ e. ap (λ (m : Places). m
 none-of : (o : Option Translation) → is_some o ≡ false → o ≡ None
 none-of None e = refl
 none-of (Some x) e = absurd cc
-
--- a page that was seen to be sole is sole, with the frame that was seen
-sole-looked : (c : Content) (v p : ℕ) (tag : Tag) → sole_frame (look_at c v (c.page v p)) ≡ Some tag → IsSoleWith c v p tag.0
-sole-looked c v p tag seen = go (c.page v p) refl where
-  go : (o : Option Page) → c.page v p ≡ o → IsSoleWith c v p tag.0
-  go None e = absurd (let none : ◌≡◌ {A = Option Tag} None (Some tag) = rw e at seen in cc)
-  go (Some held) e = elim (cases_Bool (is_sole_page c v (Some held))) [
-    | inl alone ↦
-        let same : ◌≡◌ {A = Option Tag} (Some (record { 0 = held.tag })) (Some tag) = rw (e, alone) at seen in
-        let number : held.tag ≡ tag.0 = ap (λ (t : Tag). t.0) (some_same same) in
-        record { alone = rw e alone; frame = rw e (ap (λ (n : ℕ). Some n) number) }
-    | inr shared ↦ absurd (let none : ◌≡◌ {A = Option Tag} None (Some tag) = rw (e, shared) at seen in cc)
-  ]
 
 module _ (c : Content) (table : ℕ → ℕ → Option Entry) (places : Places) (root p : ℕ) (are : AreTrue c table places) where
   -- the translation that the page has, if it has one, is of the entry
@@ -99,15 +84,14 @@ module _ (c : Content) (table : ℕ → ℕ → Option Entry) (places : Places) 
       | inr reads ↦ absurd (let none : frame ≡ None = rw reads at f in cc)
     ]
 
-    pub sole_with-touched : (tag : Tag) → frame ≡ Some tag → IsSoleWith c touched.entry.koid.0 touched.entry.page tag.0
+    sole_with-touched : (tag : Tag) → frame ≡ Some tag → IsSoleWith c touched.entry.koid.0 touched.entry.page tag.0
     sole_with-touched tag e = held touched.translation is.translation same tag e
 
     -- and so it may be written
-    pub IsWritable-from_IsTouched : (translated : Bool) (seen : Look) → translated ≡ is_some touched.translation
-        → seen ≡ look_at c touched.entry.koid.0 (c.page touched.entry.koid.0 touched.entry.page)
-        → IsWritable c table places root p (record { entry = touched.entry; translated = translated; frame = frame; look = seen })
+    pub IsWritable-from_IsTouched : (translated : Bool) → translated ≡ is_some touched.translation
+        → IsWritable c table places root p (record { entry = touched.entry; translated = translated; frame = frame })
         × (refusal_at c right (table root p) ≡ None)
-    IsWritable-from_IsTouched translated seen translated_is looked = (
+    IsWritable-from_IsTouched translated translated_is = (
       record {
         entry = is.entry;
         ready = ready-is touched.translation is.translation same;
@@ -115,7 +99,6 @@ module _ (c : Content) (table : ℕ → ℕ → Option Entry) (places : Places) 
         store = record {
           below = below-free c right touched.entry is.free;
           frame = sole_with-touched;
-          sole = λ tag e. sole-looked c touched.entry.koid.0 touched.entry.page tag (ap sole_frame (sym looked) ∙ e);
         };
       },
       ap (refusal_at c right) is.entry ∙ is.free,

@@ -267,6 +267,5 @@ module _ (c : Content) (table : ℕ → ℕ → Option Entry) (old : Places) (ro
     store = record {
       below = omega (arith, is.store.below, written-here.kept.pages other.entry.koid.0);
       frame = λ tag e. sole-still other tag.0 (is.store.frame tag e);
-      sole = λ tag e. sole-still other tag.0 (is.store.sole tag e);
     };
   }

@@ -4,16 +4,27 @@ ghost use Rattle.std.specs.Prelude.{◌≡◌, ◌&&◌, ◌==◌, [], ◌∷◌
 ghost use Rattle.vm_model.specs.Contents.Content.{IsGood};
 ghost use Rattle.vm_model.specs.Contents.Owning.{need_each};
 ghost use Rattle.vm_model.specs.Machine.Access.{page_shown};
-ghost use Rattle.fault.specs.inside.Needing.{need_by, have_one_frame};
-ghost use Rattle.fault.specs.inside.Writable.{IsInStore, IsLooked};
+ghost use Rattle.fault.specs.inside.Needing.{need_by, have_one_frame, FitsAs};
+ghost use Rattle.fault.specs.inside.Writable.{IsInStore};
 
-use crate::writable::WritablePage;
+use crate::writable::{WritablePage, look};
 use page_store::{Look, PageStore};
 use vm_model::Entry;
 
+/// Returns how many frames have to be free for a write to one page. If a frame is free, it is 1 whatever the page is: one
+/// is enough, and the store is not asked. Otherwise it is how many frames it takes to own the page.
+pub(crate) fn frames_for_one<P: PageStore>(store: &P, page: &WritablePage) -> u64
+    requires { IsInStore (P.content store.now) page.now }
+    ensures { FitsAs (P.content store.now) result (need_each (P.content store.now) (page_shown page.now.entry ∷ [])) }
+{
+    if page.frame.is_none() && store.free() > 0 {
+        return 1;
+    }
+    need_of(look(store, page))
+}
+
 /// How many frames it takes to own two pages, one after another. If both show one page of one VMO, it is one frame at
-/// most. If two pages show one frame, the second needs a frame only if a third shows that frame too. The store is asked
-/// for this alone.
+/// most. If two pages show one frame, the second needs a frame only if a third shows that frame too.
 pub(crate) fn frames_needed<P: PageStore>(
     store: &P,
     first: &WritablePage,
@@ -21,17 +32,17 @@ pub(crate) fn frames_needed<P: PageStore>(
 ) -> u64
     requires good { IsGood (P.content store.now) }
     requires first { IsInStore (P.content store.now) first.now }
-    requires first_look { IsLooked (P.content store.now) first.now }
     requires second { IsInStore (P.content store.now) second.now }
-    requires second_look { IsLooked (P.content store.now) second.now }
     ensures { result ≡ need_each (P.content store.now) (page_shown first.now.entry ∷ page_shown second.now.entry ∷ []) }
 {
-    let need = need_of(first.look);
+    let first_look = look(store, first);
+    let need = need_of(first_look);
     if show_same_page(&first.entry, &second.entry) {
         return need;
     }
-    if !have_same_frame(first.look, second.look) {
-        return need + need_of(second.look);
+    let second_look = look(store, second);
+    if !have_same_frame(first_look, second_look) {
+        return need + need_of(second_look);
     }
     if store.viewers(second.entry.koid, second.entry.page) > 2 {
         2
@@ -40,8 +51,8 @@ pub(crate) fn frames_needed<P: PageStore>(
     }
 }
 
-/// How many frames it takes to own a page: one, if the page is not sole.
-pub(crate) fn need_of(look: Look) -> u64
+// How many frames it takes to own a page: one, if the page is not sole.
+fn need_of(look: Look) -> u64
     ensures { result ≡ need_by look }
 {
     match look {

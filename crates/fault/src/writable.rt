@@ -1,14 +1,13 @@
 //! The pages that a write touches, as they are found before anything is written.
 
 ghost use Rattle.std.specs.Prelude.{◌≡◌, ◌<◌, None, Some, MatchResult};
-ghost use Rattle.vm_base.specs.declared.names.Tag.{Tag};
 ghost use Rattle.mapping_set.specs.Tables.{table_of};
 ghost use Rattle.page_store.specs.Pages.{look_at};
 ghost use Rattle.vm_model.specs.Contents.Content.{pages_of};
 ghost use Rattle.vm_model.specs.Space.Rights.{writing};
 ghost use Rattle.vm_model.specs.Machine.Access.{refusal_at};
 ghost use Rattle.fault.specs.Table.{AreBacked, AreTrue, places_of};
-ghost use Rattle.fault.specs.inside.Writable.{IsWritable, IsLooked, IsSoleWith, fault_of, writing_frame};
+ghost use Rattle.fault.specs.inside.Writable.{IsInStore, IsWritable, fault_of, writing_frame};
 
 use crate::translation::Translation;
 use crate::translations::Translations;
@@ -17,7 +16,7 @@ use page_store::{Look, PageStore};
 use vm_base::{PageNo, Perm, Refusal, RegionName, Tag};
 use vm_model::{Entry, Readiness};
 
-/// A page that a write may touch, with all that the write needs to know of the page. So the page is looked up once.
+/// A page that a write may touch.
 #[derive(Clone, Copy)]
 pub(crate) struct WritablePage {
     /// The entry of the page: what it shows.
@@ -26,8 +25,6 @@ pub(crate) struct WritablePage {
     pub(crate) translated: bool,
     /// The frame, if the page is translated for writing. No other VMO shows this frame.
     pub(crate) frame: Option<Tag>,
-    /// What the page of the VMO is, as it was before the write.
-    pub(crate) look: Look,
 }
 
 impl WritablePage {
@@ -43,8 +40,8 @@ impl WritablePage {
 }
 
 impl Translations {
-    /// Tests whether a write may touch a page, and answers what it finds. It is refused as `check` refuses it. It costs
-    /// what `check` costs, and one look at the store if the page is not translated for writing.
+    /// Tests whether a write may touch a page, and answers what it finds. It is refused as `check` refuses it, and costs
+    /// what `check` costs.
     #[inline]
     pub(crate) fn check_write<P: PageStore>(
         &self,
@@ -57,36 +54,29 @@ impl Translations {
         requires translations { AreTrue (P.content store.now) (table_of maps.now) (places_of self.now) }
         ensures { MatchResult result
             (λ found. IsWritable (P.content store.now) (table_of maps.now) (places_of self.now) root.0 page found
-            × (refusal_at (P.content store.now) writing (table_of maps.now root.0 page) ≡ None)
-            × IsLooked (P.content store.now) found)
+            × (refusal_at (P.content store.now) writing (table_of maps.now root.0 page) ≡ None))
             (λ refusal. refusal_at (P.content store.now) writing (table_of maps.now root.0 page) ≡ Some refusal) }
     {
         match self.check(store, maps, root, page, Perm::WRITE) {
-            Ok(touched) => {
-                let entry = touched.entry;
-                let frame = frame_to_write(touched.translation);
-                Ok(WritablePage {
-                    entry,
-                    translated: touched.translation.is_some(),
-                    frame,
-                    look: look(store, entry, frame),
-                })
-            }
+            Ok(touched) => Ok(WritablePage {
+                entry: touched.entry,
+                translated: touched.translation.is_some(),
+                frame: frame_to_write(touched.translation),
+            }),
             Err(refusal) => Err(refusal),
         }
     }
 }
 
-// What the page of the VMO is. If the page is translated for writing, with this frame, the store is not asked.
+/// Returns what the page of the VMO is that a write found. If the page is translated for writing, the store is not asked.
 #[inline]
-fn look<P: PageStore>(store: &P, entry: Entry, frame: Option<Tag>) -> Look
-    requires below { entry.page < pages_of (P.content store.now) entry.koid.0 }
-    requires frame { (tag : Tag) → frame ≡ Some tag → IsSoleWith (P.content store.now) entry.koid.0 entry.page tag.0 }
-    ensures { result ≡ look_at (P.content store.now) entry.koid.0 ((P.content store.now).page entry.koid.0 entry.page) }
+pub(crate) fn look<P: PageStore>(store: &P, page: &WritablePage) -> Look
+    requires { IsInStore (P.content store.now) page.now }
+    ensures { result ≡ look_at (P.content store.now) page.now.entry.koid.0 ((P.content store.now).page page.now.entry.koid.0 page.now.entry.page) }
 {
-    match frame {
+    match page.frame {
         Some(tag) => Look::Held { tag, sole: true },
-        None => look_in_store(store, entry),
+        None => look_in_store(store, page.entry),
     }
 }
 

@@ -9,15 +9,15 @@ ghost use Rattle.vm_model.specs.Contents.Owning.{Owns};
 ghost use Rattle.fault.specs.Table.{AreBacked, AreTrue, IsOfEntry, places_of, room_of};
 ghost use Rattle.fault.specs.Access.{AnswersWrite, Writes};
 ghost use Rattle.fault.specs.inside.Both.{AreFound, Finds, RefusesTwo};
-ghost use Rattle.fault.specs.inside.Writable.{IsInStore, IsAbsent, MayOwn, WritesTo, fault_of, faulted, sole_frame};
+ghost use Rattle.fault.specs.inside.Writable.{IsInStore, IsAbsent, MayOwn, WritesTo, fault_of, faulted};
 ghost use Rattle.fault.specs.inside.Needing.{IsReady, LacksRoom};
 
-use crate::needing::{frames_needed, need_of};
+use crate::needing::{frames_for_one, frames_needed};
 use crate::translation::Translation;
 use crate::translations::Translations;
 use crate::writable::WritablePage;
 use mapping_set::MappingSet;
-use page_store::{Look, PageStore};
+use page_store::PageStore;
 use vm_base::{DATA_BYTES, PAGE, PageNo, Refusal, RegionName, Tag, in_page, page_of};
 use vm_model::Readiness;
 
@@ -77,7 +77,7 @@ impl Translations {
             Ok(found) => found,
             Err(refusal) => return Err(refusal),
         };
-        let need = need_of(found.look);
+        let need = frames_for_one(store, &found);
         let faults = found.faults();
         match self.make_ready(store, need, faults) {
             Ok(()) => {}
@@ -279,7 +279,7 @@ impl Translations {
         ensures spare { P.spare store.old ≤ P.spare store.new + 1 }
         ensures room { room_of self.old ≤ room_of self.new + 1 }
     {
-        let tag = owned_frame(store, found);
+        let tag = store.own(found.entry.koid, found.entry.page);
         self.translate_to_write(root, page, found, tag);
         tag
     }
@@ -302,30 +302,5 @@ impl Translations {
         } else {
             self.translate(root, page, translation);
         }
-    }
-}
-
-// Owns the page of the VMO, and answers its frame. If the page was seen to be sole, the store is not asked.
-fn owned_frame<P: PageStore>(store: &mut P, found: WritablePage) -> Tag
-    requires good { IsGood (P.content store.old) }
-    requires found { IsInStore (P.content store.old) found }
-    requires free { MayOwn (P.content store.old) found.entry.koid.0 found.entry.page }
-    requires spare { 1 ≤ P.spare store.old }
-    ensures owns { Owns (P.content store.old) (P.content store.new) found.entry.koid.0 found.entry.page result.0 }
-    ensures spare { P.spare store.old ≤ P.spare store.new + 1 }
-{
-    match sole_frame(found.look) {
-        Some(tag) => tag,
-        None => store.own(found.entry.koid, found.entry.page),
-    }
-}
-
-// The frame of a page that was seen to be sole.
-fn sole_frame(look: Look) -> Option<Tag>
-    ensures { result ≡ sole_frame look }
-{
-    match look {
-        Look::Held { tag, sole } if sole => Some(tag),
-        _ => None,
     }
 }

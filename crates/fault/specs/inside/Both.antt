@@ -10,11 +10,11 @@ use Rattle.vm_model.specs.Space.Rights.{writing}
 use Rattle.fault.specs.declared.writable.WritablePage.{WritablePage}
 use Rattle.fault.specs.Table.{Places, AreTrue}
 use Rattle.fault.specs.Access.{IsDenied}
-use Rattle.fault.specs.inside.Writable.{IsLooked, IsWritable}
+use Rattle.fault.specs.inside.Writable.{IsWritable}
 
 -- what a check for writing finds of page p, which may be written
 abbrev pub Finds : Content → (ℕ → ℕ → Option Entry) → Places → (root p : ℕ) → WritablePage → Type 0
-Finds c table places root p page = IsWritable c table places root p page × (refusal_at c writing (table root p) ≡ None) × IsLooked c page
+Finds c table places root p page = IsWritable c table places root p page × (refusal_at c writing (table root p) ≡ None)
 
 -- page p or the one behind it refuses a write with this refusal, which comes before every other
 abbrev pub RefusesTwo : Content → (ℕ → ℕ → Option Entry) → (root p : ℕ) → Refusal → Type 0

@@ -16,6 +16,11 @@ abbrev pub have_one_frame : Look → Look → Bool
 have_one_frame (Held first _) (Held second _) = first.0 == second.0
 have_one_frame _ _ = false
 
+-- as many frames fit in with those in use as with the other count
+pub record FitsAs (c : Content) (count need : ℕ) : Type 0 where
+  pub enough : used c + count ≤ c.frames → used c + need ≤ c.frames
+  pub lack : c.frames < used c + count → c.frames < used c + need
+
 -- So many frames are free, and a store and the translations have room for so many page faults.
 pub record IsReady (c : Content) (need faults rows places : ℕ) : Type 0 where
   pub free : used c + need ≤ c.frames

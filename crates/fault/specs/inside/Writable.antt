@@ -7,9 +7,7 @@ use Rattle.vm_model.specs.declared.space.Readiness.TheVariants.{Write}
 use Rattle.vm_model.specs.Contents.Content.{Content, sole, used, pages_of}
 use Rattle.vm_model.specs.Contents.Owning.{Owns}
 use Rattle.vm_model.specs.Space.Readiness.{frame_at, is_writable}
-use Rattle.page_store.specs.declared.page_store.Look.{Look}
-use Rattle.page_store.specs.declared.page_store.Look.TheVariants.{Zero, Held}
-use Rattle.page_store.specs.Pages.{Overwrites, look_at}
+use Rattle.page_store.specs.Pages.{Overwrites}
 use Rattle.fault.specs.declared.translation.Translation.{Translation}
 use Rattle.fault.specs.declared.writable.WritablePage.{WritablePage}
 use Rattle.fault.specs.Table.{Places, ready_of, with_translation, without, is_outdated}
@@ -24,21 +22,10 @@ pub record IsSoleWith (c : Content) (v p tag : ℕ) : Type 0 where
   pub alone : sole c v p ≡ true
   pub frame : frame_at c v p ≡ Some tag
 
--- what was seen of the page of the VMO is what it is
-abbrev pub IsLooked : Content → WritablePage → Type 0
-IsLooked c page = page.look ≡ look_at c page.entry.koid.0 (c.page page.entry.koid.0 page.entry.page)
-
--- the frame of a page that was seen to be sole
-abbrev pub sole_frame : Look → Option Tag
-sole_frame Zero = None
-sole_frame (Held tag alone) = if alone then Some tag else None
-
--- The page of the VMO is a page of the store. It is sole with the frame of the found page, or with the frame with which
--- it was seen to be sole.
+-- The page of the VMO is a page of the store. If the found page has a frame, the page of the VMO is sole with it.
 pub record IsInStore (c : Content) (page : WritablePage) : Type 0 where
   pub below : page.entry.page < pages_of c page.entry.koid.0
   pub frame : (tag : Tag) → page.frame ≡ Some tag → IsSoleWith c page.entry.koid.0 page.entry.page tag.0
-  pub sole : (tag : Tag) → sole_frame page.look ≡ Some tag → IsSoleWith c page.entry.koid.0 page.entry.page tag.0
 
 -- if the page of the address space was found to have no translation, it has none
 abbrev pub IsAbsent : Places → (root p : ℕ) → WritablePage → Type 0

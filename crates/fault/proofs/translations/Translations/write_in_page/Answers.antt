@@ -1,7 +1,7 @@
 use Rattle.std.proofs.Common.{refl, ◌∙◌, arith}
 use Rattle.fault.proofs.AskedLaws.{AreAsked-one, IsDenied-first, IsDenied-room, wants-one}
 use Rattle.fault.proofs.PartLaws.{part_at-first, part_bytes-all}
-use Rattle.fault.proofs.NeedingLaws.{need-found}
+use Rattle.fault.proofs.NeedingLaws.{LacksRoom-as}
 use Rattle.fault.proofs.ThroughLaws.{Writes-one}
 use Rattle.fault.proofs.TouchedLaws.{touched-one}
 use Rattle.fault.proofs.WritableLaws.{entry-found, IsAbsent-stays, one-free}
@@ -18,7 +18,7 @@ returns-in-Err-make_ready-clause-outcome g c =
     let found = rw c.page_of-page.ensures at c.in-Ok.ensures in
     let ready = c.in-Err-make_ready.ensures in
     rw (touched-one c.args.addr _ c.requires.some c.requires.one) (
-      IsDenied-room _ _ _ _ (AreAsked-one _ _ _ _ _ found.0.entry found.1) _ _ _ (rw (c.need_of-need.ensures, need-found (g.P.PageStore.content c.args.store.now) c.in-Ok.found c.in-Ok.ensures.2, c.faults-faults.ensures) at ready.err)
+      IsDenied-room _ _ _ _ (AreAsked-one _ _ _ _ _ found.0.entry found.1) _ _ _ (LacksRoom-as _ _ _ _ _ c.frames_for_one-need.ensures (rw c.faults-faults.ensures at ready.err))
           (wants-one _ _ _ _ _ _ found.0),
       ready.content,
       ready.places,
@@ -31,7 +31,7 @@ write_page-requires-clause-same g c =
 pub write_page-requires-clause-free : goal.write_page-requires-clause-free
 write_page-requires-clause-free g c =
     rw c.in-Ok-make_ready.ensures.content
-    (one-free _ _ _ (rw (c.need_of-need.ensures, need-found (g.P.PageStore.content c.args.store.now) c.in-Ok.found c.in-Ok.ensures.2) at c.in-Ok-make_ready.ensures.ok.free))
+    (one-free _ _ _ (c.frames_for_one-need.ensures.enough c.in-Ok-make_ready.ensures.ok.free))
 
 pub write_page-requires-clause-absent : goal.write_page-requires-clause-absent
 write_page-requires-clause-absent g c =
@@ -44,7 +44,7 @@ returns-clause-outcome g c =
     let writes = rw (ready.content, ready.places, c.page_of-page.ensures) at c.write_page.ensures.writes in
     rw c.faults-faults.ensures (Writes-one _ _ _ _ _ _ _ _ _ _ c.requires.backed.good c.requires.translations found.0
     (omega (arith, c.in_page.ensures, c.requires.one)) writes c.args.addr c.args.bytes.now (touched-one c.args.addr _ c.requires.some c.requires.one)
-    (AreAsked-one _ _ _ _ _ found.0.entry found.1) (rw (c.need_of-need.ensures, need-found (g.P.PageStore.content c.args.store.now) c.in-Ok.found c.in-Ok.ensures.2) at ready.ok.free) (c.in_page.ensures ∙ part_at-first c.args.addr)
+    (AreAsked-one _ _ _ _ _ found.0.entry found.1) (c.frames_for_one-need.ensures.enough ready.ok.free) (c.in_page.ensures ∙ part_at-first c.args.addr)
     (part_bytes-all c.args.addr c.args.bytes.now c.requires.one))
 
 pub returns-clause-translations : goal.returns-clause-translations

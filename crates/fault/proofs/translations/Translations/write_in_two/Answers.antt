@@ -71,9 +71,3 @@ frames_needed-need-requires-clause-first g c = c.in-Ok.ensures.0.0.store
 
 pub frames_needed-need-requires-clause-second : goal.frames_needed-need-requires-clause-second
 frames_needed-need-requires-clause-second g c = c.in-Ok.ensures.1.0.store
-
-pub frames_needed-need-requires-clause-first_look : goal.frames_needed-need-requires-clause-first_look
-frames_needed-need-requires-clause-first_look g c = c.in-Ok.ensures.0.2
-
-pub frames_needed-need-requires-clause-second_look : goal.frames_needed-need-requires-clause-second_look
-frames_needed-need-requires-clause-second_look g c = c.in-Ok.ensures.1.2
