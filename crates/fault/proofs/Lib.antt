@@ -10,6 +10,7 @@ pub mod FrameLaws
 pub mod ReadLaws
 pub mod EmptyLaws
 pub mod FindLaws
+pub mod FirstLaws
 pub mod ForgettingLaws
 pub mod NeedingLaws
 pub mod OwnedLaws

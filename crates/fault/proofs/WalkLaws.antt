@@ -10,15 +10,11 @@ use Rattle.vm_model.specs.Space.Readiness.{shows_in}
 use Rattle.fault.specs.declared.translation.Kept.{Kept}
 use Rattle.fault.specs.declared.translation.Place.{Place}
 use Rattle.fault.specs.declared.translation.FrameList.{FrameList}
-use Rattle.fault.specs.inside.Walks.{Keeping, changed_where, is_place, is_member, HasNoPlace, IsNextPlace, HasNoList, IsNextList, HasNoMember, IsNextMember}
+use Rattle.fault.specs.inside.Walks.{Keeping, changed_where, is_place, is_member, member_below, LacksFirst, HasNoPlace, IsNextPlace, HasNoList, IsNextList, HasNoMember, IsNextMember}
 use Rattle.fault.proofs.PairLaws.{missing}
 use Rattle.fault.proofs.PlaceLaws.{IsOnce, changed-none, changed-then, changed-rest}
 
 -- ---- the members of a list, one after another
-
--- it is of the list, and its serial is below `from`
-abbrev pub member_below : (list from : ℕ) → ℕ → ℕ → Kept → Bool
-member_below list from r p k = is_member list k && nat_lt k.serial from
 
 -- what is below a serial is below a greater one
 below-more : (member : Bool) (serial from to : ℕ) → from ≤ to → (member && nat_lt serial from) ≡ true → (member && nat_lt serial to) ≡ true
@@ -38,6 +34,15 @@ module _ (change : Kept → Option Kept) (once : IsOnce change) (list : ℕ) whe
   -- no member has a serial below 0
   pub members-start : (kept : Keeping) → kept ≡ changed_where change (member_below list 0) kept
   members-start kept = changed-none change kept (member_below list 0) (λ r p k h. and_right (is_member list k) (nat_lt k.serial 0) (le-ltb k.serial 0 (omega arith)))
+
+  -- a list without its first member has none that is not above its number
+  pub members-above : (kept : Keeping) → LacksFirst kept list → kept ≡ changed_where change (member_below list (list + 1)) kept
+  members-above kept lacks = changed-none change kept (member_below list (list + 1)) (λ r p k at. elim (cases_Bool (is_member list k)) [
+    | inl member ↦
+        let above = lacks r p k at (eqb_is k.list list member) in
+        and_right (is_member list k) (nat_lt k.serial (list + 1)) (le-ltb k.serial (list + 1) (omega arith))
+    | inr apart ↦ and_left (is_member list k) (nat_lt k.serial (list + 1)) apart
+  ])
 
   module _ (old mid : Keeping) (from : ℕ) (is : mid ≡ changed_where change (member_below list from) old) where
     -- the next member is changed

@@ -1,16 +1,16 @@
 //! How translations are forgotten, or left for reading alone.
 
-ghost use Rattle.std.specs.Prelude.{◌≡◌, ◌+◌, ◌≤◌, ◌&&◌, IsSome};
+ghost use Rattle.std.specs.Prelude.{◌≡◌, ◌+◌, ◌^◌, ◌<◌, ◌≤◌, ◌&&◌, IsSome};
 ghost use Rattle.std.specs.Option.{MatchOption};
 ghost use Rattle.vm_base.specs.declared.limits.TheConstants.{PAGES_END};
 ghost use Rattle.vm_model.specs.Contents.Content.{pages_of};
 ghost use Rattle.fault.specs.Table.{number_of, places_of, room_of, without, is_of, is_stale, is_outdated, is_at, with_read_only};
 ghost use Rattle.vm_model.specs.Space.Readiness.{shows_in, is_same_frame};
-ghost use Rattle.fault.specs.inside.Walks.{kept_of, changed_where, dropped, restricted, change_by, is_place, is_member, holds_other};
-ghost use Rattle.fault.specs.inside.Walks.{HasList, HasNoMember, HoldFrame, Stays};
+ghost use Rattle.fault.specs.inside.Walks.{Keeping, kept_of, changed_where, dropped, restricted, change_by, is_place, is_member, member_below, holds_other};
+ghost use Rattle.fault.specs.inside.Walks.{HasList, HasNoMember, HoldFrame, StartsWith, Stays};
 
 use crate::frames::frame_of;
-use crate::translation::{Change, FrameList, Translation};
+use crate::translation::{Change, FrameList, KeptList, Translation};
 use crate::translations::Translations;
 use page_store::PageStore;
 use vm_base::{Koid, PageNo, RegionName, Tag};
@@ -34,8 +34,8 @@ impl Translations {
         let _pages = store.count(v);
         let end = first + count;
         let mut from = first;
-        while let Some((page, list)) = self.list_below(v, from, end) {
-            self.forget_other(list, frame_of(store, v, page));
+        while let Some((page, row)) = self.list_below(v, from, end) {
+            self.forget_other(row, frame_of(store, v, page));
             from = page + 1;
         }
     }
@@ -49,25 +49,26 @@ impl Translations {
         ensures room { room_of self.old ≤ room_of self.new }
     {
         match self.list_at(v, page) {
-            Some(list) => self.forget_other(list, frame),
+            Some(row) => self.forget_other(row, frame),
             None => None,
         }
     }
 
     // Forgets the translations of a list if they hold another frame than `frame`. Otherwise answers the list, which
     // stays. All of them hold the list's frame, so none of those that stay is looked at.
-    fn forget_other(&mut self, list: FrameList, frame: Option<Tag>) -> Option<u64>
-        requires frame { HoldFrame (kept_of self.old) list }
+    fn forget_other(&mut self, row: KeptList, frame: Option<Tag>) -> Option<u64>
+        requires frame { HoldFrame (kept_of self.old) row.list }
+        requires first { StartsWith (kept_of self.old) row }
         ensures at { kept_of self.new
-            ≡ changed_where dropped (λ r p k. is_member list.number k && holds_other (number_of frame) k) (kept_of self.old) }
-        ensures stays { MatchOption result (HasNoMember (kept_of self.new) list.number 0)
-            (Stays (kept_of self.old) (kept_of self.new) list frame) }
+            ≡ changed_where dropped (λ r p k. is_member row.list.number k && holds_other (number_of frame) k) (kept_of self.old) }
+        ensures stays { MatchOption result (HasNoMember (kept_of self.new) row.list.number 0)
+            (Stays (kept_of self.old) (kept_of self.new) row.list frame) }
         ensures room { room_of self.old ≤ room_of self.new }
     {
-        if have_same_frame(list, frame) {
-            return Some(list.number);
+        if have_same_frame(row.list, frame) {
+            return Some(row.list.number);
         }
-        self.change_members(list.number, Change::Forget);
+        self.change_members(row, Change::Forget);
         None
     }
 
@@ -112,20 +113,44 @@ impl Translations {
     {
         let end = first + count;
         let mut from = first;
-        while let Some((page, list)) = self.list_below(v, from, end) {
-            self.change_members(list.number, change);
+        while let Some((page, row)) = self.list_below(v, from, end) {
+            self.change_members(row, change);
             from = page + 1;
         }
     }
 
     // Changes the translations of a list.
-    fn change_members(&mut self, list: u64, change: Change)
+    fn change_members(&mut self, row: KeptList, change: Change)
+        requires first { StartsWith (kept_of self.old) row }
         ensures at { kept_of self.new
-            ≡ changed_where (change_by change) (λ r p k. is_member list k) (kept_of self.old) }
+            ≡ changed_where (change_by change) (λ r p k. is_member row.list.number k) (kept_of self.old) }
         ensures room { room_of self.old ≤ room_of self.new }
     {
-        let mut from = 0;
-        while let Some((serial, place)) = self.member_from(list, from) {
+        self.change_first(row, change);
+        self.change_others(row.list.number, change);
+    }
+
+    // Changes the first translation of a list, if it is there.
+    fn change_first(&mut self, row: KeptList, change: Change)
+        requires first { StartsWith (kept_of self.old) row }
+        ensures at { kept_of self.new ≡ changed_where (change_by change)
+            (member_below row.list.number (row.list.number + 1)) (kept_of self.old) }
+        ensures room { room_of self.old ≤ room_of self.new }
+    {
+        if let Some(place) = row.first {
+            self.change_place(place.root, place.page, change);
+        }
+    }
+
+    // Changes the translations of a list but the first. That one is changed already.
+    fn change_others(&mut self, list: u64, change: Change)
+        requires fits { list + 1 < 2 ^ 64 }
+        ensures at { (old : Keeping) → kept_of self.old ≡ changed_where (change_by change) (member_below list (list + 1)) old
+            → kept_of self.new ≡ changed_where (change_by change) (λ r p k. is_member list k) old }
+        ensures room { room_of self.old ≤ room_of self.new }
+    {
+        let mut from = list + 1;
+        while let Some((serial, place)) = self.other_from(list, from) {
             self.change_place(place.root, place.page, change);
             from = serial + 1;
         }

@@ -26,10 +26,18 @@ pub(crate) struct Kept {
 /// The list of the translations of a page of a VMO.
 #[derive(Clone, Copy)]
 pub(crate) struct FrameList {
-    /// Its number.
+    /// Its number: the serial of the translation that came first.
     pub(crate) number: u64,
     /// The frame that each of them holds. `None` if they hold none.
     pub(crate) frame: Option<Tag>,
+}
+
+/// A list as it is kept: with the translation that came first, so that a list of one has no row of its members.
+#[derive(Clone, Copy)]
+pub(crate) struct KeptList {
+    pub(crate) list: FrameList,
+    /// The page that the first translation is of. `None` if that went, and others stay.
+    pub(crate) first: Option<Place>,
 }
 
 /// The page of an address space that a translation is of.

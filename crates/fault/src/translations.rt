@@ -1,15 +1,15 @@
 //! The translations: what is kept of each page, and what is found there.
 
-ghost use Rattle.std.specs.Prelude.{◌≡◌, ◌↔◌, ℕ, IsTrue, ◌+◌, ◌≤◌, true, None, Some, OnOk, IsSome, IfSome, IfNone};
+ghost use Rattle.std.specs.Prelude.{◌≡◌, ◌↔◌, ℕ, IsTrue, ◌+◌, ◌<◌, ◌≤◌, true, None, Some, OnOk, IsSome, IfSome, IfNone};
 ghost use Rattle.std.specs.Option.{option_map, MatchOption};
 ghost use Rattle.balanced_tree.specs.Pairs.{with_pair};
 ghost use Rattle.fault.specs.Table.{places_of, room_of, number_of, frame_in, with_translation, without, is_outdated, IsOfEntry};
 ghost use Rattle.fault.specs.inside.Walks.{kept_of, changed_where, dropped, is_place, HasNoPlace, IsNextPlace};
-ghost use Rattle.fault.specs.inside.Walks.{HasList, IsListAt, HasNoList, IsNextList, HasNoMember, IsNextMember, HoldsOther};
+ghost use Rattle.fault.specs.inside.Walks.{HasList, IsListAt, HasNoList, IsNextList, HasNoMember, IsNextMember, HoldsOther, StartsWith};
 ghost use Rattle.fault.specs.inside.Lists.{list_with};
 
-use crate::lists::{drop_empty, list_or_new};
-use crate::translation::{FrameList, Kept, Place, Translation};
+use crate::lists::{join, leave};
+use crate::translation::{Kept, KeptList, Place, Translation};
 use pair_map::PairMap;
 use std::alloc::Global;
 use std::marker::Model;
@@ -20,15 +20,16 @@ use vm_base::{HostMemory, Koid, PageNo, RegionName, Tag};
 ///
 /// The translations of a page of a VMO are the members of a list, so they are found with no look at others. All of them
 /// hold one frame, and the list has it too. So one look at the list tells whether they hold another frame than the page
-/// has now.
+/// has now. The row of the list has its first member too, so a page that is shown at one place has a row in two of the
+/// three maps.
 #[derive(Drop)]
 pub struct Translations {
     /// The translation of each page, by the root region and the page.
     places: PairMap<Kept>,
     /// The list of each page of a VMO that has a translation, by the koid and the page.
-    lists: PairMap<FrameList>,
-    /// The pages that the translations of each list are of, by the list and the serial.
-    members: PairMap<Place>,
+    lists: PairMap<KeptList>,
+    /// The pages that the translations of each list are of, except the first, by the list and the serial.
+    others: PairMap<Place>,
     /// The number that the next list or member gets. None is given twice.
     next: u64,
 }
@@ -53,7 +54,7 @@ impl Translations {
         Translations {
             places: PairMap::new(alloc),
             lists: PairMap::new(alloc),
-            members: PairMap::new(alloc),
+            others: PairMap::new(alloc),
             next: 0,
         }
     }
@@ -87,7 +88,7 @@ impl Translations {
         let Ok(()) = self.lists.reserve(n) else {
             return Err(HostMemory);
         };
-        let Ok(()) = self.members.reserve(n) else {
+        let Ok(()) = self.others.reserve(n) else {
             return Err(HostMemory);
         };
         Ok(())
@@ -112,8 +113,8 @@ impl Translations {
     }
 
     /// Gives a page this translation. The page is not translated with this frame. Forgets the translations of the page
-    /// of the VMO that hold another frame. There is room. The call costs a look-up of the list of that page, three
-    /// insertions at most, and a step for each translation that is forgotten.
+    /// of the VMO that hold another frame. There is room. The call costs a look-up of the list of that page, two
+    /// insertions, and a step for each translation that is forgotten.
     pub(crate) fn translate(&mut self, root: RegionName, page: PageNo, translation: Translation)
         requires same { IsOfEntry (places_of self.old) root.0 page translation.entry }
         requires other { HoldsOther (frame_in translation) (kept_of self.old root.0 page) }
@@ -173,12 +174,15 @@ impl Translations {
         ensures room { room_of self.old ≤ room_of self.new + 1 }
     {
         let serial = self.next;
-        let entry = translation.entry;
-        let new = FrameList {
-            number: serial,
-            frame: translation.frame,
-        };
-        let list = list_or_new(&mut self.lists, entry.koid, entry.page, list, new);
+        let place = Place { root, page };
+        let list = join(
+            &mut self.lists,
+            &mut self.others,
+            translation,
+            list,
+            serial,
+            place,
+        );
         self.places.insert(
             root.0 as u64,
             page,
@@ -188,7 +192,6 @@ impl Translations {
                 serial,
             },
         );
-        self.members.insert(list, serial, Place { root, page });
         self.next = serial + 1;
     }
 
@@ -199,8 +202,7 @@ impl Translations {
         ensures room { room_of self.old ≤ room_of self.new }
     {
         let kept = self.places.remove(root.0 as u64, page);
-        self.members.remove(kept.list, kept.serial);
-        drop_empty(&mut self.lists, &self.members, kept);
+        leave(&mut self.lists, &mut self.others, kept);
     }
 
     /// The first page of an address space from `from` to below `end` that is translated.
@@ -225,9 +227,9 @@ impl Translations {
     }
 
     /// The list of the translations of a page of a VMO. `None` if it has none.
-    pub(crate) fn list_at(&self, v: Koid, page: PageNo) -> Option<FrameList>
+    pub(crate) fn list_at(&self, v: Koid, page: PageNo) -> Option<KeptList>
         ensures { MatchOption result (HasNoList (kept_of self.now) v.0 page (page + 1))
-            (IsListAt (kept_of self.now) v.0 page) }
+            (λ row. IsListAt (kept_of self.now) v.0 page row.list × StartsWith (kept_of self.now) row) }
     {
         self.lists.find(v.0, page)
     }
@@ -238,24 +240,26 @@ impl Translations {
         v: Koid,
         from: PageNo,
         end: PageNo,
-    ) -> Option<(PageNo, FrameList)>
+    ) -> Option<(PageNo, KeptList)>
         ensures { MatchOption result (HasNoList (kept_of self.now) v.0 from end)
-            (IsNextList (kept_of self.now) v.0 from end) }
+            (λ found. IsNextList (kept_of self.now) v.0 from end (found.0, found.1.list) × StartsWith (kept_of self.now) found.1) }
     {
         match self.lists.next(v.0, from) {
-            Some((page, list)) if page < end => Some((page, list)),
+            Some((page, row)) if page < end => Some((page, row)),
             _ => None,
         }
     }
 
-    /// The first translation of a list with a serial from `from` on: its serial, and the page that it is of.
-    pub(crate) fn member_from(&self, list: u64, from: u64) -> Option<(u64, Place)>
+    /// The first translation of a list with a serial from `from` on: its serial, and the page that it is of. `from` is
+    /// above the list's number, so the translation that came first is not searched for.
+    pub(crate) fn other_from(&self, list: u64, from: u64) -> Option<(u64, Place)>
+        requires { list < from }
         ensures { MatchOption result (HasNoMember (kept_of self.now) list from)
             (IsNextMember (kept_of self.now) list from) }
     {
         // The serials are below the next.
         let _next = self.next;
-        self.members.next(list, from)
+        self.others.next(list, from)
     }
 }
 

@@ -1,5 +1,5 @@
 -- What is kept of each page, how it changes over a list or a range, and what the searches for the next page answer.
-use Rattle.std.specs.Prelude.{◌≡◌, ℕ, ◌+◌, ◌^◌, ◌<◌, ◌≤◌, ◌&&◌, ◌==◌, Bool, true, not, if◌then◌else◌, Option, None, Some, IsSome, IfSome}
+use Rattle.std.specs.Prelude.{◌≡◌, ℕ, ◌+◌, ◌^◌, ◌<◌, ◌≤◌, ◌&&◌, ◌==◌, nat_lt, Bool, true, not, if◌then◌else◌, Option, None, Some, IsSome, IfSome}
 use Rattle.std.specs.Option.{MatchOption}
 use Rattle.vm_base.specs.declared.names.Tag.{Tag}
 use Rattle.vm_model.specs.declared.space.Readiness.TheVariants.{Read}
@@ -8,6 +8,7 @@ use Rattle.pair_map.specs.Maps.{values_of}
 use Rattle.fault.specs.declared.translation.Kept.{Kept}
 use Rattle.fault.specs.declared.translation.Place.{Place}
 use Rattle.fault.specs.declared.translation.FrameList.{FrameList}
+use Rattle.fault.specs.declared.translation.KeptList.{KeptList}
 use Rattle.fault.specs.declared.translation.Change.{Change}
 use Rattle.fault.specs.declared.translation.Change.TheVariants.{Forget, Restrict}
 use Rattle.fault.specs.Table.{Table, frame_in}
@@ -45,6 +46,10 @@ is_place root p r q = (r == root) && (q == p)
 -- the translation stands in the list
 abbrev pub is_member : ℕ → Kept → Bool
 is_member list k = k.list == list
+
+-- the translation stands in the list, and its serial is below `from`
+abbrev pub member_below : (list from : ℕ) → ℕ → ℕ → Kept → Bool
+member_below list from r p k = is_member list k && nat_lt k.serial from
 
 -- the translation holds another frame than this one
 abbrev pub holds_other : Option ℕ → Kept → Bool
@@ -131,3 +136,12 @@ pub record IsNextMember (kept : Keeping) (list from : ℕ) (found : ℕ × Place
   pub serial : member.serial ≡ found.0
   pub least : (root p : ℕ) (k : Kept) → kept root p ≡ Some k → k.list ≡ list → from ≤ k.serial → k.serial ≤ found.0
       → (root ≡ found.1.root.0) × (p ≡ found.1.page)
+
+-- no translation of the list has the list's number as its serial: they are above it
+abbrev pub LacksFirst : Keeping → ℕ → Type 0
+LacksFirst kept list = (root p : ℕ) (k : Kept) → kept root p ≡ Some k → k.list ≡ list → list < k.serial
+
+-- The first translation of the list is that of the page that is kept with it, if one is.
+pub record StartsWith (kept : Keeping) (row : KeptList) : Type 0 where
+  pub fits : row.list.number + 1 < 2 ^ 64
+  pub first : MatchOption row.first (LacksFirst kept row.list.number) (λ x. IsNextMember kept row.list.number 0 (row.list.number, x))

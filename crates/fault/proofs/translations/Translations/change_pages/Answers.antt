@@ -14,18 +14,18 @@ loop-page-init c = record {
 }
 
 pub loop-page-smaller : goal.loop-page-smaller
-loop-page-smaller c = omega (arith, c.in-Some.ensures.order, c.in-Some.ensures.below)
+loop-page-smaller c = omega (arith, c.in-Some.ensures.0.order, c.in-Some.ensures.0.below)
 
 pub loop-page-preserved : goal.loop-page-preserved
 loop-page-preserved c =
     let inv = c.loop-page.invariant in
-    let next = c.in-Some.ensures in
+    let next = c.in-Some.ensures.0 in
     record {
       first = omega (arith, inv.first, next.order);
       end = omega (arith, next.below);
       changed = pages-next _ (change_by-once c.args.change) c.args.v.0 c.args.first (λ k. true) (kept_of c.args.self.now) (kept_of c.loop-page.self)
-          _ _ inv.changed c.in-Some.page c.in-Some.list (λ k. true) _ inv.first next (λ k h. refl)
-          (changed-all_of (change_by c.args.change) _ _ (λ r p k. is_member c.in-Some.list.number k) c.change_members.ensures.at);
+          _ _ inv.changed c.in-Some.page c.in-Some.row.list (λ k. true) _ inv.first next (λ k h. refl)
+          (changed-all_of (change_by c.args.change) _ _ (λ r p k. is_member c.in-Some.row.list.number k) c.change_members.ensures.at);
       room = omega (arith, inv.room, c.change_members.ensures.room);
     }
 

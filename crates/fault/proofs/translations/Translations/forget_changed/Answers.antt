@@ -11,16 +11,16 @@ pub loop-page-init : goal.loop-page-init
 loop-page-init g c = record { first = omega arith; end = omega arith; changed = pages-start dropped dropped-once c.args.v.0 c.args.first (λ k. holds_other (frame_at (g.P.PageStore.content c.args.store.now) c.args.v.0 k.translation.entry.page) k) (kept_of c.args.self.now); room = omega arith }
 
 pub loop-page-smaller : goal.loop-page-smaller
-loop-page-smaller g c = omega (arith, c.in-Some.ensures.order, c.in-Some.ensures.below)
+loop-page-smaller g c = omega (arith, c.in-Some.ensures.0.order, c.in-Some.ensures.0.below)
 
 pub loop-page-preserved : goal.loop-page-preserved
 loop-page-preserved g c =
     let inv = c.loop-page.invariant in
-    let next = c.in-Some.ensures in
+    let next = c.in-Some.ensures.0 in
     record {
       first = omega (arith, inv.first, next.order);
       end = omega (arith, next.below);
-      changed = pages-next dropped dropped-once c.args.v.0 c.args.first (λ k. holds_other (frame_at (g.P.PageStore.content c.args.store.now) c.args.v.0 k.translation.entry.page) k) (kept_of c.args.self.now) (kept_of c.loop-page.self) c.loop-page.from _ inv.changed c.in-Some.page c.in-Some.list
+      changed = pages-next dropped dropped-once c.args.v.0 c.args.first (λ k. holds_other (frame_at (g.P.PageStore.content c.args.store.now) c.args.v.0 k.translation.entry.page) k) (kept_of c.args.self.now) (kept_of c.loop-page.self) c.loop-page.from _ inv.changed c.in-Some.page c.in-Some.row.list
           (holds_other (number_of c.frame_of.result)) _ inv.first next (λ k same. ap (λ frame. holds_other frame k) (c.frame_of.ensures ∙ ap (frame_at (g.P.PageStore.content c.args.store.now) c.args.v.0) (sym same))) c.forget_other.ensures.at;
       room = omega (arith, inv.room, c.forget_other.ensures.room);
     }
@@ -43,4 +43,4 @@ pub overflow_add-end : goal.overflow_add-end
 overflow_add-end g c = omega (arith, c.requires.range, pages_of-at (g.P.PageStore.content c.args.store.now) c.args.v.0 c.count-pages.result c.count-pages.ensures)
 
 pub overflow_add-from : goal.overflow_add-from
-overflow_add-from g c = omega (arith, c.in-Some.ensures.below, c.requires.range, pages_of-at (g.P.PageStore.content c.args.store.now) c.args.v.0 c.count-pages.result c.count-pages.ensures)
+overflow_add-from g c = omega (arith, c.in-Some.ensures.0.below, c.requires.range, pages_of-at (g.P.PageStore.content c.args.store.now) c.args.v.0 c.count-pages.result c.count-pages.ensures)

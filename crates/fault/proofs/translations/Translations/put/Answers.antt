@@ -5,6 +5,8 @@ use Rattle.fault.proofs.translations.Translations.put.Goals as goal
 
 pub invariant_of-self : goal.invariant_of-self
 invariant_of-self c = record {
+  members = c.self.invariant.members;
+  are = c.self.invariant.are;
   listed = AreListed-put _ _ _ _ c.self.invariant.listed c.args.root.0 c.args.page c.args.kept (rw (← c.self.view_is) at c.requires.kept) c.args.translation
       c.requires.same c.requires.frame (values_of c.replace.new.self) c.replace.ensures.values;
 }
