@@ -5,10 +5,12 @@ use Rattle.std.proofs.lemmas.Bool.{cases_Bool, eq-eqb, and_parts, and_from, cond
 use Rattle.vm_base.specs.Entries.{passes}
 use Rattle.vm_base.proofs.EntryLaws.{some_same}
 use Rattle.vm_base.proofs.SearchLaws.{eqb_is}
+use Rattle.vm_model.specs.declared.space.Readiness.{Readiness}
 use Rattle.vm_model.specs.declared.space.Readiness.TheVariants.{Read}
 use Rattle.vm_model.specs.Space.Readiness.{shows_in}
 use Rattle.balanced_tree.specs.Pairs.{with_pair}
 use Rattle.mapping_set.proofs.TableLaws.{with_pair-cases}
+use Rattle.fault.proofs.PairLaws.{with_pair-kept}
 use Rattle.fault.specs.declared.translation.Translation.{Translation}
 use Rattle.fault.specs.declared.translation.Kept.{Kept}
 use Rattle.fault.specs.Table.{Places, without, with_translation, with_read_only, restricted as restrict_one}
@@ -31,6 +33,10 @@ restricted-once k test = cases (test (record k { translation = record k.translat
     cases : (b : Bool) → cond b (restricted k) (restricted k) ≡ restricted k
     cases true = refl
     cases false = refl
+
+-- what is for reading alone is not changed
+pub restricted-same : (k : Kept) → k.translation.readiness ≡ Read → restricted k ≡ Some k
+restricted-same k reads = ap (λ (r : Readiness). Some (record k { translation = record k.translation { readiness = r } })) (sym reads)
 
 -- so is each change
 pub change_by-once : (change : Change) → IsOnce (change_by change)
@@ -66,6 +72,11 @@ module _ (change : Kept → Option Kept) where
             let both = and_parts (r == root) (q == p) on in apart.0 (eqb_is r root both.0) (eqb_is q p both.1)) in
             apart.1 ∙ as_is (is_place root p r q) (kept r q) off
       ]
+
+  -- a page that the change leaves as it is
+  pub changed-same : (kept : Keeping) (root p : ℕ) (k : Kept) → kept root p ≡ Some k → change k ≡ Some k
+      → kept ≡ changed_where change (λ r q k. is_place root p r q) kept
+  changed-same kept root p k at same = changed-place kept kept root p k at (with_pair-kept kept root p (change k) (at ∙ sym same))
 
   -- nothing that is kept passes
   pub changed-none : (kept : Keeping) (test : ℕ → ℕ → Kept → Bool) → ((r p : ℕ) (k : Kept) → kept r p ≡ Some k → test r p k ≡ false) → kept ≡ changed_where change test kept

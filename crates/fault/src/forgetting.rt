@@ -95,7 +95,8 @@ impl Translations {
         }
     }
 
-    /// Leaves the translations of `count` pages of a VMO from the page `first` on for reading alone.
+    /// Leaves the translations of `count` pages of a VMO from the page `first` on for reading alone. It costs a step for
+    /// each of them, and one that may not be written costs no change.
     pub fn make_readonly(&mut self, v: Koid, first: PageNo, count: u64)
         requires range { first + count ≤ PAGES_END }
         ensures at { places_of self.new ≡ with_read_only v.0 first (first + count) (places_of self.old) }
@@ -169,18 +170,23 @@ impl Translations {
         }
     }
 
-    // Leaves the translation of a page that has one for reading alone.
+    // Leaves the translation of a page that has one for reading alone. One that is so already costs a look-up.
     fn restrict(&mut self, root: RegionName, page: PageNo)
         requires { IsSome (kept_of self.old root.0 page) }
         ensures at { kept_of self.new ≡ changed_where restricted (λ r p k. is_place root.0 page r p) (kept_of self.old) }
         ensures room { room_of self.new ≡ room_of self.old }
     {
         if let Some(kept) = self.kept(root, page) {
-            let translation = Translation {
-                readiness: Readiness::Read,
-                ..kept.translation
-            };
-            self.put(root, page, kept, translation);
+            match kept.translation.readiness {
+                Readiness::Read => {}
+                Readiness::Write => {
+                    let translation = Translation {
+                        readiness: Readiness::Read,
+                        ..kept.translation
+                    };
+                    self.put(root, page, kept, translation);
+                }
+            }
         }
     }
 }
