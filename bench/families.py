@@ -6,7 +6,8 @@ from measuring import TOP
 
 sys.path.insert(0, f"{TOP}/tools")
 
-from generating.shapes import WRITES, checkpoint, deep, full, infos, newest_first, oldest_first, roll_forward, sole, tail, wide
+from generating.shapes import (WRITES, behind, checkpoint, deep, full, infos, infos_behind, newest_first, oldest_first, parted,
+                               reads_behind, reads_beside, roll_forward, sole, tail, wide, zero_behind)
 
 # How many pages are held, up to as many as a machine of 65,536 frames has beside those that are written.
 HELD = (1024, 16384, 65536 - WRITES)
@@ -35,4 +36,8 @@ FAMILIES = [
     Family("20 times vmo_info among snapshots of 16 pages", infos, (250, 500, 1000)),
     Family("chain, none written: reads at its end, writes, closes", lambda it: deep(it, False), (1000, 2000, 4000)),
     Family("chain, each written: reads at its end, writes, closes", lambda it: deep(it, True), (1000, 2000, 4000)),
+    Family("chain over as many pages, each read at its end", reads_behind, (2000, 4000, 8000), behind),
+    Family("chain over as many pages, all zeroed at its end", zero_behind, (2000, 4000, 8000), behind),
+    Family("chain over as many pages, 10 times vmo_info at its end", infos_behind, (2000, 4000, 8000), behind),
+    Family("snapshots that wrote a page, then reads of it beside them", reads_beside, (2000, 4000, 8000), parted),
 ]

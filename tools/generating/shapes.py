@@ -114,6 +114,36 @@ def deep(count, written):
     return lines + [write(it, 0) for it in names] + closes(names)
 
 
+def behind(count):
+    """Returns the lines of a VMO of so many held pages, behind a chain of as many snapshots of which none is written."""
+    return full(count) + [snapshot(name, name - 1, count) for name in range(1, count + 1)]
+
+
+def reads_behind(count):
+    """Each page is read at the end of the chain."""
+    return behind(count) + [f"vmo_read v{count} {page * PAGE} 16" for page in range(count)]
+
+
+def zero_behind(count):
+    """All pages become zero at the end of the chain, by one command."""
+    return behind(count) + [f"vmo_zero v{count} 0 {count * PAGE}"]
+
+
+def infos_behind(count):
+    """What is held, shared and charged at the end of the chain, ten times."""
+    return behind(count) + [f"vmo_info v{count}"] * 10
+
+
+def parted(count):
+    """Returns the lines of snapshots of one page that all wrote it, and of one that did not."""
+    return full(1) + [line for name in range(1, count + 1) for line in (snapshot(name, 0, 1), write(name, 0))] + [snapshot(count + 1, 0, 1)]
+
+
+def reads_beside(count):
+    """The page is read in the VMO that others wrote after they were made of it."""
+    return parted(count) + ["vmo_read v0 0 16"] * (10 * count)
+
+
 # What makes a script by its size, under the name of its shape.
 SHAPES = {
     "siblings": wide,
@@ -126,4 +156,8 @@ SHAPES = {
     "infos": infos,
     "chain": lambda count: deep(count, False),
     "written-chain": lambda count: deep(count, True),
+    "chain-reads": reads_behind,
+    "chain-zero": zero_behind,
+    "chain-infos": infos_behind,
+    "parted-reads": reads_beside,
 }
