@@ -7,12 +7,13 @@ use Rattle.std.proofs.lemmas.Bool.{cases_lt, lt-ltb, le-ltb}
 use Rattle.std.proofs.lemmas.List.Elements.{filter-append}
 use Rattle.vm_base.proofs.EntryLaws.{some_is}
 use Rattle.vm_model.specs.Contents.Content.{Content}
+use Rattle.vm_model.specs.Contents.Writing.{touched}
 use Rattle.vm_model.proofs.OwningLaws.{count_from}
 use Rattle.vmo_ops.proofs.ModelLaws.{count_from-none, count_from-not, count_from-split, range_with_len-append}
 use Rattle.source_model.specs.declared.backing.Backing.{Backing}
 use Rattle.source_model.specs.State.{is_absent}
 use Rattle.source_model.proofs.FillingLaws.{absent-zero, absent-held}
-use Rattle.source_vm.specs.Pages.{Backings, Links, FillsPages, IsSupplied, end_piece, is_end_absent}
+use Rattle.source_vm.specs.Pages.{Backings, Links, FillsPages, IsSupplied, absent_ends, absent_touched, end_piece, is_end_absent}
 use Rattle.source_vm.proofs.SupplyLaws.{filter_count}
 
 -- where all pass, all are counted
@@ -105,3 +106,15 @@ IsSupplied-front bs ls v old new first last end low high behind s = record {
   readable = s.readable;
   pages = s.pages;
 }
+
+-- ---- what a range touches
+
+module _ (bs : Backings) (ls : Links) (c : Content) (v offset len : ℕ) where
+  module _ (first end : ℕ) (pages : touched offset len ≡ range_with_len first (end - first)) where
+    -- the pages that it touches are those of a range
+    pub touched-ends : absent_touched bs ls c v offset len ≡ absent_ends bs ls c v first end
+    touched-ends = ap (filter (is_end_absent bs ls c v)) pages
+
+    -- none is absent where they were supplied
+    pub touched-supplied : ((p : ℕ) → first ≤ p → p < end → is_end_absent bs ls c v p ≡ false) → absent_touched bs ls c v offset len ≡ []
+    touched-supplied none = touched-ends ∙ none_pass (is_end_absent bs ls c v) first (end - first) (λ p low less. none p low (omega (arith, less)))

@@ -15,7 +15,7 @@ use Rattle.source_model.specs.declared.command.SourceCommand.TheVariants.{Read, 
 use Rattle.source_model.specs.State.{SourceState, state_over, is_absent, wanted, FillsEach, text_in}
 use Rattle.source_model.specs.Commands.{SourceStep, is_aligned}
 use Rattle.source_model.specs.Good.{IsGoodSources}
-use Rattle.source_vm.specs.Pages.{Backings, Links, IsReadable, IsSupplied, LacksFrames, absent_ends, end_piece, is_end_absent}
+use Rattle.source_vm.specs.Pages.{Backings, Links, IsReadable, IsSupplied, FillsPages, LacksFrames, absent_ends, absent_touched, end_piece}
 use Rattle.source_vm.proofs.EndLaws.{wanted-pieces, wanted-length, absent_ends-unlinked, pieces-unlinked}
 use Rattle.source_vm.proofs.ReadLaws.{text_in-same}
 use Rattle.source_vm.proofs.TextLaws.{supplied-text}
@@ -50,30 +50,34 @@ readable_of c names bs ls good = record {
     go (Some n) f = ap is_some f
     go None f = absurd (let no : ◌≡◌ {A = Option Backing} None (Some b) = sym (good.others v f).0 ∙ e in cc)
 
-module _ (c : Content) (names : ℕ → Option ℕ) (bs : Backings) (ls : Links) (name : VmoName) (v : ℕ) (named : names name.0 ≡ Some v) (offset len first end : ℕ)
-    (pages : touched offset len ≡ range_with_len first (end - first)) (inside : nat_lt (pages_of c v * PAGE) (offset + len) ≡ false) where
+module _ (c : Content) (names : ℕ → Option ℕ) (bs : Backings) (ls : Links) (name : VmoName) (v : ℕ) (named : names name.0 ≡ Some v) (offset len : ℕ)
+    (inside : nat_lt (pages_of c v * PAGE) (offset + len) ≡ false) where
   abbrev s : SourceState
   s = state_over c names bs ls
 
   -- ---- reads
-  module _ (few : nat_lt DATA_BYTES len ≡ false) (need : ℕ) (counted : need ≡ length (absent_ends bs ls c v first end)) where
-    need_is : need ≡ length (wanted s v (touched offset len))
-    need_is = counted ∙ (ap (λ (ps : List ℕ). length (filter (is_end_absent bs ls c v) ps)) (sym pages) ∙ sym (wanted-length s v (touched offset len)))
+  module _ (few : nat_lt DATA_BYTES len ≡ false) (n : ℕ) (size : n ≡ len) where
+    absent_is_of : absent_touched bs ls c v offset n ≡ absent_touched bs ls c v offset len
+    absent_is_of = ap (absent_touched bs ls c v offset) size
 
-    pub read_supplied : (d : Content) (out : List ℕ) → used c + need ≤ c.frames → out ≡ text_in (state_over d names bs ls) v offset len → IsSupplied bs ls v c first end d
-        → SourceStep s (Read name offset len) (Bytes out) (state_over d names bs ls)
-    read_supplied d out enough is supplied =
+    need_is : length (absent_touched bs ls c v offset n) ≡ length (wanted s v (touched offset len))
+    need_is = ap (λ (ps : List ℕ). length ps) absent_is_of ∙ sym (wanted-length s v (touched offset len))
+
+    pub read_supplied : (d : Content) (out : List ℕ) → used c + length (absent_touched bs ls c v offset n) ≤ c.frames → out ≡ text_in (state_over d names bs ls) v offset n
+        → FillsPages bs ls c (map (end_piece ls c v) (absent_touched bs ls c v offset n)) d → SourceStep s (Read name offset len) (Bytes out) (state_over d names bs ls)
+    read_supplied d out enough is fills =
         read_done s name v named offset len few inside out (state_over d names bs ls) (omega (arith, enough, need_is))
-        (is ∙ text_in-same s (state_over d names bs ls) v offset len (supplied-text c d names bs ls v (absent_ends bs ls c v first end) supplied.fills))
+        (is ∙ (ap (text_in (state_over d names bs ls) v offset) size
+        ∙ text_in-same s (state_over d names bs ls) v offset len (supplied-text c d names bs ls v (absent_touched bs ls c v offset n) fills)))
         (subst (λ (parts : List Piece). FillsEach s parts (state_over d names bs ls))
-        (ap (λ (ps : List ℕ). map (end_piece ls c v) (filter (is_end_absent bs ls c v) ps)) (sym pages) ∙ sym (wanted-pieces s v (touched offset len)))
-        (supplied.fills.each names))
+        (ap (map (end_piece ls c v)) absent_is_of ∙ sym (wanted-pieces s v (touched offset len))) (fills.each names))
 
-    pub read_refused : (refusal : Refusal) → LacksFrames c need refusal → SourceStep s (Read name offset len) (Refused refusal) s
+    pub read_refused : (refusal : Refusal) → LacksFrames c (length (absent_touched bs ls c v offset n)) refusal → SourceStep s (Read name offset len) (Refused refusal) s
     read_refused refusal lacks = read_short s name v named offset len few inside refusal (subst (λ (n : ℕ). LacksFrames c n refusal) need_is lacks)
 
   -- ---- supplies
-  module _ (b : Backing) (backed : bs v ≡ Some b) (unlinked : ls v ≡ None) (aligned : (is_aligned offset && is_aligned len) ≡ true) where
+  module _ (first end : ℕ) (pages : touched offset len ≡ range_with_len first (end - first)) (b : Backing) (backed : bs v ≡ Some b) (unlinked : ls v ≡ None)
+      (aligned : (is_aligned offset && is_aligned len) ≡ true) where
     absent_is : absent_ends bs ls c v first end ≡ filter (is_absent c (Some b) v) (range_with_len first (end - first))
     absent_is = absent_ends-unlinked c bs ls v b backed unlinked first end
 

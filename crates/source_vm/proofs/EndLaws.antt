@@ -5,7 +5,7 @@ use Rattle.std.specs.List.{filter, range_with_len}
 use Rattle.std.proofs.lemmas.Bool.{cases_lt, lt-ltb}
 use Rattle.vm_base.specs.Entries.{passes}
 use Rattle.vm_base.specs.Pages.{zeros}
-use Rattle.vm_model.specs.Contents.Content.{Content}
+use Rattle.vm_model.specs.Contents.Content.{Content, Page}
 use Rattle.vm_model.specs.Contents.Writing.{Piece}
 use Rattle.source_model.specs.declared.backing.Backing.{Backing}
 use Rattle.source_model.specs.Sources.{backing_text, text_over}
@@ -39,21 +39,15 @@ pub absent-end : (c : Content) (bs : Backings) (ls : Links) (v p : ℕ) (at : Vm
 unfolding is_end_absent
 absent-end c bs ls v p at bit e is = is ∙ ap (λ (u : VmoPage). is_absent c (bs u.koid) u.koid u.page) e
 
-pub absent-from_end : (c : Content) (bs : Backings) (ls : Links) (v p : ℕ) (at : VmoPage) → at ≡ end_of ls c v p → is_absent c (bs at.koid) at.koid at.page ≡ is_end_absent bs ls c v p
-absent-from_end c bs ls v p at e = absent-end c bs ls v p at (is_absent c (bs at.koid) at.koid at.page) e refl
-
 -- ---- absent pages
+
+-- a page that is not held is absent if it comes from a source
+pub absent-unheld : (c : Content) (bs : Backings) (v p : ℕ) → c.page v p ≡ None → is_absent c (bs v) v p ≡ passes (λ (b : Backing). nat_lt p b.seen) (bs v)
+unfolding is_absent
+absent-unheld c bs v p free = ap (λ (o : Option Page). not (is_some o) && passes (λ (b : Backing). nat_lt p b.seen) (bs v)) free
 
 pub absent-free : (c : Content) (bs : Backings) (v p : ℕ) (b : Backing) → c.page v p ≡ None → bs v ≡ Some b → is_absent c (bs v) v p ≡ nat_lt p b.seen
 absent-free c bs v p b free e = ap (λ (o : Option Backing). is_absent c o v p) e ∙ absent-zero c b v p free
-
-never : (bit : Bool) → (bit && false) ≡ false
-never true = refl
-never false = refl
-
-pub absent-none : (c : Content) (bs : Backings) (v p : ℕ) → bs v ≡ None → is_absent c (bs v) v p ≡ false
-unfolding is_absent passes
-absent-none c bs v p e = ap (λ (o : Option Backing). not (is_some (c.page v p)) && passes (λ (b : Backing). nat_lt p b.seen) o) e ∙ never (not (is_some (c.page v p)))
 
 -- a page that is neither held nor absent has zeros
 pub zeros-end : (c : Content) (bs : Backings) (v p : ℕ) → c.page v p ≡ None → is_absent c (bs v) v p ≡ false → text_over c bs v p ≡ zeros

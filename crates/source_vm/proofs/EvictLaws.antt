@@ -1,8 +1,7 @@
 -- Laws of pages that are evicted.
 use Rattle.std.proofs.Common.{◌≡◌, ◌≢◌, ℕ, ◌+◌, ◌<◌, ◌≤◌, ◌⊎◌, inl, inr, ◌&&◌, ◌==◌, Bool, true, false, cond, Option, None, Some, refl, sym, ap, ◌∙◌, arith}
 use Rattle.std.proofs.lemmas.Bool.{cases_eq, cases_lt}
-use Rattle.vm_base.proofs.SearchLaws.{eqb_same, eqb_apart, none_from}
-use Rattle.vm_base.specs.Search.{any_from}
+use Rattle.vm_base.proofs.SearchLaws.{eqb_same, eqb_apart}
 use Rattle.vm_model.specs.Contents.Content.{Content, Page, IsGood, pages_of}
 use Rattle.vm_model.specs.Contents.Zeroing.{is_within, zeroed}
 use Rattle.vm_model.proofs.ContentLaws.{IsGood-part, own_pages}
@@ -148,6 +147,38 @@ cleared-end b old now v first from end is order gap h = by_page b old v first en
       either true o e = refl
       either false o e = e
 
+-- the pages of a range were cleared, and then those of the next one
+module _ (b : Backing) (old mid : Content) (v first from end : ℕ) (is : mid ≡ cleared b old v first from) (order : first ≤ from) (high : from ≤ end) where
+  mid_out : (q : ℕ) → (q < first) ⊎ (from ≤ q) → mid.page v q ≡ old.page v q
+  mid_out q out = ap (λ (c : Content). c.page v q) is ∙ page-cleared_out b old v first from q out
+
+  both_at : (q : ℕ) → (cleared b mid v from end).page v q ≡ (cleared b old v first end).page v q
+  both_at q = elim (cases_lt q first) [
+    | inl before ↦ page-cleared_out b mid v from end q (inl (omega (arith, before, order)))
+        ∙ (mid_out q (inl before) ∙ sym (page-cleared_out b old v first end q (inl before)))
+    | inr above ↦ elim (cases_lt q from) [
+      | inl done ↦ page-cleared_out b mid v from end q (inl done)
+          ∙ (ap (λ (c : Content). c.page v q) is ∙ (page-cleared_in b old v first from q above done ∙ sym (page-cleared_in b old v first end q above (omega (arith, done, high)))))
+      | inr later ↦ elim (cases_lt q end) [
+        | inl left ↦ page-cleared_in b mid v from end q later left
+            ∙ (ap (λ (o : Option Page). cond (is_clean_page b o q) None o) (mid_out q (inr later)) ∙ sym (page-cleared_in b old v first end q above left))
+        | inr past ↦ page-cleared_out b mid v from end q (inr past) ∙ (mid_out q (inr later) ∙ sym (page-cleared_out b old v first end q (inr past)))
+      ]
+    ]
+  ]
+
+  pub cleared-append : cleared b mid v from end ≡ cleared b old v first end
+  unfolding cleared
+  cleared-append = by_page b old v first end (cleared b mid v from end)
+      (ap (λ (c : Content). c.frames) is) (ap (λ (c : Content). c.next) is) (ap (λ (c : Content). c.count) is) both_at
+      (λ w q apart. page-cleared_vmo b mid v from end w q apart ∙ (ap (λ (c : Content). c.page w q) is ∙ page-cleared_vmo b old v first from w q apart))
+
+-- the first clean page of a range was made zero
+pub cleared-first : (b : Backing) (old mid : Content) (v first page : ℕ) → ((q : ℕ) → first ≤ q → q < page → is_clean_at b old v q ≡ false) → is_clean_at b old v page ≡ true
+    → first ≤ page → mid ≡ zeroed old v page (page + 1) → mid ≡ cleared b old v first (page + 1)
+cleared-first b old mid v first page none clean low is =
+    is ∙ (cleared-one b old v page clean ∙ cleared-append b old old v first page (page + 1) (cleared-none b old v first page none) low (omega arith))
+
 -- nothing is cleared yet
 pub cleared-nothing : (b : Backing) (c : Content) (v first : ℕ) → c ≡ cleared b c v first first
 cleared-nothing b c v first = cleared-none b c v first first (λ q low less. absurd (omega (arith, low, less)))
@@ -157,24 +188,22 @@ cleared-nothing b c v first = cleared-none b c v first first (λ q low less. abs
 clean-unheld : (b : Backing) (c : Content) (v p : ℕ) → c.page v p ≡ None → is_clean_at b c v p ≡ false
 clean-unheld b c v p e = clean-zero b (c.page v p) p e
 
+-- the pages before a held one are not clean
+pub none_clean-to : (b : Backing) (c : Content) (v first from page : ℕ) → ((p : ℕ) → first ≤ p → p < from → is_clean_at b c v p ≡ false)
+    → ((p : ℕ) → from ≤ p → p < page → c.page v p ≡ None) → (p : ℕ) → first ≤ p → p < page → is_clean_at b c v p ≡ false
+none_clean-to b c v first from page before gap p low less = elim (cases_lt p from) [
+  | inl done ↦ before p low done
+  | inr later ↦ clean-unheld b c v p (gap p later less)
+]
+
 -- the pages up to one are not clean
 pub none_clean-more : (b : Backing) (c : Content) (v first from page : ℕ) → ((p : ℕ) → first ≤ p → p < from → is_clean_at b c v p ≡ false)
     → ((p : ℕ) → from ≤ p → p < page → c.page v p ≡ None) → is_clean_at b c v page ≡ false
     → (p : ℕ) → first ≤ p → p < page + 1 → is_clean_at b c v p ≡ false
-none_clean-more b c v first from page before gap here p low less = elim (cases_lt p from) [
-  | inl done ↦ before p low done
-  | inr later ↦ elim (cases_lt p page) [
-    | inl between ↦ clean-unheld b c v p (gap p later between)
-    | inr at ↦ let same : p ≡ page = omega (arith, at, less) in ap (is_clean_at b c v) same ∙ here
-  ]
+none_clean-more b c v first from page before gap here p low less = elim (cases_lt p page) [
+  | inl inside ↦ none_clean-to b c v first from page before gap p low inside
+  | inr at ↦ let same : p ≡ page = omega (arith, at, less) in ap (is_clean_at b c v) same ∙ here
 ]
-
-pub none_clean-end : (b : Backing) (c : Content) (v first from end : ℕ) → ((p : ℕ) → first ≤ p → p < from → is_clean_at b c v p ≡ false)
-    → ((p : ℕ) → from ≤ p → p < end → c.page v p ≡ None) → any_from first end (is_clean_at b c v) ≡ false
-none_clean-end b c v first from end before gap = none_from (is_clean_at b c v) first end (λ p low less. elim (cases_lt p from) [
-  | inl done ↦ before p low done
-  | inr later ↦ clean-unheld b c v p (gap p later less)
-])
 
 -- what is left where some pages were cleared
 pub count-cleared : (b : Backing) (old now : Content) (v first end : ℕ) → now ≡ cleared b old v first end → now.count ≡ old.count

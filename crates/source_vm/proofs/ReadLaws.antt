@@ -1,15 +1,14 @@
 -- Laws of reading a range of text, page by page.
-use Rattle.std.proofs.Common.{◌≡◌, ℕ, zero, suc, ◌+◌, ◌-◌, ◌*◌, ◌/◌, ◌%◌, ◌<◌, ◌≤◌, min, slice_index, List, [], ◌++◌, length, map, take, drop, ap, sym, ◌∙◌, refl, arith}
+use Rattle.std.proofs.Common.{◌≡◌, ℕ, ◌+◌, ◌-◌, ◌*◌, ◌/◌, ◌%◌, ◌<◌, ◌≤◌, min, slice_index, List, [], ◌++◌, length, map, take, drop, ap, sym, ◌∙◌, refl, arith}
 use Rattle.std.specs.Prelude.{slice_range}
 use Rattle.std.specs.List.{range_with_len}
 use Rattle.std.proofs.lemmas.Grind.{same_number_lists}
 use Rattle.std.proofs.lemmas.List.{get_or-drop, get_or-take, length-drop, length-take, map-append, take_all}
-use Rattle.std.proofs.lemmas.List.FromFn.{length-map-range_with_len, length-range_with_len, get_or-map-range_with_len}
+use Rattle.std.proofs.lemmas.List.FromFn.{length-map-range_with_len, get_or-map-range_with_len}
 use Rattle.std.proofs.lemmas.Slice.{take-put_mid}
 use borrow.Rule.Slice.PartMut.{put_mid}
 use Rattle.vm_base.specs.declared.limits.TheConstants.{PAGE}
-use Rattle.vm_model.specs.Contents.Writing.{part_at, touched}
-use Rattle.vm_model.proofs.RangeLaws.{touched-nil}
+use Rattle.vm_model.specs.Contents.Writing.{part_at}
 use Rattle.vmo_ops.proofs.ModelLaws.{range_with_len-append}
 use Rattle.source_model.specs.State.{SourceState, text_in}
 
@@ -91,10 +90,3 @@ pub read_end : (s : SourceState) (v offset len p : ℕ) (out : List ℕ) → len
 read_end s v offset len p out size h to =
     let all : before offset len p ≡ len = omega (arith, h) in
     sym (take_all (before offset len p) out (omega (arith, all, size))) ∙ (to.bytes ∙ ap (text_in s v offset) all)
-
--- a range that touches a page has a byte
-pub some_touched : (offset len first end : ℕ) → touched offset len ≡ range_with_len first (end - first) → first < end → 0 < len
-some_touched offset zero first end pages h =
-    let none : end - first ≡ 0 = sym (length-range_with_len first (end - first)) ∙ ap (λ (ps : List ℕ). length ps) (sym pages ∙ touched-nil offset) in
-    absurd (omega (arith, none, h))
-some_touched offset (suc len) first end pages h = omega arith

@@ -6,7 +6,7 @@ use Rattle.vm_base.specs.declared.limits.TheConstants.{PAGE, SOURCE_PAGES, SOURC
 use Rattle.vm_base.specs.declared.refusal.Refusal.{Refusal}
 use Rattle.vm_base.specs.declared.refusal.Refusal.TheVariants.{NoMemory, HostMemory}
 use Rattle.vm_model.specs.Contents.Content.{Content, Page, IsGood, pages_of, used}
-use Rattle.vm_model.specs.Contents.Writing.{Piece}
+use Rattle.vm_model.specs.Contents.Writing.{Piece, touched}
 use Rattle.vm_model.specs.Contents.Zeroing.{is_within}
 use Rattle.source_model.specs.declared.backing.Backing.{Backing}
 use Rattle.source_model.specs.declared.link.Link.{Link}
@@ -56,6 +56,10 @@ end_piece links c v p = supply_of (end_of links c v p).koid (end_of links c v p)
 -- the pages from `first` to below `end` of v whose look-ups end at absent pages
 abbrev pub absent_ends : Backings → Links → Content → ℕ → (first end : ℕ) → List ℕ
 absent_ends backings links c v first end = filter (is_end_absent backings links c v) (range_with_len first (end - first))
+
+-- those of the pages that a range touches
+abbrev pub absent_touched : Backings → Links → Content → ℕ → (offset len : ℕ) → List ℕ
+absent_touched backings links c v offset len = filter (is_end_absent backings links c v) (touched offset len)
 
 -- From old, filling a page may lead to new.
 pub record FillsPage (backings : Backings) (links : Links) (old : Content) (part : Piece) (new : Content) : Type 0 where

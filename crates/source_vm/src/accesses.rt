@@ -1,19 +1,17 @@
 //! Accesses to the pages of VMOs: reading, writing, supplying and evicting.
 
-ghost use Rattle.std.specs.Prelude.{◌≡◌, ◌↔◌, ℕ, ◌+◌, ◌*◌, ◌/◌, ◌<◌, ◌≤◌, ◌&&◌, false, [], ◌∷◌, map, length, IsTrue, IsSome, Some, IfOk, IfErr};
+ghost use Rattle.std.specs.Prelude.{◌≡◌, ◌↔◌, ◌+◌, ◌*◌, ◌/◌, ◌<◌, ◌≤◌, ◌&&◌, [], ◌∷◌, map, length, IsTrue, IsSome, Some, IfOk, IfErr};
 ghost use Rattle.vm_model.specs.Contents.Content.{pages_of, IsGood};
 ghost use Rattle.vm_model.specs.Machine.Lent.{reply_for};
 ghost use Rattle.vm_model.specs.Machine.Refusals.{first_of};
 ghost use Rattle.source_model.specs.declared.command.SourceCommand.{SourceCommand};
 ghost use Rattle.source_model.specs.Commands.{SourceStep, is_aligned, refusals};
-ghost use Rattle.source_model.specs.State.{text_in};
-ghost use Rattle.source_vm.specs.Pages.{IsOfPages, IsReadable, is_end_absent};
-ghost use Rattle.source_vm.specs.Table.{Agrees, backings_of, links_of, state_of};
+ghost use Rattle.source_vm.specs.Pages.{IsOfPages};
+ghost use Rattle.source_vm.specs.Table.{Agrees, state_of};
 
-use crate::ranges::{evict_pages, read_range, supply_counted, supply_pages, write_pages};
+use crate::ranges::{evict_pages, read_range, supply_pages, write_pages};
 use crate::source_fn::SourceFn;
 use crate::table::{SourceTable, find};
-use crate::walk::count_absent_ends;
 use page_store::PageStore;
 use source_model::Backing;
 use vm_base::{DATA_BYTES, Koid, PAGE, Refusal, VmoName, in_page, page_of};
@@ -63,34 +61,11 @@ pub(crate) fn read<'a, P: PageStore>(
     if !is_in_range(store, v, offset, len) {
         return Answer::Refused(Refusal::OutOfRange);
     }
-    let (first, end) = touched_pages(offset, len);
-    let need = count_absent_ends(store, table, v, first, end);
-    match supply_counted(store, table, functions, v, first, end, need) {
-        Ok(()) => Answer::Bytes(read_into(store, table, v, offset, len, room)),
+    let out = &mut room[..len as usize];
+    match read_range(store, table, functions, v, offset, out) {
+        Ok(()) => Answer::Bytes(LentBytes::new(out)),
         Err(refusal) => Answer::Refused(refusal),
     }
-}
-
-/// Reads the bytes of a range inside a VMO, of which no look-up ends at an absent page, and lends them.
-fn read_into<'a, P: PageStore>(
-    store: &P,
-    table: &SourceTable,
-    v: Koid,
-    offset: u64,
-    len: u64,
-    room: &'a mut [u8],
-) -> LentBytes<'a>
-    requires readable { IsReadable (P.content store.now) (backings_of table.now) (links_of table.now) }
-    requires few { len ≤ DATA_BYTES }
-    requires room { DATA_BYTES ≤ length room.old }
-    requires inside { offset + len ≤ pages_of (P.content store.now) v.0 * PAGE }
-    requires supplied { (p : ℕ) → 0 < len → offset / PAGE ≤ p → p * PAGE < offset + len
-        → is_end_absent (backings_of table.now) (links_of table.now) (P.content store.now) v.0 p ≡ false }
-    ensures { result ≡ text_in (state_of (P.content store.now) table.now) v.0 offset len }
-{
-    let out = &mut room[..len as usize];
-    read_range(store, table, v, offset, out);
-    LentBytes::new(out)
 }
 
 /// Writes bytes. Each page that they touch is filled, if it is not held.

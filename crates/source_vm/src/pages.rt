@@ -13,8 +13,8 @@ ghost use Rattle.source_vm.specs.Table.{backings_of, links_of};
 
 use crate::source_fn::SourceFn;
 use crate::table::SourceTable;
-use crate::walk::{Place, find_end};
-use page_store::{Look, PageStore};
+use crate::walk::{Place, find_end, is_sourced};
+use page_store::PageStore;
 use source_model::Backing;
 use vm_base::{Koid, PAGE, PAGE_BYTES, PageNo, SOURCE_BYTES, SOURCE_PAGES};
 use vmo_ops::write_part;
@@ -80,9 +80,9 @@ fn load_end<P: PageStore>(
     requires size { length out.old ≡ PAGE }
     ensures { out.new ≡ text_over (P.content store.now) (backings_of table.now) end.koid.0 end.page }
 {
-    match store.look(end.koid, end.page) {
-        Look::Held { tag, .. } => store.read(tag, 0, out),
-        Look::Zero => load_backed(table, functions, end, out),
+    match store.frame(end.koid, end.page) {
+        Some(tag) => store.read(tag, 0, out),
+        None => load_backed(table, functions, end, out),
     }
 }
 
@@ -118,26 +118,31 @@ fn load_text<P: PageStore>(
     load_end(store, table, functions, end, out);
 }
 
-/// Reads the bytes that a page shows, from `at` bytes into it on, where the look-up does not end at an absent page.
+/// Reads the bytes that a page shows, from `at` bytes into it on, unless the look-up ends at an absent page. Reports whether it does.
 pub(crate) fn read_shown<P: PageStore>(
     store: &P,
     table: &SourceTable,
     place: Place,
     at: u64,
     out: &mut [u8],
-)
+) -> bool
     requires readable { IsReadable (P.content store.now) (backings_of table.now) (links_of table.now) }
     requires page { place.page < pages_of (P.content store.now) place.koid.0 }
     requires range { at + length out.old ≤ PAGE }
-    requires supplied { is_end_absent (backings_of table.now) (links_of table.now) (P.content store.now) place.koid.0 place.page ≡ false }
-    ensures { out.new ≡ take (length out.old) (drop at (walked (P.content store.now) (backings_of table.now)
+    ensures absent { result ≡ is_end_absent (backings_of table.now) (links_of table.now) (P.content store.now) place.koid.0 place.page }
+    ensures read { result ≡ false → out.new ≡ take (length out.old) (drop at (walked (P.content store.now) (backings_of table.now)
         (page_below (P.content store.now) (links_of table.now)) place.koid.0 place.page)) }
 {
     let end = find_end(store, table, place);
-    match store.look(end.koid, end.page) {
-        Look::Held { tag, .. } => store.read(tag, at, out),
-        Look::Zero => out.fill(0),
-    }
+    let Some(tag) = store.frame(end.koid, end.page) else {
+        if is_sourced(table, end) {
+            return true;
+        }
+        out.fill(0);
+        return false;
+    };
+    store.read(tag, at, out);
+    false
 }
 
 /// Fills a page: it is owned, and has its whole text then, with these bytes written from `at` bytes into it on. With no bytes it is
@@ -160,9 +165,9 @@ pub(crate) fn fill_page<P: PageStore>(
         (record { koid = place.koid.0; page = place.page; at = at; bytes = bytes.now }) (P.content store.new) }
     ensures spare { P.spare store.old ≤ P.spare store.new + 1 }
 {
-    match store.look(place.koid, place.page) {
-        Look::Held { .. } => write_part(store, place.koid, place.page, at, bytes),
-        Look::Zero => {
+    match store.frame(place.koid, place.page) {
+        Some(_) => write_part(store, place.koid, place.page, at, bytes),
+        None => {
             let mut whole = [0; PAGE_BYTES];
             load_text(store, table, functions, place, &mut whole);
             patch(&mut whole, at, bytes);
@@ -185,9 +190,9 @@ pub(crate) fn is_clean<P: PageStore>(
     requires page { page < pages_of (P.content store.now) v.0 }
     ensures { result ≡ is_clean_page backing.now ((P.content store.now).page v.0 page) page }
 {
-    match store.look(v, page) {
-        Look::Zero => false,
-        Look::Held { tag, .. } => {
+    match store.frame(v, page) {
+        None => false,
+        Some(tag) => {
             let mut held = [0; PAGE_BYTES];
             store.read(tag, 0, &mut held);
             let mut backed = [0; PAGE_BYTES];

@@ -1,6 +1,6 @@
 //! Ranges of pages of one VMO: supplying, writing and evicting.
 
-ghost use Rattle.std.specs.Prelude.{◌≡◌, ℕ, ◌+◌, ◌-◌, ◌*◌, ◌/◌, ◌<◌, ◌≤◌, ◌⊎◌, cond, true, false, [], ◌∷◌, map, length, Some, None, IsSome, IfSome, IfNone, IfErr, OnOk, OnErr};
+ghost use Rattle.std.specs.Prelude.{◌≡◌, ℕ, ◌+◌, ◌-◌, ◌*◌, ◌/◌, ◌<◌, ◌≤◌, true, false, [], ◌∷◌, map, length, Some, None, IsSome, IfSome, IfNone, IfErr, OnOk, OnErr};
 ghost use Rattle.std.specs.List.{filter, range_with_len};
 ghost use Rattle.vm_base.specs.Search.{any_from};
 ghost use Rattle.vm_model.specs.Contents.Content.{pages_of, used, IsGood};
@@ -8,7 +8,7 @@ ghost use Rattle.vm_model.specs.Contents.Owning.{need};
 ghost use Rattle.vm_model.specs.Contents.Writing.{touched, pieces};
 ghost use Rattle.vmo_ops.specs.Costs.{HasRows};
 ghost use Rattle.source_model.specs.State.{is_absent, text_in};
-ghost use Rattle.source_vm.specs.Pages.{FillsPages, IsReadable, IsSource, FillsPage, IsSupplied, LacksFrames, absent_ends, cleared, end_of, end_piece, is_clean_at, is_end_absent};
+ghost use Rattle.source_vm.specs.Pages.{FillsPages, IsReadable, IsSource, FillsPage, IsSupplied, LacksFrames, absent_ends, absent_touched, cleared, end_of, end_piece, is_clean_at, is_end_absent};
 ghost use Rattle.source_vm.specs.Table.{backings_of, links_of, state_of};
 
 use crate::pages::{fill_page, is_clean, read_shown};
@@ -168,34 +168,89 @@ fn supply_end<P: PageStore>(
     }
 }
 
-/// Reads the bytes of a range inside the VMO, `offset` bytes into it, each page at the end of its look-up. None of these ends is absent.
-#[tactic(auto, using(page_store::proofs::NameLaws::pages_of_le))]
+/// Reads the bytes of a range inside the VMO, `offset` bytes into it, each page at the end of its look-up. The absent pages at which
+/// look-ups end are supplied. `NoMemory` where they are more than the free frames, else `HostMemory` only where there is one. The room is
+/// made before the first page changes. If none is absent, each page is looked up once.
 pub(crate) fn read_range<P: PageStore>(
+    store: &mut P,
+    table: &SourceTable,
+    functions: &[SourceFn; 3],
+    v: Koid,
+    offset: u64,
+    out: &mut [u8],
+) -> Result<(), Refusal>
+    requires kinds { map (λ f. f.kind) functions.now ≡ 0 ∷ 1 ∷ 2 ∷ [] }
+    requires readable { IsReadable (P.content store.old) (backings_of table.now) (links_of table.now) }
+    requires inside { offset + length out.old ≤ pages_of (P.content store.old) v.0 * PAGE }
+    ensures ok { OnOk result (FillsPages (backings_of table.now) (links_of table.now) (P.content store.old)
+        (map (end_piece (links_of table.now) (P.content store.old) v.0)
+        (absent_touched (backings_of table.now) (links_of table.now) (P.content store.old) v.0 offset (length out.old))) (P.content store.new)) }
+    ensures free { OnOk result (used (P.content store.old)
+        + length (absent_touched (backings_of table.now) (links_of table.now) (P.content store.old) v.0 offset (length out.old))
+        ≤ (P.content store.old).frames) }
+    ensures text { OnOk result (out.new ≡ text_in (state_of (P.content store.new) table.now) v.0 offset (length out.old)) }
+    ensures same { OnErr result (P.content store.new ≡ P.content store.old) }
+    ensures err { IfErr result (LacksFrames (P.content store.old)
+        (length (absent_touched (backings_of table.now) (links_of table.now) (P.content store.old) v.0 offset (length out.old)))) }
+{
+    let len = out.len() as u64;
+    let need = read_present(store, table, v, offset, out);
+    if need == 0 {
+        return Ok(());
+    }
+    let (first, end) = touched_pages(offset, len);
+    match supply_counted(store, table, functions, v, first, end, need) {
+        Ok(()) => {
+            read_supplied(store, table, v, offset, out);
+            Ok(())
+        }
+        Err(refusal) => Err(refusal),
+    }
+}
+
+/// Reads the bytes of a range inside the VMO, `offset` bytes into it, each page at the end of its look-up, and returns how many of these
+/// ends are absent. No bytes are read for these.
+#[tactic(auto, using(page_store::proofs::NameLaws::pages_of_le))]
+fn read_present<P: PageStore>(
     store: &P,
     table: &SourceTable,
     v: Koid,
     offset: u64,
     out: &mut [u8],
-)
+) -> u64
     requires readable { IsReadable (P.content store.now) (backings_of table.now) (links_of table.now) }
     requires inside { offset + length out.old ≤ pages_of (P.content store.now) v.0 * PAGE }
-    requires supplied { (p : ℕ) → 0 < length out.old → offset / PAGE ≤ p → p * PAGE < offset + length out.old
-        → is_end_absent (backings_of table.now) (links_of table.now) (P.content store.now) v.0 p ≡ false }
-    ensures { out.new ≡ text_in (state_of (P.content store.now) table.now) v.0 offset (length out.old) }
+    ensures absent { result ≡ length (absent_touched (backings_of table.now) (links_of table.now) (P.content store.now) v.0 offset (length out.old)) }
+    ensures read { result ≡ 0 → out.new ≡ text_in (state_of (P.content store.now) table.now) v.0 offset (length out.old) }
 {
     let len = out.len() as u64;
     let (first, end) = touched_pages(offset, len);
+    let mut absent = 0;
     for page in first..end {
         let part = part_in_page(offset, len, page);
         let until = part.from + part.len;
-        read_shown(
+        let is_absent = read_shown(
             store,
             table,
             Place { koid: v, page },
             part.at,
             &mut out[part.from as usize..until as usize],
         );
+        if is_absent {
+            absent += 1;
+        }
     }
+    absent
+}
+
+/// Reads the bytes of a range inside the VMO, `offset` bytes into it, of which no look-up ends at an absent page.
+fn read_supplied<P: PageStore>(store: &P, table: &SourceTable, v: Koid, offset: u64, out: &mut [u8])
+    requires readable { IsReadable (P.content store.now) (backings_of table.now) (links_of table.now) }
+    requires inside { offset + length out.old ≤ pages_of (P.content store.now) v.0 * PAGE }
+    requires supplied { absent_touched (backings_of table.now) (links_of table.now) (P.content store.now) v.0 offset (length out.old) ≡ [] }
+    ensures { out.new ≡ text_in (state_of (P.content store.now) table.now) v.0 offset (length out.old) }
+{
+    read_present(store, table, v, offset, out);
 }
 
 /// Writes bytes to a range inside the VMO, `offset` bytes into it. Each page that the range touches is filled, if it is not held.
@@ -263,7 +318,7 @@ fn write_range<P: PageStore>(
 }
 
 /// Drops the clean pages from `first` to below `end`. `HostMemory` only where there is one, and then nothing was dropped. It goes by the
-/// held pages of the range.
+/// held pages of the range, and compares each of them with its source once.
 pub(crate) fn evict_pages<P: PageStore>(
     store: &mut P,
     functions: &[SourceFn; 3],
@@ -282,13 +337,14 @@ pub(crate) fn evict_pages<P: PageStore>(
     ensures same { OnErr result (P.content store.new ≡ P.content store.old) }
     ensures err { OnErr result (any_from first end (is_clean_at backing.now (P.content store.old) v.0) ≡ true) }
 {
-    if !has_clean(store, functions, backing, v, first, end) {
+    let Some(page) = first_clean(store, functions, backing, v, first, end) else {
         return Ok(());
-    }
-    let Ok(()) = store.reserve(end - first) else {
+    };
+    let Ok(()) = store.reserve(end - page) else {
         return Err(HostMemory);
     };
-    evict_range(store, functions, backing, v, first, end);
+    store.zero(v, page);
+    evict_range(store, functions, backing, v, page + 1, end);
     Ok(())
 }
 
@@ -304,31 +360,33 @@ fn next_held_in<P: PageStore>(store: &P, v: Koid, from: PageNo, end: PageNo) -> 
     if page < end { Some(page) } else { None }
 }
 
-/// Whether a page from `first` to below `end` is clean.
-fn has_clean<P: PageStore>(
+/// Returns the first clean page from `first` to below `end`. `None` if and only if none is clean.
+fn first_clean<P: PageStore>(
     store: &P,
     functions: &[SourceFn; 3],
     backing: &Backing,
     v: Koid,
     first: PageNo,
     end: PageNo,
-) -> bool
+) -> Option<PageNo>
     requires kinds { map (λ f. f.kind) functions.now ≡ 0 ∷ 1 ∷ 2 ∷ [] }
     requires source { IsSource backing.now }
     requires good { IsGood (P.content store.now) }
     requires vmo { IsSome ((P.content store.now).count v.0) }
     requires order { first ≤ end }
     requires pages { end ≤ pages_of (P.content store.now) v.0 }
-    ensures { result ≡ any_from first end (is_clean_at backing.now (P.content store.now) v.0) }
+    ensures some { IfSome result (λ page. (first ≤ page) × (page < end) × (is_clean_at backing.now (P.content store.now) v.0 page ≡ true)
+        × ((p : ℕ) → first ≤ p → p < page → is_clean_at backing.now (P.content store.now) v.0 p ≡ false)) }
+    ensures none { IfNone result ((p : ℕ) → first ≤ p → p < end → is_clean_at backing.now (P.content store.now) v.0 p ≡ false) }
 {
     let mut from = first;
     while let Some(page) = next_held_in(store, v, from, end) {
         if is_clean(store, functions, backing, v, page) {
-            return true;
+            return Some(page);
         }
         from = page + 1;
     }
-    false
+    None
 }
 
 /// Drops the clean pages from `first` to below `end`, where the room for it is there.

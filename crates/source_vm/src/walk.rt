@@ -1,14 +1,15 @@
 //! Look-ups of pages: from a loose child upwards to the page whose bytes it shows.
 
-ghost use Rattle.std.specs.Prelude.{◌≡◌, ◌<◌, ◌≤◌, length, IfSome, option_map};
+ghost use Rattle.std.specs.Prelude.{◌≡◌, ◌<◌, IfSome, nat_lt, option_map};
+ghost use Rattle.vm_base.specs.Entries.{passes};
 ghost use Rattle.vm_model.specs.Contents.Content.{pages_of};
 ghost use Rattle.source_model.specs.Links.{page_below};
 ghost use Rattle.source_model.specs.State.{is_absent};
-ghost use Rattle.source_vm.specs.Pages.{IsReadable, page_at, end_of, is_end_absent, absent_ends};
+ghost use Rattle.source_vm.specs.Pages.{IsReadable, page_at, end_of};
 ghost use Rattle.source_vm.specs.Table.{backings_of, links_of};
 
 use crate::table::SourceTable;
-use page_store::{Look, PageStore};
+use page_store::PageStore;
 use vm_base::{Koid, PageNo};
 
 /// A page of a VMO.
@@ -27,9 +28,9 @@ fn below<P: PageStore>(store: &P, table: &SourceTable, at: Place) -> Option<Plac
     ensures smaller { IfSome result (λ next. next.koid.0 < at.koid.0) }
     ensures inside { IfSome result (λ next. next.page < pages_of (P.content store.now) next.koid.0) }
 {
-    let Look::Zero = store.look(at.koid, at.page) else {
+    if store.frame(at.koid, at.page).is_some() {
         return None;
-    };
+    }
     let Some(link) = table.links.find(0, at.koid.0) else {
         return None;
     };
@@ -62,43 +63,18 @@ pub(crate) fn is_absent<P: PageStore>(store: &P, table: &SourceTable, at: Place)
     requires { at.page < pages_of (P.content store.now) at.koid.0 }
     ensures { result ≡ is_absent (P.content store.now) (backings_of table.now at.koid.0) at.koid.0 at.page }
 {
-    match store.look(at.koid, at.page) {
-        Look::Held { .. } => false,
-        Look::Zero => match table.backings.find(0, at.koid.0) {
-            Some(backing) => at.page < backing.seen,
-            None => false,
-        },
+    match store.frame(at.koid, at.page) {
+        Some(_) => false,
+        None => is_sourced(table, at),
     }
 }
 
-/// Whether the page at which a look-up ends is absent.
-fn is_end_absent<P: PageStore>(store: &P, table: &SourceTable, at: Place) -> bool
-    requires readable { IsReadable (P.content store.now) (backings_of table.now) (links_of table.now) }
-    requires page { at.page < pages_of (P.content store.now) at.koid.0 }
-    ensures { result ≡ is_end_absent (backings_of table.now) (links_of table.now) (P.content store.now) at.koid.0 at.page }
+/// Whether a page comes from a source. It is absent then, unless it is held.
+pub(crate) fn is_sourced(table: &SourceTable, at: Place) -> bool
+    ensures { result ≡ passes (λ b. nat_lt at.page b.seen) (backings_of table.now at.koid.0) }
 {
-    let end = find_end(store, table, at);
-    is_absent(store, table, end)
-}
-
-/// How many look-ups of the pages from `first` to below `end` end at an absent page.
-pub(crate) fn count_absent_ends<P: PageStore>(
-    store: &P,
-    table: &SourceTable,
-    v: Koid,
-    first: PageNo,
-    end: PageNo,
-) -> u64
-    requires readable { IsReadable (P.content store.now) (backings_of table.now) (links_of table.now) }
-    requires order { first ≤ end }
-    requires pages { end ≤ pages_of (P.content store.now) v.0 }
-    ensures { result ≡ length (absent_ends (backings_of table.now) (links_of table.now) (P.content store.now) v.0 first end) }
-{
-    let mut absent = 0;
-    for page in first..end {
-        if is_end_absent(store, table, Place { koid: v, page }) {
-            absent += 1;
-        }
+    match table.backings.find(0, at.koid.0) {
+        Some(backing) => at.page < backing.seen,
+        None => false,
     }
-    absent
 }

@@ -26,8 +26,8 @@ returns-in-Ok-supply_pages g c =
     let t = c.args.table.now in
     let content = g.P.PageStore.content c.args.store.now in
     let found = c.in-Ok.ensures.ok in
-    supply_supplied content (names_of t) (backings_of t) (links_of t) c.args.name c.in-Ok.found.0.0 found.named c.args.offset c.args.len _ _ c.touched_pages-first.ensures.pages
-    (no_more _ _ found.inside) c.in-Ok.found.1 found.backed found.unlinked found.aligned _ c.in-Ok-supply_pages.ensures.free c.in-Ok-supply_pages.ensures.ok
+    supply_supplied content (names_of t) (backings_of t) (links_of t) c.args.name c.in-Ok.found.0.0 found.named c.args.offset c.args.len (no_more _ _ found.inside) _ _ c.touched_pages-first.ensures.pages
+    c.in-Ok.found.1 found.backed found.unlinked found.aligned _ c.in-Ok-supply_pages.ensures.free c.in-Ok-supply_pages.ensures.ok
 
 pub returns-in-Err-supply_pages : goal.returns-in-Err-supply_pages
 returns-in-Err-supply_pages g c =
@@ -35,5 +35,5 @@ returns-in-Err-supply_pages g c =
     let content = g.P.PageStore.content c.args.store.now in
     let found = c.in-Ok.ensures.ok in
     kept_content content _ (names_of t) (backings_of t) (links_of t) _ _ c.in-Err-supply_pages.ensures.same
-    (supply_lacks content (names_of t) (backings_of t) (links_of t) c.args.name c.in-Ok.found.0.0 found.named c.args.offset c.args.len _ _ c.touched_pages-first.ensures.pages
-    (no_more _ _ found.inside) c.in-Ok.found.1 found.backed found.unlinked found.aligned _ c.in-Err-supply_pages.ensures.err)
+    (supply_lacks content (names_of t) (backings_of t) (links_of t) c.args.name c.in-Ok.found.0.0 found.named c.args.offset c.args.len (no_more _ _ found.inside) _ _ c.touched_pages-first.ensures.pages
+    c.in-Ok.found.1 found.backed found.unlinked found.aligned _ c.in-Err-supply_pages.ensures.err)

@@ -1,16 +1,16 @@
 use Rattle.std.proofs.Common.{◌∙◌, sym, ap, List, ℕ, arith}
 use Rattle.std.specs.Prelude.{nat_eq}
 use Rattle.std.specs.Cmp.Lexicographic.{pointwise}
-use Rattle.vmo_ops.proofs.LookLaws.{zero_look, held_look}
+use Rattle.vmo_ops.proofs.LookLaws.{zero_frame, held_frame}
 use Rattle.source_vm.proofs.FillingLaws.{clean-zero, clean-held, read_whole}
 use Rattle.source_vm.proofs.pages.is_clean.Goals as goal
 
-pub returns-in-Zero : goal.returns-in-Zero
-returns-in-Zero g c = sym (clean-zero c.args.backing.now _ c.args.page (zero_look _ _ _ c.in-Zero.ensures))
+pub returns-in-None : goal.returns-in-None
+returns-in-None g c = sym (clean-zero c.args.backing.now _ c.args.page (zero_frame _ c.in-None.ensures))
 
-pub returns-in-Held : goal.returns-in-Held
-returns-in-Held g c =
-    let held = held_look _ _ _ _ _ c.in-Held.ensures in
+pub returns-in-Some : goal.returns-in-Some
+returns-in-Some g c =
+    let held = held_frame _ _ c.in-Some.ensures in
     let backing = c.args.backing.now in
     let bytes = read_whole c.read.new.out held.0.bytes (omega arith)
     (c.requires.good.whole _ _ held.0 held.1)

@@ -1,17 +1,17 @@
 use Rattle.std.proofs.Common.{◌∙◌, sym, arith}
-use Rattle.vmo_ops.proofs.LookLaws.{zero_look, held_look}
+use Rattle.vmo_ops.proofs.LookLaws.{zero_frame, held_frame}
 use Rattle.source_vm.specs.Table.{backings_of}
 use Rattle.source_vm.proofs.FillingLaws.{read_whole, text-held, text-free}
 use Rattle.source_vm.proofs.pages.load_end.Goals as goal
 
-pub returns-in-Held : goal.returns-in-Held
-returns-in-Held g c =
-    let held = held_look _ _ _ _ _ c.in-Held.ensures in
+pub returns-in-Some : goal.returns-in-Some
+returns-in-Some g c =
+    let held = held_frame _ _ c.in-Some.ensures in
     read_whole c.read.new.out held.0.bytes (omega arith) (c.requires.readable.good.whole _ _ held.0 held.1)
     (c.read.ensures c.args.end.koid.0 c.args.end.page held.0 (record { page = held.1; tag = held.2 }))
     ∙ sym (text-held (g.P.PageStore.content c.args.store.now) (backings_of c.args.table.now) c.args.end.koid.0 c.args.end.page held.0 held.1)
 
-pub returns-in-Zero : goal.returns-in-Zero
-returns-in-Zero g c =
+pub returns-in-None : goal.returns-in-None
+returns-in-None g c =
     c.load_backed.ensures
-    ∙ sym (text-free (g.P.PageStore.content c.args.store.now) (backings_of c.args.table.now) c.args.end.koid.0 c.args.end.page (zero_look _ _ _ c.in-Zero.ensures))
+    ∙ sym (text-free (g.P.PageStore.content c.args.store.now) (backings_of c.args.table.now) c.args.end.koid.0 c.args.end.page (zero_frame _ c.in-None.ensures))

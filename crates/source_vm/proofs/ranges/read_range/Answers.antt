@@ -1,25 +1,24 @@
-use Rattle.std.proofs.Common.{arith}
-use Rattle.source_model.specs.Links.{page_below}
-use Rattle.source_model.proofs.LinkLaws.{length-walked}
-use Rattle.source_vm.specs.Table.{backings_of, links_of, state_of}
-use Rattle.source_vm.proofs.ReadLaws.{read_start, read_step, read_end, some_touched}
+use Rattle.std.proofs.Common.{◌≡◌, [], length, ℕ, List, subst, arith}
+use Rattle.page_store.proofs.NameLaws.{pages_of_le}
+use Rattle.vmo_ops.proofs.ModelLaws.{used_le}
+use Rattle.source_vm.specs.Pages.{absent_touched}
+use Rattle.source_vm.specs.Table.{backings_of, links_of}
+use Rattle.source_vm.proofs.AbsentLaws.{touched-supplied}
 use Rattle.source_vm.proofs.ranges.read_range.Goals as goal
 
-pub loop-page-init : goal.loop-page-init
-loop-page-init g c = read_start _ _ _ _ _ c.touched_pages-first.ensures.first
+pub returns-then-need-eq0-clause-free : goal.returns-then-need-eq0-clause-free
+returns-then-need-eq0-clause-free g c =
+    omega (arith, c.read_present-need.ensures.absent, c.if-need-eq0.true, used_le (g.P.PageStore.content c.args.store.now))
 
-pub read_shown-requires-clause-supplied : goal.read_shown-requires-clause-supplied
-read_shown-requires-clause-supplied g c =
-    c.requires.supplied c.loop-page.page (some_touched _ _ _ _ c.touched_pages-first.ensures.pages (omega arith)) (omega arith) (omega (arith, c.touched_pages-first.ensures.end))
+pub touched_pages-first-requires : goal.touched_pages-first-requires
+touched_pages-first-requires g c = omega (arith, c.requires.inside, pages_of_le _ c.args.v.0 c.requires.readable.good)
 
-pub loop-page-preserved : goal.loop-page-preserved
-loop-page-preserved g c =
-    let part = c.part_in_page-part.ensures in
-    let t = c.args.table.now in
-    let content = g.P.PageStore.content c.args.store.now in
-    read_step _ _ _ (λ q. length-walked content (backings_of t) (page_below content (links_of t)) c.args.v.0 q c.requires.readable.good)
-    (omega arith) (omega (arith, c.touched_pages-first.ensures.end)) part.at part.from
-    part.until part.within c.loop-page.auto.out c.read_shown.auto.out c.read_shown.ensures c.loop-page.invariant
-
-pub returns : goal.returns
-returns g c = read_end (state_of (g.P.PageStore.content c.args.store.now) c.args.table.now) _ _ _ _ _ (omega arith) (omega (arith, c.touched_pages-first.ensures.all)) c.loop-page.invariant
+pub read_supplied-requires-clause-supplied : goal.read_supplied-requires-clause-supplied
+read_supplied-requires-clause-supplied g c =
+    let content = g.P.PageStore.content c.supply_counted.new.store in
+    let bs = backings_of c.args.table.now in
+    let ls = links_of c.args.table.now in
+    let size : length c.args.out.now ≡ length c.read_present-need.new.out = omega arith in
+    subst (λ (n : ℕ). ◌≡◌ {A = List ℕ} (absent_touched bs ls content c.args.v.0 c.args.offset n) []) size
+    (touched-supplied bs ls content c.args.v.0 c.args.offset (length c.args.out.now) c.touched_pages-first.result.0 c.touched_pages-first.result.1
+    c.touched_pages-first.ensures.pages c.in-Ok.ensures.ok.none)

@@ -1,6 +1,6 @@
 use Rattle.std.proofs.Common.{◌≡◌, ◌-◌, ◌<◌, ◌≤◌, ℕ, false}
 use Rattle.source_vm.specs.Pages.{is_clean_at}
-use Rattle.source_vm.proofs.ranges.has_clean.Given as goal
+use Rattle.source_vm.proofs.ranges.first_clean.Given as goal
 
 abbrev pub invariant-loop-page : goal.invariant-loop-page
 invariant-loop-page g l = record {

@@ -1,9 +1,0 @@
-use Rattle.source_vm.specs.Pages.{page_at}
-use Rattle.source_vm.specs.Table.{backings_of, links_of}
-use Rattle.source_vm.proofs.EndLaws.{absent-end}
-use Rattle.source_vm.proofs.walk.is_end_absent.Goals as goal
-
-pub returns : goal.returns
-returns g c =
-    absent-end (g.P.PageStore.content c.args.store.now) (backings_of c.args.table.now) (links_of c.args.table.now) c.args.at.koid.0 c.args.at.page
-    (page_at c.find_end-end.result) c.is_absent.result c.find_end-end.ensures.end c.is_absent.ensures
