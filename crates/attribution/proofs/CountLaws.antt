@@ -1,6 +1,6 @@
 -- How the held pages of a VMO are counted from one to the next.
 use mir.Val.{bool_byte}
-use Rattle.std.proofs.Common.{◌≡◌, ℕ, ◌+◌, ◌<◌, ◌≤◌, Bool, true, false, not, cond, ◌==◌, Option, None, Some, refl, sym, ap, subst, ◌∙◌, arith}
+use Rattle.std.proofs.Common.{◌≡◌, ℕ, ◌+◌, ◌<◌, ◌≤◌, Bool, true, false, not, cond, Option, None, Some, refl, sym, ap, ◌∙◌, arith}
 use Rattle.std.specs.Prelude.{IsSome}
 use Rattle.std.proofs.lemmas.Bool.{not_from_false, false_from_ne_true}
 use Rattle.vm_base.specs.declared.names.Tag.{Tag}
@@ -8,15 +8,15 @@ use Rattle.vm_base.specs.declared.limits.TheConstants.{VMO_PAGES}
 use Rattle.vm_base.specs.Search.{count_below}
 use Rattle.vm_base.proofs.SearchLaws.{none_below, count_below_le, count_below-suc, count_below-zero, count_below_gap, bit_same}
 use Rattle.vm_model.specs.Contents.Content.{Page, Content, is_held, pages_of, views, is_sole_page, sole, IsGood}
-use Rattle.vm_model.specs.Contents.Sharing.{IsLeastViewer}
 use Rattle.vm_model.specs.Machine.Attribution.{is_shared, is_charged}
 use Rattle.vm_model.proofs.ContentLaws.{count_from_page, views_found, sole_alone}
 use Rattle.vm_model.proofs.ContentLaws.{IsOfHeld, IsOfHeld-held}
-use Rattle.page_store.specs.declared.page_store.Look.TheVariants as look
-use Rattle.page_store.specs.Pages.{look_at}
+use Rattle.pages.specs.Look.TheVariants as look
+use Rattle.pages.specs.Pages.{look_at, frame_of}
 use Rattle.attribution.specs.declared.counts.Counts.{Counts}
 use Rattle.attribution.specs.inside.Counts.{AreCounts}
-use Rattle.attribution.proofs.AttributionLaws.{is_held-some, is_shared-some, is_charged-at, is_charged_page-some, is_charged-least, IsOfHeld-sole, IsOfHeld-shared, IsOfHeld-charged}
+use Rattle.pages.proofs.ChargeLaws.{is_charged-at, is_charged_page-some}
+use Rattle.attribution.proofs.AttributionLaws.{is_held-some, is_shared-some, IsOfHeld-sole, IsOfHeld-shared, IsOfHeld-charged}
 
 -- ---- a test as a number
 
@@ -54,6 +54,10 @@ looks_held c v p tag alone e = go (c.page v p) refl e where
             page ∙ is_alone;
       }
 
+-- it has this frame
+pub held_so-frame : (c : Content) (v p : ℕ) (tag : Tag) (alone : Bool) → IsHeldSo c v p tag alone → Some tag ≡ frame_of (c.page v p)
+held_so-frame c v p tag alone is = rw (is.page, is.frame) refl
+
 module _ (c : Content) (v p : ℕ) (tag : Tag) (alone : Bool) (good : IsGood c) (is : IsHeldSo c v p tag alone) where
   -- a VMO is charged for its sole pages
   pub charged-sole : alone ≡ true → is_charged c v p ≡ true
@@ -66,11 +70,6 @@ module _ (c : Content) (v p : ℕ) (tag : Tag) (alone : Bool) (good : IsGood c) 
       let same = sole_alone c v p w found.0 is.held found.1 good (is.sharing ∙ yes_alone) is.page found.3 found.4 in
       let koid : w ≡ v = same.0 in
       absurd (omega arith)))))
-
-  -- a VMO is charged for a page where its koid is the least that shows the frame
-  pub charged-least : (w : ℕ) → IsLeastViewer c tag.0 w → is_charged c v p ≡ (w == v)
-  charged-least w least =
-      is_charged-least c v p w is.held good is.page (subst (λ (t : ℕ). IsLeastViewer c t w) (sym is.frame) least)
 
 -- ---- counts
 

@@ -6,7 +6,7 @@ ghost use Rattle.vm_model.specs.Machine.State.{State};
 ghost use Rattle.vmo_table.specs.Table.{names_of, with_vmos, AreParts, IsNamed};
 
 use crate::counts::count_held;
-use page_store::{PageStore, size_of_name};
+use pages::{Pages, size_of_name};
 use vm_model::Info;
 use vmo_table::{Target, VmoTable};
 
@@ -14,7 +14,7 @@ use vmo_table::{Target, VmoTable};
 /// bytes, the pages that are held, sole, shared with another VMO, and charged to the VMO, and its children. A VMO is
 /// charged for a frame if no VMO with a lesser koid shows the frame. The call costs the held pages of the VMO, and for
 /// each what the store takes to find the least koid that shows its frame.
-pub fn info<P: PageStore>(store: &P, vmos: &VmoTable, t: &Target) -> Info
+pub fn info<P: Pages>(store: &P, vmos: &VmoTable, t: &Target) -> Info
     requires parts { AreParts (P.content store.now) vmos.now }
     requires named { IsNamed (names_of vmos.now) t.now }
     ensures { (s : State) → result ≡ info_at (with_vmos s (P.content store.now) vmos.now) t.now }

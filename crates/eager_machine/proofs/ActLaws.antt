@@ -5,14 +5,14 @@ use Rattle.vm_model.specs.declared.call.Call.{Call}
 use Rattle.vm_model.specs.declared.command.Command.{Command}
 use Rattle.vm_model.specs.declared.command.Command.TheVariants.{VmarAllocate, VmarMap, MemRead, MemWrite}
 use Rattle.vm_model.specs.declared.reply.Reply.{Reply}
-use Rattle.vm_model.specs.declared.reply.Reply.TheVariants.{Address, Refused}
+use Rattle.vm_model.specs.declared.reply.Reply.TheVariants.{Address}
 use Rattle.vm_model.specs.Contents.Content.{Content}
 use Rattle.vm_model.specs.Space.AddressSpaces.{Spaces}
 use Rattle.vm_model.specs.Machine.Given.{GivesName}
 use Rattle.vm_model.specs.Machine.Lent.{command_of}
 use Rattle.vm_model.specs.Machine.State.{State, keeper_count}
 use Rattle.vm_model.specs.Machine.Refusals.{refusals, first_of}
-use Rattle.vm_model.specs.Machine.Step.{Effect, StepAfter, Step}
+use Rattle.vm_model.specs.Machine.Step.{Effect}
 use Rattle.vm_model.specs.Machine.Machine.{Machine}
 use Rattle.vm_model.specs.Machine.MachineStep.{ready_after, MachineEffect, MachineStepAfter, MachineStep}
 use Rattle.vm_model.proofs.StepLaws.{effect_keeps}
@@ -93,24 +93,6 @@ pub told_all : {e : EagerVmos} {spaces : Spaces} {rows : Rows} {reply : Reply} (
     → Effect (state_in e spaces) (command_of call) reply (state_in e spaces) → DoesAll e spaces rows (command_of call) reply e spaces rows
 told_all {e} {spaces} {rows} {reply} call group well effect =
     record { effect = effect; counted = well.counted; left = left_told call (state_in e spaces) reply (content_in e) rows group }
-
--- ---- steps of the state
-
--- a step that nothing refuses, and whose reply is no refusal, is the effect
-pub effect_of : {old : State} {command : Command} {reply : Reply} {new : State} → first_of (refusals old command) ≡ None → ((refusal : Refusal) → reply ≡ Refused refusal → ⊥)
-    → Step old command reply new → Effect old command reply new
-effect_of {old} {command} {reply} {new} none done step = go (subst (λ (o : Option Refusal). StepAfter o old command reply new) none step.outcome) where
-  go : StepAfter None old command reply new → Effect old command reply new
-  go (inl effect) = effect
-  go (inr lacked) = absurd (done _ lacked.0.answer)
-
--- one whose reply is a refusal changes nothing, if that is no effect
-pub same_of : {old : State} {command : Command} {refusal : Refusal} {new : State} → first_of (refusals old command) ≡ None → (Effect old command (Refused refusal) new → ⊥)
-    → Step old command (Refused refusal) new → new ≡ old
-same_of {old} {command} {refusal} {new} none done step = go (subst (λ (o : Option Refusal). StepAfter o old command (Refused refusal) new) none step.outcome) where
-  go : StepAfter None old command (Refused refusal) new → new ≡ old
-  go (inl effect) = absurd (done effect)
-  go (inr lacked) = lacked.0.same
 
 -- ---- the machine
 

@@ -12,7 +12,7 @@ use Rattle.vm_model.specs.Machine.Machine.{Machine, IsGoodMachine}
 use Rattle.vm_model.proofs.ContentLaws.{sole_alone}
 use Rattle.moving_machine.proofs.PinnedLaws.{pinned_alone}
 use Rattle.vmo_ops.proofs.ZeroLaws.{any_pinned_one}
-use Rattle.page_store.proofs.NameLaws.{pages_of_le}
+use Rattle.vm_model.proofs.ContentLaws.{pages_of_le}
 use Rattle.eager_machine.specs.Machine.{HasPinnedFrame, pinned_frame}
 
 -- ---- a page of a pin

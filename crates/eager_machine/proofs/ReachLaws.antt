@@ -18,7 +18,8 @@ use Rattle.vm_model.specs.Machine.Refusals.{refusals, change_refusals, first_of}
 use Rattle.vm_model.proofs.NamesLaws.{names-open, target_of-at}
 use Rattle.vm_model.proofs.StepLaws.{AllOff-from_none, change_parts, place_inside}
 use Rattle.vmo_table.specs.Table.{names_of}
-use Rattle.page_store.proofs.NameLaws.{name_few, pages_of_le, IsInside-good}
+use Rattle.pages.proofs.NameLaws.{name_few, IsInside-good}
+use Rattle.vm_model.proofs.ContentLaws.{pages_of_le}
 use Rattle.eager_vmos.specs.declared.eager_vmos.EagerVmos.{EagerVmos}
 use Rattle.eager_vmos.specs.Vmos.{content_in, state_with}
 use Rattle.eager_machine.specs.declared.reaching.Reach.{Reach}

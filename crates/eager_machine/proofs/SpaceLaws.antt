@@ -22,7 +22,7 @@ use Rattle.eager_vmos.specs.Vmos.{content_in}
 use Rattle.eager_machine.specs.Machine.{state_in}
 use Rattle.eager_machine.specs.inside.Acting.{MayDoAll, DoesAll, AreAllKept}
 use Rattle.eager_machine.specs.inside.Leaving.{rows_after}
-use Rattle.eager_machine.proofs.ActLaws.{effect_of, same_of}
+use Rattle.eager_vmos.proofs.DoingLaws.{effect_of, same_of}
 
 -- the reply is no refusal, and a refusal is no effect of the command
 abbrev pub IsDone : Reply → Type 0

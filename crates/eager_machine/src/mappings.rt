@@ -98,7 +98,7 @@ pub(crate) fn vmar_unmap(
     ensures noted { AreNoted (regions_of regions.new) (places_of maps.new) }
 {
     let above = live_region(regions, region);
-    match eager_spaces::unmap(
+    match region_ops::unmap_in(
         &mut vmos.pages,
         &mut vmos.vmos,
         regions,

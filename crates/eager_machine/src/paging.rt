@@ -70,10 +70,7 @@ fn change<'a>(
         } => done(vmos.fill(*name, *offset, *len, *byte)),
         Call::VmoCommit { name, offset, len } => done(vmos.commit(*name, *offset, *len)),
         Call::VmoZero { name, offset, len } => done(vmos.zero(*name, *offset, *len)),
-        Call::VmoDecommit { name, offset, len } => {
-            vmos.decommit(*name, *offset, *len);
-            Ok(Answer::Done)
-        }
+        Call::VmoDecommit { name, offset, len } => done(vmos.decommit(*name, *offset, *len)),
         Call::VmoSetSize { name, size } => {
             vmos.set_size(*name, *size);
             Ok(Answer::Done)

@@ -10,7 +10,8 @@ ghost use Rattle.eager_machine.specs.inside.Groups.{group_of};
 ghost use Rattle.eager_machine.specs.inside.Reaching.{range_of, reach_of, seen_of, HasRange, HasPart};
 ghost use Rattle.eager_machine.specs.declared.groups.Group.{Group};
 
-use eager_vmos::{EagerVmos, pages_of_name};
+use eager_vmos::EagerVmos;
+use pages::pages_of_name;
 use vm_base::{Koid, PAGE, PageNo, VMO_PAGES, VmoName, page_count, page_of};
 use vm_model::Call;
 use vmo_ops::touched_pages;

@@ -117,7 +117,7 @@ pub(crate) fn vmar_destroy(
     ensures noted { AreNoted (regions_of regions.new) (places_of maps.new) }
 {
     let dying = live_region(regions, region);
-    eager_spaces::destroy(
+    region_ops::destroy_in(
         &mut vmos.pages,
         &mut vmos.vmos,
         regions,

@@ -3,5 +3,4 @@ pub mod RowLaws
 pub mod ChangeLaws
 pub mod SnapshotLaws
 pub mod VmoLaws
-pub mod CountLaws
 pub mod ViewerLaws

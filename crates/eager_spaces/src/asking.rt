@@ -18,8 +18,8 @@ ghost use Rattle.eager_spaces.specs.inside.Rows.{allocate_rows, unmap_rows, prot
 
 use bitflags::Flags;
 use eager_pages::EagerPages;
-use eager_vmos::pages_of_name;
 use mapping_set::MappingSet;
+use pages::pages_of_name;
 use region_ops::{
     Wanted, allows, cover_of, find_map_place, find_place, is_misplaced, is_outside, lacks_reading,
     map_refusal,

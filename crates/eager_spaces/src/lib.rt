@@ -1,14 +1,11 @@
-//! What commands do to the address spaces of a machine whose pages are kept eagerly: a root region is made (`create_root`), a
-//! region is allocated (`allocate`) or a part of a VMO mapped (`map`) at a place that a reply tells, the pages of a range are
-//! unmapped (`unmap`), and a region is destroyed with all below it (`destroy`). What refuses a command on regions can be asked
-//! apart, by its names (`refusal_to_map` and the like). It is for a checker of what the machine answers.
+//! What commands do to address spaces at places that are given: a root region is created (`create_root`), and a region is
+//! allocated (`allocate`) or a part of a VMO mapped (`map`) at a place that a reply has. What refuses a command on regions can
+//! be asked apart, by its names (`refusal_to_map` and the like). It is for a checker of what the machine answers.
 //!
-//! With the machine that is judged it shares the tables (`VmoTable`, `MappingSet`, `Regions`) and what `region_ops` does
-//! without a store: the search for a free place, what refuses a mapping (`map_refusal`), and the end of the regions below one
-//! (`destroy_within`). `protect_in` and `attribution::runs_in` need no store either, so the layer above calls them. It calls no
-//! code of a store of pages. That layer has looked the names up for what has an effect. Each such call is the step of its
-//! command, or answers that there is no such step, and keeps the live children of each region noted (`AreNoted` of
-//! `region_tree`).
+//! All else is done by `region_ops`, over the checker's pages (`EagerPages` is an implementation of `Pages`): the search for a
+//! free place, what refuses a mapping, and how one is put at its place. The layer above calls `unmap_in`, `destroy_in` and
+//! `protect_in` itself. It has looked the names up for what has an effect. Each such call is the step of its command, or
+//! answers that there is no such step, and keeps the live children of each region noted (`AreNoted` of `region_tree`).
 #![tactic(auto,
 // where a region and a place in it end
 using(region_ops::proofs::PlaceLaws::live_end, region_ops::proofs::PlaceLaws::place_inside, region_ops::proofs::PlaceLaws::place_end),
@@ -17,11 +14,9 @@ unfolding(vm_model::specs::Space::Regions::region_of, vm_base::specs::Entries::p
 
 mod allocating;
 mod asking;
-mod leaving;
 mod mapping;
 mod placing;
 mod rooting;
-mod unmapping;
 
 pub use allocating::allocate;
 pub use asking::{
@@ -30,4 +25,3 @@ pub use asking::{
 };
 pub use mapping::map;
 pub use rooting::create_root;
-pub use unmapping::{destroy, unmap};

@@ -1,6 +1,6 @@
 //! Mapping a part of a VMO into a region (`zx_vmar_map`), at a place that a reply tells.
 
-ghost use Rattle.std.specs.Prelude.{◌≡◌, ◌+◌, ◌*◌, ◌/◌, ◌≤◌, true, false, None, Some, ⊤, MatchResult};
+ghost use Rattle.std.specs.Prelude.{◌≡◌, ◌+◌, ◌*◌, ◌/◌, ◌≤◌, true, Some, ⊤, MatchResult};
 ghost use Rattle.std.specs.Option.{MatchOption};
 ghost use Rattle.vm_base.specs.Pages.{rounded};
 ghost use Rattle.vm_base.specs.declared.limits.TheConstants.{PAGE, ROOT_END};
@@ -9,21 +9,18 @@ ghost use Rattle.vm_model.specs.declared.command.Command.{Command};
 ghost use Rattle.vm_model.specs.declared.reply.Reply.{Reply};
 ghost use Rattle.vm_model.specs.Space.Rights.{has, specific, overwrite, upper_limit};
 ghost use Rattle.vm_model.specs.Space.Mappings.{IsMapPlace};
-ghost use Rattle.vm_model.specs.Space.Table.{with_pages};
 ghost use Rattle.vmo_table.specs.Table.{names_of, IsNamed};
-ghost use Rattle.mapping_set.specs.Tables.{table_of, spare_of, places_of, IsBare};
-ghost use Rattle.region_tree.specs.Tree.{regions_of, spaces_of, AreNoted, IsVacant};
-ghost use Rattle.region_ops.specs.Spaces.{AreWell, AreAllWell, Does, LetsGo};
-ghost use Rattle.region_ops.specs.inside.Mapping.{IsPuttable, Puts};
+ghost use Rattle.mapping_set.specs.Tables.{table_of, places_of};
+ghost use Rattle.region_tree.specs.Tree.{regions_of, spaces_of, AreNoted};
+ghost use Rattle.region_ops.specs.Spaces.{AreAllWell, Does};
 ghost use Rattle.eager_pages.specs.Eager.{content_of};
 
-use crate::leaving::clear_range;
 use crate::placing::told_map_place;
 use bitflags::Flags;
 use eager_pages::EagerPages;
-use eager_vmos::pages_of_name;
 use mapping_set::{MappingSet, Piece};
-use region_ops::{Wanted, entry_of, map_refusal};
+use pages::pages_of_name;
+use region_ops::{Wanted, entry_of, map_refusal, put};
 use region_tree::{Region, Regions};
 use vm_base::{MapFlags, PageNo, Perm, Refusal, RegionName, page_count};
 use vmo_table::{Target, VmoTable};
@@ -108,59 +105,4 @@ pub fn map(
     };
     put(pages, vmos, maps, above.root, piece, wanted.overwriting);
     Ok(Some(first))
-}
-
-/// Puts a mapping at its place, and counts its pages as keepers of its VMO. With `overwriting`, what is mapped there is
-/// taken out.
-fn put(
-    pages: &mut EagerPages,
-    vmos: &mut VmoTable,
-    maps: &mut MappingSet,
-    root: RegionName,
-    piece: Piece,
-    overwriting: bool,
-)
-    requires well { AreWell (content_of pages.old) vmos.old (table_of maps.old) }
-    requires room { 2 ≤ spare_of maps.old }
-    requires place { IsPuttable (names_of vmos.old) (table_of maps.old) root.0 piece overwriting }
-    ensures puts { Puts (content_of pages.old) vmos.old (table_of maps.old) root.0 piece
-        (content_of pages.new) vmos.new (table_of maps.new) }
-    ensures places { IsVacant (places_of maps.old) root.0 piece.entry.region.0 piece.first piece.count
-        → places_of maps.new ≡ places_of maps.old }
-{
-    clear_place(
-        pages,
-        vmos,
-        maps,
-        root,
-        piece.first,
-        piece.count,
-        overwriting,
-    );
-    vmos.keep(piece.entry.koid, piece.count);
-    maps.place(root, piece);
-}
-
-/// Takes out what is mapped on the pages of a place that is overwritten. At any other place nothing is mapped.
-fn clear_place(
-    pages: &mut EagerPages,
-    vmos: &mut VmoTable,
-    maps: &mut MappingSet,
-    root: RegionName,
-    first: PageNo,
-    count: u64,
-    overwriting: bool,
-)
-    requires well { AreWell (content_of pages.old) vmos.old (table_of maps.old) }
-    requires room { 2 ≤ spare_of maps.old }
-    requires bare { overwriting ≡ false → IsBare (table_of maps.old root.0) first (first + count) }
-    ensures table { table_of maps.new ≡ with_pages (table_of maps.old) root.0 first (first + count) (λ p. None) }
-    ensures gone { LetsGo (content_of pages.old) vmos.old (table_of maps.old)
-        (content_of pages.new) vmos.new (table_of maps.new) }
-    ensures spare { 1 ≤ spare_of maps.new }
-    ensures places { places_of maps.new ≡ places_of maps.old }
-{
-    if overwriting {
-        clear_range(pages, vmos, maps, root, first, count);
-    }
 }

@@ -1,12 +1,13 @@
 -- Where a range of a name was found, and what refuses a change to it.
-use Rattle.std.proofs.Common.{◌≡◌, ℕ, ◌+◌, ◌*◌, ◌≤◌, Bool, true, false, not, cond, List, [], ◌∷◌, Option, None, Some, length, inr, refl, sym, ap, subst, ◌∙◌}
+use Rattle.std.proofs.Common.{◌≡◌, ℕ, ◌+◌, ◌*◌, ◌≤◌, Bool, false, not, cond, List, [], ◌∷◌, Option, None, Some, refl, sym, ap, subst, ◌∙◌}
 use Rattle.std.specs.Prelude.{nat_lt, is_some, IsSome}
-use Rattle.std.proofs.lemmas.Bool.{le-ltb, ltb-false}
+use Rattle.std.proofs.lemmas.Bool.{le-ltb}
 use Rattle.vm_base.specs.declared.limits.TheConstants.{PAGE}
+use Rattle.vm_base.specs.declared.names.Koid.{Koid}
 use Rattle.vm_base.specs.declared.refusal.Refusal.{Refusal}
 use Rattle.vm_base.specs.declared.refusal.Refusal.TheVariants.{BadHandle, AccessDenied, OutOfRange, NoMemory}
 use Rattle.vm_model.specs.declared.names.Target.{Target}
-use Rattle.vm_model.specs.Contents.Content.{Content, pages_of, used}
+use Rattle.vm_model.specs.Contents.Content.{pages_of, used}
 use Rattle.vm_model.specs.Contents.Owning.{need}
 use Rattle.vm_model.specs.Contents.Writing.{touched}
 use Rattle.vm_model.specs.Contents.Zeroing.{owned_by_zero}
@@ -15,18 +16,15 @@ use Rattle.vm_model.specs.Machine.State.{State, is_open, target_of, koid_of, pla
 use Rattle.vm_model.specs.Machine.Refusals.{change_refusals, lacks_frames, first_of}
 use Rattle.vm_model.proofs.NamesLaws.{target_of-at}
 use Rattle.vmo_table.specs.Table.{names_of, lineage_in}
-use Rattle.page_store.specs.Names.{IsInside}
-use Rattle.page_store.proofs.NameLaws.{IsInside-good}
+use Rattle.pages.specs.Names.{IsInside}
+use Rattle.pages.proofs.NameLaws.{IsInside-good}
 use Rattle.pin_table.specs.Table.{pins_of}
-use Rattle.vmo_ops.specs.Costs.{held_touched}
-use Rattle.vmo_ops.specs.Targets.{IsPlaced}
-use Rattle.eager_pages.specs.Eager.{Eager, content_of, spare_of}
 use Rattle.vmo_ops.proofs.StepRows.{size_of-at}
 use Rattle.eager_vmos.proofs.RowLaws.{by_name}
 use Rattle.eager_vmos.specs.declared.eager_vmos.EagerVmos.{EagerVmos}
 use Rattle.eager_vmos.specs.declared.finding.Found.{Found}
 use Rattle.eager_vmos.specs.Vmos.{content_in, state_with, AreCounted}
-use Rattle.eager_vmos.specs.inside.Found.{IsFound, IsReady, IsReadyToZero}
+use Rattle.eager_vmos.specs.inside.Found.{IsFound}
 
 -- where the tests before the last fail, it alone decides
 rows_off : (a b c d : Bool) → a ≡ false → b ≡ false → c ≡ false
@@ -53,15 +51,13 @@ module _ (e : EagerVmos) (parts : AreCounted e) (name : ℕ) (target : Target) (
   pub name_known : IsSome (lineage_in e.vmos target.koid.0)
   name_known = rw (parts.well.good.known target.koid.0) name_inside.vmo
 
--- where a row refuses nothing, its condition does not hold
-pub cond_none : (b : Bool) → cond b (Some NoMemory) None ≡ None → b ≡ false
-cond_none true e = absurd cc
-cond_none false e = refl
-
 module _ {e : EagerVmos} {name offset len : ℕ} {found : Found} (is : IsFound e name offset len found) where
   -- it lies inside its VMO, which is there
   pub found_inside : found.at + len ≤ pages_of (content_in e) found.koid.0 * PAGE
   found_inside = rw is.koid is.placed.inside
+
+  pub found_vmo : AreCounted e → IsSome ((content_in e).count found.koid.0)
+  found_vmo parts = subst (λ (k : ℕ). IsSome ((content_in e).count k)) (sym (ap (λ (k : Koid). k.0) is.koid)) (name_inside e parts name is.target is.named).vmo
 
   module _ (s : State) where
     at : target_of (state_with s e) name ≡ is.target
@@ -95,40 +91,3 @@ module _ {e : EagerVmos} {name offset len : ℕ} {found : Found} (is : IsFound e
     zero_rows lacks are =
         change_rows (owned_by_zero (content_in e) (koid_of (state_with s e) name) (is_pinned (pins_of e.pins) (koid_of (state_with s e) name)) (place_of (state_with s e) name offset) len)
         ∙ (rw (found_koid, found_place) (ap (λ (b : Bool). cond b (Some NoMemory) None) (sym are)))
-
-  -- where nothing refuses such a change, the frames that it takes are free
-  pub own_free : (s : State) → first_of (change_refusals (state_with s e) name offset len (touched (place_of (state_with s e) name offset) len)) ≡ None
-      → used (content_in e) + need (content_in e) found.koid.0 (touched found.at len) ≤ (content_in e).frames
-  own_free s none = ltb-false _ _ (cond_none _ (sym (own_rows s _ refl) ∙ none))
-
-  pub zero_free : (s : State)
-      → first_of (change_refusals (state_with s e) name offset len (owned_by_zero (content_in e) (koid_of (state_with s e) name) (is_pinned (pins_of e.pins) (koid_of (state_with s e) name)) (place_of (state_with s e) name offset) len)) ≡ None
-      → used (content_in e) + need (content_in e) found.koid.0 (owned_by_zero (content_in e) found.koid.0 (is_pinned (pins_of e.pins) found.koid.0) found.at len) ≤ (content_in e).frames
-  zero_free s none = ltb-false _ _ (cond_none _ (sym (zero_rows s _ refl) ∙ none))
-
--- more room for pages makes no difference to what was found
-module _ (e : EagerVmos) (pages : Eager) (same : content_of pages ≡ content_in e) (name offset len : ℕ) (found : Found) (is : IsFound e name offset len found) where
-  found_still : IsFound (record e { pages = pages }) name offset len found
-  found_still = record {
-    target = is.target;
-    named = is.named;
-    may_write = is.may_write;
-    koid = is.koid;
-    placed = subst (λ (c : Content). IsPlaced c is.target offset len found.at) (sym same) is.placed;
-  }
-
-  pub ready_still : used (content_in e) + need (content_in e) found.koid.0 (touched found.at len) ≤ (content_in e).frames → length (touched found.at len) ≤ spare_of pages
-      → IsReady (record e { pages = pages }) name offset len found
-  ready_still free room = record {
-    found = found_still;
-    rows = inr room;
-    free = subst (λ (c : Content). used c + need c found.koid.0 (touched found.at len) ≤ c.frames) (sym same) free;
-  }
-
-  pub zero_still : used (content_in e) + need (content_in e) found.koid.0 (owned_by_zero (content_in e) found.koid.0 (is_pinned (pins_of e.pins) found.koid.0) found.at len) ≤ (content_in e).frames
-      → held_touched (content_in e) found.koid.0 found.at len ≤ spare_of pages → IsReadyToZero (record e { pages = pages }) name offset len found
-  zero_still free room = record {
-    found = found_still;
-    rows = subst (λ (c : Content). held_touched c found.koid.0 found.at len ≤ spare_of pages) (sym same) room;
-    free = subst (λ (c : Content). used c + need c found.koid.0 (owned_by_zero c found.koid.0 (is_pinned (pins_of e.pins) found.koid.0) found.at len) ≤ c.frames) (sym same) free;
-  }

@@ -1,5 +1,5 @@
 -- Which row of the refusals of a command is first.
-use Rattle.std.proofs.Common.{◌≡◌, ℕ, ◌+◌, ◌*◌, ◌/◌, ◌%◌, ◌≤◌, ◌⊎◌, ◌==◌, ◌&&◌, ◌||◌, Bool, true, false, not, cond, List, [], ◌∷◌, Option, None, Some, length, refl, sym, ap, subst, ◌∙◌, arith}
+use Rattle.std.proofs.Common.{◌≡◌, ℕ, ◌+◌, ◌*◌, ◌/◌, ◌%◌, ◌==◌, ◌&&◌, ◌||◌, Bool, true, false, not, cond, List, [], ◌∷◌, Option, None, Some, length, refl, sym, ap, subst, ◌∙◌, arith}
 use Rattle.std.specs.Prelude.{nat_lt, is_some, IsSome, IfSome}
 use Rattle.vm_base.specs.Pages.{rounded}
 use Rattle.vm_base.specs.declared.limits.TheConstants.{PAGE, VMO_PAGES, PIN_PAGES, DATA_BYTES}
@@ -12,22 +12,21 @@ use Rattle.vm_model.specs.Contents.Owning.{need}
 use Rattle.vm_model.specs.Contents.Writing.{touched}
 use Rattle.vm_model.specs.Naming.Names.{is_kind, may_decommit}
 use Rattle.vm_model.specs.Naming.Pins.{any_pinned}
-use Rattle.vm_model.specs.Machine.State.{State, is_open, target_of, name_pages, lineage_of, seen_pages}
+use Rattle.vm_model.specs.Machine.State.{State, is_open, target_of, name_pages, lineage_of}
 use Rattle.vm_model.specs.Machine.Refusals.{first_of}
 use Rattle.vm_model.specs.declared.command.Command.TheVariants.{VmoChild}
 use Rattle.vm_model.specs.declared.command.ChildKind.TheVariants.{Snapshot}
 use Rattle.vm_base.specs.declared.names.VmoName.{VmoName}
-use Rattle.vm_base.proofs.EntryLaws.{some_is, none_is}
+use Rattle.vm_base.proofs.EntryLaws.{some_is}
 use Rattle.vm_model.specs.Contents.Content.{Content}
 use Rattle.vm_model.specs.Naming.Names.{Lineage}
 use Rattle.vm_model.specs.Naming.Pins.{Pin, is_pinned}
 use Rattle.vm_model.specs.Machine.Refusals.{refusals}
 use Rattle.vm_model.proofs.NamesLaws.{target_of-at, lineage_of-at}
 use Rattle.vm_model.proofs.StepLaws.{AllOff, AllOff-from_none}
-use Rattle.vmo_ops.specs.inside.Pinning.{IsPinRange}
 use Rattle.vmo_ops.specs.inside.Copies.{copies_of}
 use Rattle.vmo_ops.proofs.CopyRows.{IsAsked, rows-are, copies-all}
-use Rattle.std.proofs.lemmas.Bool.{and_parts, or_parts, eqb-true, eqb-false, ltb-false, not-false}
+use Rattle.std.proofs.lemmas.Bool.{and_parts, eqb-true, not-false}
 
 -- a row whose condition holds is first, and one whose condition does not hold is passed over
 pub hit : (a : Bool) (r : Refusal) (rest : Option Refusal) → a ≡ true → Some r ≡ cond a (Some r) rest
@@ -127,10 +126,6 @@ snapshot_rows s name parent t offset size resizable no_write first seen asks b e
 
 -- ---- what holds where nothing refuses
 
--- a refusal is no leave
-pub refused_none : (o : Option Refusal) (r : Refusal) → o ≡ Some r → o ≡ None → ⊥
-refused_none o r e f = let no : Some r ≡ None = sym e ∙ f in absurd cc
-
 -- where nothing refuses a command by a name, the name is open
 pub open_name : (s : State) (name : ℕ) (rows : List (Bool × Refusal)) → first_of ((not (is_open s name), BadHandle) ∷ rows) ≡ None → is_open s name ≡ true
 open_name s name rows none = not-false (is_open s name) (AllOff-from_none ((not (is_open s name), BadHandle) ∷ rows) none).0
@@ -139,39 +134,3 @@ open_name s name rows none = not-false (is_open s name) (AllOff-from_none ((not 
 pub rows_off_at : (s : State) (name : ℕ) (target : Target) → s.names name ≡ Some target → (rows : Target → List (Bool × Refusal))
     → first_of ((not (is_open s name), BadHandle) ∷ rows (target_of s name)) ≡ None → AllOff (rows target)
 rows_off_at s name target named rows none = AllOff-from_none (rows target) (by_name s name target named rows (first_of (rows target)) refl ∙ none)
-
--- a range that may be pinned is one of a pin
-pub pin_range : (offset len : ℕ) → (not (offset % PAGE == 0 && len % PAGE == 0) || (len == 0 || nat_lt (PIN_PAGES * PAGE) len)) ≡ false → IsPinRange offset len
-pin_range offset len off =
-    let parts = or_parts (not (offset % PAGE == 0 && len % PAGE == 0)) (len == 0 || nat_lt (PIN_PAGES * PAGE) len) off in
-    let whole = whole_parts offset len (not-false (offset % PAGE == 0 && len % PAGE == 0) parts.0) in
-    let sizes = or_parts (len == 0) (nat_lt (PIN_PAGES * PAGE) len) parts.1 in
-    let some = eqb-false len 0 sizes.0 in
-    (whole.0, whole.1, omega arith, ltb-false (PIN_PAGES * PAGE) len sizes.1)
-
--- where nothing refuses a snapshot, its arguments are right
-module _ (s : State) (name parent : VmoName) (t : Target) (offset size : ℕ) (resizable no_write : Bool) (first seen : ℕ) (named : s.names parent.0 ≡ Some t)
-    (none : first_of (refusals s (VmoChild name parent Snapshot offset size resizable no_write)) ≡ None) where
-  pub snapshot_asks : seen ≡ seen_pages s.content t (offset / PAGE) (rounded size / PAGE) → (first ≡ t.first + offset / PAGE) ⊎ (seen ≡ 0)
-      → IsAsked s name parent t offset size resizable no_write first seen
-  snapshot_asks sees at =
-      let off = AllOff-from_none (refusals s (VmoChild name parent Snapshot offset size resizable no_write)) none in
-      record {
-        named = named;
-        closed = none_is (s.names name.0) off.1.0;
-        asked = off.1.1.0;
-        few = ltb-false (VMO_PAGES * PAGE) (offset + rounded size) off.1.1.1.0;
-        sees = sees;
-        at = at;
-      }
-
-  pub snapshot_free : IsAsked s name parent t offset size resizable no_write first seen
-      → used s.content + length (copies_of (is_pinned s.pins t.koid.0) first seen 0) ≤ s.content.frames
-  snapshot_free asks = ltb-false _ _ (row_off _ (snapshot_rows s name parent t offset size resizable no_write first seen asks _ refl ∙ none)) where
-    row_off : (b : Bool) → cond b (Some NoMemory) None ≡ None → b ≡ false
-    row_off true e = absurd cc
-    row_off false e = refl
-
--- where a snapshot begins, by the page that was computed
-pub begins_at : (first start begin seen offset : ℕ) → begin ≡ offset / PAGE → (first ≡ start + begin) ⊎ (seen ≡ 0) → (first ≡ start + offset / PAGE) ⊎ (seen ≡ 0)
-begins_at first start begin seen offset is at = subst (λ (n : ℕ). (first ≡ start + n) ⊎ (seen ≡ 0)) is at

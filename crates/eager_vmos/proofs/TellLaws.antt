@@ -1,12 +1,11 @@
 -- What is told of a VMO as the reply of a command that changes nothing.
-use Rattle.std.proofs.Common.{◌≡◌, ℕ, ◌+◌, ◌*◌, List, Some, refl, sym, ap, ◌∙◌}
+use Rattle.std.proofs.Common.{◌≡◌, ℕ, ◌*◌, Some, refl, sym, ap, ◌∙◌}
 use Rattle.vm_base.specs.declared.limits.TheConstants.{PAGE}
 use Rattle.vm_base.specs.declared.names.VmoName.{VmoName}
-use Rattle.vm_model.specs.declared.command.Command.TheVariants.{VmoRead, VmoSize, VmoInfo}
+use Rattle.vm_model.specs.declared.command.Command.TheVariants.{VmoSize, VmoInfo}
 use Rattle.vm_model.specs.declared.names.Target.{Target}
 use Rattle.vm_model.specs.declared.reply.Info.{Info}
-use Rattle.vm_model.specs.declared.reply.Reply.TheVariants.{Bytes, Number, Info as InfoReply}
-use Rattle.vm_model.specs.Contents.Writing.{bytes_in}
+use Rattle.vm_model.specs.declared.reply.Reply.TheVariants.{Number, Info as InfoReply}
 use Rattle.vm_model.specs.Machine.Attribution.{info_at}
 use Rattle.vm_model.specs.Machine.State.{State, name_pages}
 use Rattle.vm_model.proofs.NamesLaws.{target_of-at}
@@ -15,17 +14,6 @@ use Rattle.eager_vmos.specs.declared.eager_vmos.EagerVmos.{EagerVmos}
 use Rattle.eager_vmos.specs.Vmos.{content_in, state_with, Does}
 
 module _ (e : EagerVmos) (name : VmoName) (target : Target) (named : names_of e.vmos name.0 ≡ Some target) where
-  pub read_does : (offset len at : ℕ) (bytes : List ℕ) → at ≡ target.first * PAGE + offset → bytes ≡ bytes_in (content_in e) target.koid.0 at len
-      → Does e (VmoRead name offset len) (Bytes bytes) e
-  read_does offset len at bytes place are = record {
-    effect = λ s well. (
-      ap Bytes (are ∙ (ap (λ (a : ℕ). bytes_in (content_in e) target.koid.0 a len) place
-          ∙ ap (λ (t : Target). bytes_in (content_in e) t.koid.0 (t.first * PAGE + offset) len) (sym (target_of-at (state_with s e) name.0 target named)))),
-      refl,
-    );
-    counted = λ s counted. counted;
-  }
-
   pub size_does : (size : ℕ) → size ≡ name_pages (content_in e) target * PAGE → Does e (VmoSize name) (Number size) e
   size_does size is = record {
     effect = λ s well. (ap Number (is ∙ ap (λ (t : Target). name_pages (content_in e) t * PAGE) (sym (target_of-at (state_with s e) name.0 target named))), refl);

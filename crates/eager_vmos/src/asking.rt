@@ -1,10 +1,10 @@
 //! What refuses a command on pages or pins of a VMO. Nothing changes.
 
-ghost use Rattle.std.specs.Prelude.{◌≡◌, ◌*◌, ◌%◌, ◌==◌, ◌&&◌, ◌||◌, not, nat_lt, is_some, IsSome};
+ghost use Rattle.std.specs.Prelude.{◌≡◌, ◌+◌, ◌*◌, ◌%◌, ◌≤◌, ◌==◌, ◌&&◌, ◌||◌, not, nat_lt, is_some, IsSome};
 ghost use Rattle.vm_base.specs.declared.limits.TheConstants.{PAGE, PIN_PAGES, VMO_PAGES};
 ghost use Rattle.vm_base.specs.Pages.{rounded};
-ghost use Rattle.vm_model.specs.Contents.Content.{pages_of};
-ghost use Rattle.vm_model.specs.Naming.Pins.{any_pinned};
+ghost use Rattle.vm_model.specs.Contents.Content.{pages_of, used, IsGood};
+ghost use Rattle.vm_model.specs.Contents.Owning.{need};
 ghost use Rattle.vm_model.specs.declared.command.Command.{Command};
 ghost use Rattle.vm_model.specs.Contents.Writing.{touched};
 ghost use Rattle.vm_model.specs.Machine.State.{State, place_of};
@@ -14,15 +14,12 @@ ghost use Rattle.eager_pages.specs.Eager.{content_of};
 ghost use Rattle.eager_vmos.specs.Vmos.{state_with, AreCounted, IsRefusalOf};
 
 use crate::eager_vmos::EagerVmos;
-use crate::owning::lacks_frames;
-use crate::ranges::place_in_vmo;
-use crate::zeroing::cost_to_zero;
 use eager_pages::EagerPages;
-use pin_table::PinTable;
 use vm_base::{
-    DATA_BYTES, Koid, PAGE, PIN_PAGES, PageNo, PinName, Refusal, VMO_PAGES, VmoName, in_page,
-    page_count, page_of, round_up,
+    DATA_BYTES, Koid, PAGE, PIN_PAGES, PinName, Refusal, VMO_PAGES, VmoName, in_page, page_count,
+    page_of, round_up,
 };
+use vmo_ops::{cost_to_zero, is_pinned_past, need_of, place_in_vmo, touched_pages};
 
 impl EagerVmos {
     /// What refuses a write, a fill or a commit of a range of `len` bytes from `offset` bytes into the name on, in this
@@ -224,11 +221,14 @@ fn is_too_large(size: u64) -> bool
     round_up(size, VMO_PAGES * PAGE).is_none()
 }
 
-// Whether a page of a VMO behind the first `count` is pinned.
-#[tactic(auto, using(vmo_ops::proofs::PinnedLaws::pinned_past))]
-fn is_pinned_past(pages: &EagerPages, pins: &PinTable, v: Koid, count: PageNo) -> bool
-    requires { IsSome ((content_of pages.now).count v.0) }
-    ensures { result ≡ any_pinned (pins_of pins.now) v.0 count (pages_of (content_of pages.now) v.0) }
+// Whether owning the pages that a range inside a VMO touches takes more frames than are free.
+fn lacks_frames(pages: &EagerPages, v: Koid, offset: u64, len: u64) -> bool
+    requires good { IsGood (content_of pages.now) }
+    requires vmo { IsSome ((content_of pages.now).count v.0) }
+    requires inside { offset + len ≤ pages_of (content_of pages.now) v.0 * PAGE }
+    ensures { result ≡ nat_lt (content_of pages.now).frames
+        (used (content_of pages.now) + need (content_of pages.now) v.0 (touched offset len)) }
 {
-    pins.pinned(v, count, pages.count(v).saturating_sub(count))
+    let (first, end) = touched_pages(offset, len);
+    need_of(pages, v, first, end) > u64::from(pages.free())
 }

@@ -1,21 +1,21 @@
 //! What refuses a command that gives a name, or that only takes one. Nothing changes.
 
-ghost use Rattle.std.specs.Prelude.{◌≡◌, ◌+◌, ◌*◌, ◌≤◌, ◌⊎◌, ◌%◌, ◌==◌, ◌&&◌, ◌||◌, not, nat_lt, is_some, Bool};
+ghost use Rattle.std.specs.Prelude.{◌≡◌, ◌+◌, ◌*◌, ◌%◌, ◌==◌, ◌&&◌, ◌||◌, not, nat_lt, is_some, Bool};
 ghost use Rattle.vm_base.specs.Pages.{rounded};
 ghost use Rattle.vm_model.specs.declared.command.Command.{Command};
 ghost use Rattle.vm_model.specs.declared.command.ChildKind.TheVariants.{Snapshot, Slice, Reference};
-ghost use Rattle.vm_model.specs.Contents.Content.{pages_of, IsGood};
-ghost use Rattle.vm_model.specs.Machine.State.{name_pages, seen_pages};
-ghost use Rattle.page_store.specs.Names.{IsInside};
+ghost use Rattle.vm_model.specs.Contents.Content.{IsGood};
+ghost use Rattle.vm_model.specs.Machine.State.{name_pages};
+ghost use Rattle.pages.specs.Names.{IsInside};
 ghost use Rattle.eager_pages.specs.Eager.{content_of};
 ghost use Rattle.vmo_table.specs.Table.{names_of};
 ghost use Rattle.eager_vmos.specs.Vmos.{AreCounted, IsRefusalOf};
 
 use crate::eager_vmos::EagerVmos;
-use crate::ranges::{pages_of_name, size_of_name};
 use eager_pages::EagerPages;
-use vm_base::{PAGE, PageNo, Refusal, VMO_PAGES, VmoName, in_page, page_of, round_up};
-use vmo_ops::{count_copies, is_contradictory, is_slice, pages_within};
+use pages::size_of_name;
+use vm_base::{PAGE, Refusal, VMO_PAGES, VmoName, in_page, page_of, round_up};
+use vmo_ops::{count_copies, is_contradictory, is_slice, pages_within, seen_part};
 use vmo_table::Target;
 
 impl EagerVmos {
@@ -185,26 +185,4 @@ fn leaves(pages: &EagerPages, t: &Target, offset: u64, size: u64) -> bool
         Some(limit) => round_up(size, limit).is_none(),
         None => true,
     }
-}
-
-/// The pages that a snapshot sees of a name: the first one, counted in the VMO, and how many there are. They are at most
-/// `count`, from the name's page `start` on. If the snapshot sees none, the first is 0.
-pub(crate) fn seen_part(
-    pages: &EagerPages,
-    t: &Target,
-    start: PageNo,
-    count: PageNo,
-) -> (PageNo, PageNo)
-    requires good { IsGood (content_of pages.now) }
-    requires inside { IsInside (content_of pages.now) t.now }
-    ensures seen { result.1 ≡ seen_pages (content_of pages.now) t.now start count }
-    ensures first { (result.0 ≡ t.now.first + start) ⊎ (result.1 ≡ 0) }
-    ensures inside { result.0 + result.1 ≤ pages_of (content_of pages.now) t.now.koid.0 }
-    ensures few { result.1 ≤ count }
-{
-    let have = pages_of_name(pages, t);
-    if have <= start {
-        return (0, 0);
-    }
-    (t.first + start, count.min(have - start))
 }

@@ -1,35 +1,32 @@
-//! The commands that change pages of a VMO or its size: `vmo_write`, `vmo_fill`, `vmo_commit`, `vmo_zero`,
-//! `vmo_decommit`, `vmo_set_size`. The caller has asked whether they are refused.
+//! The commands that change pages of a VMO, its size or its pins: `vmo_write`, `vmo_fill`, `vmo_commit`, `vmo_zero`,
+//! `vmo_decommit`, `vmo_set_size`, `vmo_pin`, `vmo_unpin`. The caller has asked whether they are refused.
 
-ghost use Rattle.std.specs.Prelude.{MatchResult, IfOk};
+ghost use Rattle.std.specs.Prelude.{◌≤◌, length, MatchResult};
+ghost use Rattle.vm_base.specs.declared.limits.TheConstants.{PIN_PAGES};
 ghost use Rattle.vm_model.specs.declared.command.Command.{Command};
 ghost use Rattle.vm_model.specs.declared.reply.Reply.{Reply};
-ghost use Rattle.eager_vmos.specs.Vmos.{AllowsToOwn, Allows, AreCounted, AreSame, Does};
-ghost use Rattle.eager_vmos.specs.inside.Found.{IsReady, IsReadyToZero};
+ghost use Rattle.eager_vmos.specs.Vmos.{Allows, AreCounted, AreSame, Does};
 
 use crate::eager_vmos::EagerVmos;
-use crate::finding::Found;
-use crate::owning::own_pages;
-use crate::ranges::place_in_vmo;
-use crate::writing::{fill_pages, write_pages};
-use crate::zeroing::{clear_pages, cost_to_zero, zero_pages};
-use vm_base::{HostMemory, VmoName, page_count, page_of};
-use vmo_ops::touched_pages;
+use vm_base::{HostMemory, PIN_PAGES, PinName, VmoName};
+use vm_model::LentNumbers;
 
 impl EagerVmos {
-    /// Writes bytes from `offset` bytes into the name on (`zx_vmo_write`). Each page that the range touches and that is
-    /// not sole takes a frame. `HostMemory`, with nothing changed, if the host has too little memory.
+    /// Writes bytes from `offset` bytes into the name on (`zx_vmo_write`). `HostMemory`, with nothing changed, if the host
+    /// has too little memory.
     pub fn write(&mut self, name: VmoName, offset: u64, bytes: &[u8]) -> Result<(), HostMemory>
         requires parts { AreCounted self.old }
         requires allowed { Allows self.old (Command.VmoWrite name offset bytes.now) }
         ensures { MatchResult result (λ _. Does self.old (Command.VmoWrite name offset bytes.now) Reply.Done self.new)
             (λ lack. AreSame self.old self.new) }
     {
-        let Ok(found) = self.ready_to_own(name, offset, bytes.len() as u64) else {
-            return Err(HostMemory);
+        let Some(target) = self.vmos.resolve(name) else {
+            unreachable!()
         };
-        write_pages(&mut self.pages, found.koid, found.at, bytes);
-        Ok(())
+        match vmo_ops::write(&mut self.pages, &target, offset, bytes) {
+            Ok(()) => Ok(()),
+            Err(_) => Err(HostMemory),
+        }
     }
 
     /// Writes one byte at every place of a range: `len` bytes from `offset` bytes into the name on. `HostMemory`, with
@@ -40,11 +37,13 @@ impl EagerVmos {
         ensures { MatchResult result (λ _. Does self.old (Command.VmoFill name offset len byte) Reply.Done self.new)
             (λ lack. AreSame self.old self.new) }
     {
-        let Ok(found) = self.ready_to_own(name, offset, len) else {
-            return Err(HostMemory);
+        let Some(target) = self.vmos.resolve(name) else {
+            unreachable!()
         };
-        fill_pages(&mut self.pages, found.koid, found.at, len, byte);
-        Ok(())
+        match vmo_ops::fill(&mut self.pages, &target, offset, len, byte) {
+            Ok(()) => Ok(()),
+            Err(_) => Err(HostMemory),
+        }
     }
 
     /// Gives each page that a range touches a frame of its own, with the bytes that the page shows
@@ -55,44 +54,54 @@ impl EagerVmos {
         ensures { MatchResult result (λ _. Does self.old (Command.VmoCommit name offset len) Reply.Done self.new)
             (λ lack. AreSame self.old self.new) }
     {
-        let Ok(found) = self.ready_to_own(name, offset, len) else {
-            return Err(HostMemory);
+        let Some(target) = self.vmos.resolve(name) else {
+            unreachable!()
         };
-        own_pages(&mut self.pages, found.koid, found.at, len);
-        Ok(())
+        match vmo_ops::commit(&mut self.pages, &target, offset, len) {
+            Ok(()) => Ok(()),
+            Err(_) => Err(HostMemory),
+        }
     }
 
-    /// Makes the bytes of a range zero (`ZX_VMO_OP_ZERO`): `len` bytes from `offset` bytes into the name on. A page that
-    /// lies wholly in the range and is not pinned becomes zero. Any other page that is held is owned and written with
-    /// zeros. `HostMemory`, with nothing changed, if the host has too little memory.
+    /// Makes the bytes of a range zero (`ZX_VMO_OP_ZERO`): `len` bytes from `offset` bytes into the name on. `HostMemory`,
+    /// with nothing changed, if the host has too little memory.
     pub fn zero(&mut self, name: VmoName, offset: u64, len: u64) -> Result<(), HostMemory>
         requires parts { AreCounted self.old }
         requires allowed { Allows self.old (Command.VmoZero name offset len) }
         ensures { MatchResult result (λ _. Does self.old (Command.VmoZero name offset len) Reply.Done self.new)
             (λ lack. AreSame self.old self.new) }
     {
-        let Ok(found) = self.ready_to_zero(name, offset, len) else {
-            return Err(HostMemory);
+        let Some(target) = self.vmos.resolve(name) else {
+            unreachable!()
         };
-        zero_pages(&mut self.pages, &self.pins, found.koid, found.at, len);
-        Ok(())
+        match vmo_ops::zero(&mut self.pages, &self.pins, &target, offset, len) {
+            Ok(()) => Ok(()),
+            Err(_) => Err(HostMemory),
+        }
     }
 
-    /// Makes the pages of a range zero and gives their frames back (`ZX_VMO_OP_DECOMMIT`). This takes no memory.
-    pub fn decommit(&mut self, name: VmoName, offset: u64, len: u64)
+    /// Makes the pages of a range zero and gives their frames back (`ZX_VMO_OP_DECOMMIT`). `HostMemory`, with nothing
+    /// changed, if the host has too little memory.
+    pub fn decommit(&mut self, name: VmoName, offset: u64, len: u64) -> Result<(), HostMemory>
         requires parts { AreCounted self.old }
         requires allowed { Allows self.old (Command.VmoDecommit name offset len) }
-        ensures { Does self.old (Command.VmoDecommit name offset len) Reply.Done self.new }
+        ensures { MatchResult result (λ _. Does self.old (Command.VmoDecommit name offset len) Reply.Done self.new)
+            (λ lack. AreSame self.old self.new) }
     {
         let Some(target) = self.vmos.resolve(name) else {
             unreachable!()
         };
-        let Some(at) = place_in_vmo(&self.pages, &target, offset, len) else {
-            unreachable!()
-        };
-        let first = page_of(at);
-        let end = page_of(at + len);
-        clear_pages(&mut self.pages, target.koid, first, end);
+        match vmo_ops::decommit(
+            &mut self.pages,
+            &self.vmos,
+            &self.pins,
+            &target,
+            offset,
+            len,
+        ) {
+            Ok(()) => Ok(()),
+            Err(_) => Err(HostMemory),
+        }
     }
 
     /// Changes the size of a VMO to `size` bytes, rounded up to whole pages (`zx_vmo_set_size`). This takes no memory.
@@ -104,39 +113,53 @@ impl EagerVmos {
         let Some(target) = self.vmos.resolve(name) else {
             unreachable!()
         };
-        self.pages.set_count(target.koid, page_count(size));
+        match vmo_ops::resize(&mut self.pages, &self.pins, &target, size) {
+            Ok(()) => {}
+            Err(_) => unreachable!(),
+        }
     }
 
-    // Finds a range whose pages may be owned, and makes room for that.
-    fn ready_to_own(&mut self, name: VmoName, offset: u64, len: u64) -> Result<Found, HostMemory>
+    /// Pins the pages of a range under the name of a pin (`zx_bti_pin`). Writes the frames, in ascending order of the
+    /// pages, to `room`, and lends them from there. `HostMemory`, with nothing changed, if the host has too little memory.
+    pub fn pin<'a>(
+        &mut self,
+        pin: PinName,
+        name: VmoName,
+        offset: u64,
+        len: u64,
+        room: &'a mut [u64],
+    ) -> Result<LentNumbers<'a>, HostMemory>
         requires parts { AreCounted self.old }
-        requires allowed { AllowsToOwn self.old name.0 offset len }
-        ensures same { AreSame self.old self.new }
-        ensures ok { IfOk result (IsReady self.new name.0 offset len) }
+        requires allowed { Allows self.old (Command.VmoPin pin name offset len) }
+        requires room { PIN_PAGES ≤ length room.old }
+        ensures { MatchResult result (λ numbers. Does self.old (Command.VmoPin pin name offset len) (Reply.Pins numbers) self.new)
+            (λ lack. AreSame self.old self.new) }
     {
-        let Ok(found) = self.find_to_change(name, offset, len) else {
+        let Some(target) = self.vmos.resolve(name) else {
             unreachable!()
         };
-        let (first, end) = touched_pages(found.at, len);
-        let Ok(()) = self.pages.reserve(end - first) else {
-            return Err(HostMemory);
-        };
-        Ok(found)
+        match vmo_ops::pin_into(
+            &mut self.pages,
+            &mut self.vmos,
+            &mut self.pins,
+            pin,
+            &target,
+            offset,
+            len,
+            room,
+        ) {
+            Ok(numbers) => Ok(numbers),
+            Err(_) => Err(HostMemory),
+        }
     }
-    // Finds a range that may be made zero, and makes room for that.
-    fn ready_to_zero(&mut self, name: VmoName, offset: u64, len: u64) -> Result<Found, HostMemory>
+
+    /// Removes a pin (`zx_pmt_unpin`). If nothing keeps its VMO any more, the VMO leaves with its pages, and its children
+    /// get its parent. This takes no memory.
+    pub fn unpin(&mut self, pin: PinName)
         requires parts { AreCounted self.old }
-        requires allowed { Allows self.old (Command.VmoZero name offset len) }
-        ensures same { AreSame self.old self.new }
-        ensures ok { IfOk result (IsReadyToZero self.new name.0 offset len) }
+        requires allowed { Allows self.old (Command.VmoUnpin pin) }
+        ensures { Does self.old (Command.VmoUnpin pin) Reply.Done self.new }
     {
-        let Ok(found) = self.find_to_change(name, offset, len) else {
-            unreachable!()
-        };
-        let cost = cost_to_zero(&self.pages, &self.pins, found.koid, found.at, len);
-        let Ok(()) = self.pages.reserve(cost.held) else {
-            return Err(HostMemory);
-        };
-        Ok(found)
+        vmo_ops::unpin(&mut self.pages, &mut self.vmos, &mut self.pins, pin);
     }
 }

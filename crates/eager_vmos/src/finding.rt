@@ -7,8 +7,8 @@ ghost use Rattle.eager_vmos.specs.Vmos.{state_with, AreCounted};
 ghost use Rattle.eager_vmos.specs.inside.Found.{IsFound};
 
 use crate::eager_vmos::EagerVmos;
-use crate::ranges::place_in_vmo;
 use vm_base::{Koid, Refusal, VmoName};
+use vmo_ops::place_in_vmo;
 
 /// A range of a VMO: the VMO, and where the range begins in it, in bytes.
 #[derive(Clone, Copy)]

@@ -24,7 +24,7 @@ use Rattle.page_store.specs.Pages.{look_at, frame_of, ShowsTag, IsShown}
 use Rattle.page_store.specs.declared.page_store.Look.TheVariants as look
 use Rattle.page_store.specs.Held.{IsNextBelow, HasNoneBelow, held_from, showing}
 use Rattle.page_store.specs.Flat.{Flat, page_with, page_from, content_of, IsFlat}
-use Rattle.page_store.proofs.NameLaws.{pages_of_le}
+use Rattle.vm_model.proofs.ContentLaws.{pages_of_le}
 use Rattle.page_store.proofs.HeldLaws.{showing-created}
 use Rattle.vm_model.proofs.CountLaws.{vmos_of-same, vmos_of-created, vmos_of-without}
 use Rattle.page_store.proofs.ViewerLaws.{in_use-viewers, sole-viewers, viewers-pages}

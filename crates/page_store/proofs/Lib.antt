@@ -1,4 +1,3 @@
-pub mod NameLaws
 pub mod HeldLaws
 pub mod ViewerLaws
 pub mod FlatLaws

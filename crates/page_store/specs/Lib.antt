@@ -1,5 +1,4 @@
 pub mod Pages
-pub mod Names
 pub mod Held
 pub mod Flat
 pub mod Requests

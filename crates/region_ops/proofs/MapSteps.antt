@@ -31,7 +31,7 @@ use Rattle.vm_model.proofs.MappingLaws.{IsMappedRightly, mismapped_parts, mispla
 use Rattle.vm_model.proofs.NamesLaws.{target_of-at}
 use Rattle.vm_model.proofs.RegionLaws.{region_of-at, region_bounds, reaches_over_parts}
 use Rattle.vm_model.proofs.StepLaws.{AllOff-from_none, Step-done, Step-lacks}
-use Rattle.page_store.proofs.NameLaws.{IsInside-good, name_few}
+use Rattle.pages.proofs.NameLaws.{IsInside-good, name_few}
 use Rattle.region_tree.specs.Tree.{spaces_of}
 use Rattle.region_ops.specs.Spaces.{HasNoPlace}
 use Rattle.region_ops.specs.inside.Mapping.{map_rows, no_entries, IsPuttable}

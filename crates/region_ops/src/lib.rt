@@ -2,7 +2,7 @@
 //! one (`map`), the pages of a range are unmapped (`unmap`), what accesses to them may do is changed (`protect`), and a
 //! region is destroyed with all below it (`destroy`).
 //!
-//! It stands on `region_tree` and `mapping_set`, and on `vmo_table` and any store of pages: each entry keeps its VMO, which
+//! It stands on `region_tree` and `mapping_set`, and on `vmo_table` and any `Pages`: each entry keeps its VMO, which
 //! leaves with the last that keeps it. Each call promises that it is the step of its command (`vm_model`), whatever else
 //! the state has. The layer above has looked the names up, so that a call begins with the refusals that rest on regions
 //! and arguments. Of each call there is one that is handed the region that was found. `allocate_noted`, and `map_in` if it is
@@ -23,7 +23,7 @@ mod ranges;
 mod unmapping;
 
 pub use allocating::{allocate, allocate_noted};
-pub use mapping::{entry_of, find_map_place, map, map_in, map_refusal};
+pub use mapping::{entry_of, find_map_place, map, map_in, map_refusal, put};
 pub use placing::{Wanted, allows, find_place, is_misplaced};
 pub use protecting::{Cover, cover_of, protect, protect_in};
 pub use ranges::{is_outside, lacks_reading};

@@ -24,7 +24,7 @@ use crate::placing::{Wanted, allows, find_place, is_misplaced, live_region};
 use crate::ranges::lacks_reading;
 use bitflags::Flags;
 use mapping_set::{Entry, MappingSet, Piece};
-use page_store::{PageStore, pages_of_name};
+use pages::{Pages, pages_of_name};
 use region_tree::{Region, Regions};
 use vm_base::{
     MapFlags, PAGE, PageNo, Perm, Refusal, RegionName, VMO_PAGES, in_page, page_count, page_of,
@@ -50,7 +50,7 @@ use vmo_table::VmoTable;
 /// - `AlreadyExists` if the place at the offset is not free;
 /// - `NoResources` if no free place fits;
 /// - `HostMemory`.
-pub fn map<P: PageStore>(
+pub fn map<P: Pages>(
     store: &mut P,
     vmos: &mut VmoTable,
     regions: &Regions,
@@ -79,7 +79,7 @@ pub fn map<P: PageStore>(
 
 /// What `map` does in a live region, which is `above`. With `noted` the set of mappings has noted the live children of each
 /// region: a place costs one search then, also where there is none, and what is noted stays as it is.
-pub fn map_in<P: PageStore>(
+pub fn map_in<P: Pages>(
     store: &mut P,
     vmos: &mut VmoTable,
     regions: &Regions,
@@ -285,7 +285,7 @@ fn without_writing(caps: Perm) -> Perm
 
 /// Puts a mapping at its place, and counts its pages as keepers of its VMO. With `overwriting`, what is mapped there is
 /// taken out.
-fn put<P: PageStore>(
+pub fn put<P: Pages>(
     store: &mut P,
     vmos: &mut VmoTable,
     maps: &mut MappingSet,
@@ -315,7 +315,7 @@ fn put<P: PageStore>(
 }
 
 /// Takes out what is mapped on the pages of a place that is overwritten. At any other place nothing is mapped.
-fn clear_place<P: PageStore>(
+fn clear_place<P: Pages>(
     store: &mut P,
     vmos: &mut VmoTable,
     maps: &mut MappingSet,

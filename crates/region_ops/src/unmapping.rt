@@ -17,7 +17,7 @@ use crate::leaving::{clear_range, clear_region};
 use crate::placing::live_region;
 use crate::ranges::is_outside;
 use mapping_set::MappingSet;
-use page_store::PageStore;
+use pages::Pages;
 use region_tree::{Region, Regions};
 use vm_base::{HostMemory, PageNo, Refusal, RegionName, page_count, page_of};
 use vmo_table::VmoTable;
@@ -29,7 +29,7 @@ use vmo_table::VmoTable;
 /// - `InvalidArgs` if the address is not at a page, `len` is 0, the range passes an end of the region, or a live child
 ///   of the region has a page in the range and one outside;
 /// - `HostMemory`, only if a page of the range is mapped.
-pub fn unmap<P: PageStore>(
+pub fn unmap<P: Pages>(
     store: &mut P,
     vmos: &mut VmoTable,
     regions: &mut Regions,
@@ -50,7 +50,7 @@ pub fn unmap<P: PageStore>(
 
 /// Does what `unmap` does, in a live region, which is `above`. If the live children of each region are noted, they are
 /// noted afterwards too.
-pub fn unmap_in<P: PageStore>(
+pub fn unmap_in<P: Pages>(
     store: &mut P,
     vmos: &mut VmoTable,
     regions: &mut Regions,
@@ -87,7 +87,7 @@ pub fn unmap_in<P: PageStore>(
 
 /// Destroys a live region and all below it, with their mappings (`zx_vmar_destroy`). A VMO that nothing keeps any more
 /// leaves. The call costs the regions and the pieces that go, and never wants memory.
-pub fn destroy<P: PageStore>(
+pub fn destroy<P: Pages>(
     store: &mut P,
     vmos: &mut VmoTable,
     regions: &mut Regions,
@@ -106,7 +106,7 @@ pub fn destroy<P: PageStore>(
 
 /// Does what `destroy` does, to a live region, which is `dying`. If the live children of each region are noted, they
 /// are noted afterwards too: the notes of those that die are taken back.
-pub fn destroy_in<P: PageStore>(
+pub fn destroy_in<P: Pages>(
     store: &mut P,
     vmos: &mut VmoTable,
     regions: &mut Regions,
@@ -136,7 +136,7 @@ pub fn destroy_in<P: PageStore>(
 
 /// Takes the entries of `count` pages from `first` on out of an address space. `HostMemory` if the host has too little
 /// memory, and only if there is such an entry.
-fn clear_mapped<P: PageStore>(
+fn clear_mapped<P: Pages>(
     store: &mut P,
     vmos: &mut VmoTable,
     maps: &mut MappingSet,

@@ -210,7 +210,7 @@ pub(crate) fn read_range<P: PageStore>(
 
 /// Reads the bytes of a range inside the VMO, `offset` bytes into it, each page at the end of its look-up, and returns how many of these
 /// ends are absent. No bytes are read for these.
-#[tactic(auto, using(page_store::proofs::NameLaws::pages_of_le))]
+#[tactic(auto, using(vm_model::proofs::ContentLaws::pages_of_le))]
 fn read_present<P: PageStore>(
     store: &P,
     table: &SourceTable,
@@ -284,7 +284,7 @@ pub(crate) fn write_pages<P: PageStore>(
 }
 
 /// Writes bytes to a range inside the VMO, page by page, where the room for it is there.
-#[tactic(auto, using(page_store::proofs::NameLaws::pages_of_le))]
+#[tactic(auto, using(vm_model::proofs::ContentLaws::pages_of_le))]
 fn write_range<P: PageStore>(
     store: &mut P,
     table: &SourceTable,

@@ -35,8 +35,9 @@ use Rattle.vm_model.proofs.RegionLaws.{region_of-at, region_bounds, reaches_over
 use Rattle.vm_model.proofs.StepLaws.{AllOff-from_none, change_parts, place_inside}
 use Rattle.vm_model.proofs.WritingLaws.{IsKept, Writes-keeps}
 use Rattle.vm_model.proofs.ZeroesLaws.{zeroed-keeps, Zeroes-keeps}
-use Rattle.page_store.specs.Names.{IsInside}
-use Rattle.page_store.proofs.NameLaws.{name_few, pages_of_le, IsInside-good}
+use Rattle.pages.specs.Names.{IsInside}
+use Rattle.pages.proofs.NameLaws.{name_few, IsInside-good}
+use Rattle.vm_model.proofs.ContentLaws.{pages_of_le}
 use Rattle.vm_core.specs.inside.Resets.{IsReached, IsShared}
 use Rattle.vmo_ops.proofs.OutsideLaws.{LeavesOthers-owns}
 use Rattle.vm_core.proofs.StaysLaws.{count-copied, name_pages-copied}

@@ -9,7 +9,8 @@ ghost use Rattle.vmo_table.specs.Table.{AreParts};
 ghost use Rattle.vm_core.specs.inside.Calls.{StepsVmos};
 
 use attribution::info;
-use page_store::{PageStore, size_of_name};
+use page_store::PageStore;
+use pages::size_of_name;
 use vm_base::{Refusal, VmoName};
 use vm_model::Answer;
 use vmo_table::VmoTable;

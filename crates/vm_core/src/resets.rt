@@ -12,7 +12,8 @@ ghost use Rattle.fault.specs.Table.{places_of};
 ghost use Rattle.vm_core.specs.inside.Resets.{shared_by, without_changed, without_pages, without_past, with_read_only_but, with_shared, IsFirstBelow, IsReached, IsShared};
 
 use fault::Translations;
-use page_store::{PageStore, pages_of_name};
+use page_store::PageStore;
+use pages::pages_of_name;
 use pin_table::PinTable;
 use vm_base::{Koid, PAGE, PageNo, RegionName, VMO_PAGES, page_count, page_of};
 use vm_model::{ChildKind, Target};

@@ -27,6 +27,14 @@ pub pages_of-same : (c d : Content) (v : ℕ) → c.count v ≡ d.count v → pa
 unfolding pages_of
 pages_of-same c d v e = ap (λ o. unwrap_or o 0) e
 
+-- a VMO of a good content has no more pages than a VMO may have
+pub pages_of_le : (c : Content) (v : ℕ) → IsGood c → pages_of c v ≤ VMO_PAGES
+unfolding pages_of
+pages_of_le c v good = go (c.count v) (good.counts v) where
+  go : (o : Option ℕ) → ((n : ℕ) → o ≡ Some n → n ≤ VMO_PAGES) → unwrap_or o 0 ≤ VMO_PAGES
+  go None each = omega arith
+  go (Some n) each = each n refl
+
 pub count_from_page : (c : Content) (v p : ℕ) → p < pages_of c v → c.count v ≡ Some (pages_of c v)
 unfolding pages_of
 count_from_page c v p h = go (c.count v) h where

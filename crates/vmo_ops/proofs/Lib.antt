@@ -1,7 +1,6 @@
 pub mod ModelLaws
 pub mod StepRows
 pub mod NameLaws
-pub mod LookLaws
 pub mod PinnedLaws
 pub mod CreateLaws
 pub mod CopyRows

@@ -1,5 +1,5 @@
 -- The steps of a read.
-use Rattle.page_store.proofs.NameLaws.{pages_of_le}
+use Rattle.vm_model.proofs.ContentLaws.{pages_of_le}
 use Rattle.std.proofs.Common.{◌≡◌, ℕ, ◌+◌, ◌-◌, ◌*◌, ◌/◌, ◌<◌, ◌≤◌, min, List, length, take}
 use Rattle.std.proofs.Common.{drop, length-drop, arith}
 use Rattle.std.specs.Prelude.{slice_range}

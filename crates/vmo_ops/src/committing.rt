@@ -7,13 +7,13 @@ ghost use Rattle.vm_model.specs.Contents.Content.{pages_of, used, IsGood};
 ghost use Rattle.vm_model.specs.Contents.Owning.{need, OwnsAll};
 ghost use Rattle.vm_model.specs.Contents.Writing.{touched};
 ghost use Rattle.vm_model.specs.Machine.Step.{reply_of};
-ghost use Rattle.page_store.specs.Names.{IsInside};
+ghost use Rattle.pages.specs.Names.{IsInside};
 ghost use Rattle.vmo_ops.specs.Costs.{HasRows};
 ghost use Rattle.vmo_ops.specs.Targets.{Does};
 
 use crate::ranges::touched_pages;
 use crate::ready::ready_to_own;
-use page_store::PageStore;
+use pages::Pages;
 use vm_base::{Koid, PAGE, Refusal};
 use vmo_table::Target;
 
@@ -24,7 +24,7 @@ use vmo_table::Target;
 /// - `OutOfRange` if the range passes the name's end;
 /// - `NoMemory` if the pages that are not sole are more than the free frames;
 /// - `HostMemory`, only if some of these pages is not sole.
-pub fn commit<P: PageStore>(store: &mut P, t: &Target, offset: u64, len: u64) -> Result<(), Refusal>
+pub fn commit<P: Pages>(store: &mut P, t: &Target, offset: u64, len: u64) -> Result<(), Refusal>
     requires good { IsGood (P.content store.old) }
     requires inside { IsInside (P.content store.old) t.now }
     ensures { Does (λ name. Command.VmoCommit name offset len) t.now (P.content store.old)
@@ -39,7 +39,7 @@ pub fn commit<P: PageStore>(store: &mut P, t: &Target, offset: u64, len: u64) ->
 }
 
 // Owns the pages that a range inside the VMO touches. There is room for it.
-fn own_pages<P: PageStore>(store: &mut P, v: Koid, offset: u64, len: u64)
+fn own_pages<P: Pages>(store: &mut P, v: Koid, offset: u64, len: u64)
     requires good { IsGood (P.content store.old) }
     requires inside { offset + len ≤ pages_of (P.content store.old) v.0 * PAGE }
     requires room { HasRows (P.content store.old) v.0 (touched offset len) (P.spare store.old) }

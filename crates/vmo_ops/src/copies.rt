@@ -9,7 +9,7 @@ ghost use Rattle.vm_model.specs.Naming.Pins.{is_pinned};
 ghost use Rattle.pin_table.specs.Table.{pins_of};
 ghost use Rattle.vmo_ops.specs.inside.Copies.{copies_of, IsNextCopy};
 
-use page_store::PageStore;
+use pages::Pages;
 use pin_table::PinTable;
 use vm_base::{Koid, PageNo, VMO_PAGES};
 
@@ -53,7 +53,7 @@ pub fn count_copies(pins: &PinTable, of: Koid, first: PageNo, seen: PageNo) -> u
 
 /// Owns the pages of a snapshot that are copies of pinned pages, in ascending order. There are room and free frames for
 /// all of them. The snapshot sees `seen` pages of `of` from the page `first` of `of` on.
-pub(crate) fn own_copies<P: PageStore>(
+pub(crate) fn own_copies<P: Pages>(
     store: &mut P,
     pins: &PinTable,
     snapshot: Koid,

@@ -17,7 +17,7 @@ ghost use Rattle.vmo_ops.specs.Targets.{AreTogether, with_tables};
 use crate::owning::reserve_rows;
 use crate::ranges::place_in_vmo;
 use crate::zeroing::{cost_to_zero, zero_pages};
-use page_store::PageStore;
+use pages::Pages;
 use pin_table::PinTable;
 use vm_base::{Koid, PAGE, Refusal, in_page, page_of};
 use vmo_table::{Target, VmoTable};
@@ -31,7 +31,7 @@ use vmo_table::{Target, VmoTable};
 /// - `OutOfRange` if the range passes the name's end;
 /// - `BadState` if a page of the range is pinned;
 /// - `HostMemory`, only if a page of the range is held.
-pub fn decommit<P: PageStore>(
+pub fn decommit<P: Pages>(
     store: &mut P,
     vmos: &VmoTable,
     pins: &PinTable,
@@ -70,7 +70,7 @@ pub fn decommit<P: PageStore>(
 
 // Makes the pages of a range of whole pages zero. None of them is pinned, and there is room for it.
 #[tactic(auto, using(crate::proofs::DecommitLaws::clear_laws))]
-fn clear_pages<P: PageStore>(store: &mut P, pins: &PinTable, v: Koid, offset: u64, len: u64)
+fn clear_pages<P: Pages>(store: &mut P, pins: &PinTable, v: Koid, offset: u64, len: u64)
     requires good { IsGood (P.content store.old) }
     requires vmo { IsSome ((P.content store.old).count v.0) }
     requires inside { offset + len ≤ pages_of (P.content store.old) v.0 * PAGE }

@@ -7,14 +7,14 @@ ghost use Rattle.vm_model.specs.Contents.Content.{pages_of, sole, used, IsGood};
 ghost use Rattle.vm_model.specs.Contents.Owning.{need};
 ghost use Rattle.vm_model.specs.Contents.Writing.{touched, pieces, WritesPiece, Writes};
 ghost use Rattle.vm_model.specs.Machine.Step.{reply_of};
-ghost use Rattle.page_store.specs.Names.{IsInside};
+ghost use Rattle.pages.specs.Names.{IsInside};
 ghost use Rattle.vmo_ops.specs.Costs.{HasRows};
 ghost use Rattle.vmo_ops.specs.Targets.{Does};
 
 use crate::ranges::{PagePart, part_in_page, touched_pages};
 use crate::ready::ready_to_own;
 use crate::writing::write_part;
-use page_store::PageStore;
+use pages::Pages;
 use vm_base::{Koid, PAGE, PAGE_BYTES, PageNo, Refusal};
 use vmo_table::Target;
 
@@ -23,7 +23,7 @@ const SHORT_FILL: usize = 256;
 
 /// Writes one byte at every place of a range: `len` bytes from `offset` bytes into the name on. The
 /// refusals are those of a write of these bytes, in the same order.
-pub fn fill<P: PageStore>(
+pub fn fill<P: Pages>(
     store: &mut P,
     t: &Target,
     offset: u64,
@@ -50,7 +50,7 @@ pub fn fill<P: PageStore>(
 // Fills a range inside the VMO, page by page, from a buffer of `N` bytes. There is room for it. The function is not
 // inlined: a function writes all of its locals, and a short fill should not pay for a page.
 #[inline(never)]
-fn fill_pages<P: PageStore, const N: usize>(store: &mut P, v: Koid, offset: u64, len: u64, byte: u8)
+fn fill_pages<P: Pages, const N: usize>(store: &mut P, v: Koid, offset: u64, len: u64, byte: u8)
     requires good { IsGood (P.content store.old) }
     requires inside { offset + len ≤ pages_of (P.content store.old) v.0 * PAGE }
     requires buffer { min len PAGE ≤ N }
@@ -70,7 +70,7 @@ fn fill_pages<P: PageStore, const N: usize>(store: &mut P, v: Koid, offset: u64,
 
 /// Fills a part of a page from `bytes`, which are all the same and at least as many as the part has. The page is owned
 /// first.
-pub(crate) fn fill_part<P: PageStore>(
+pub(crate) fn fill_part<P: Pages>(
     store: &mut P,
     v: Koid,
     page: PageNo,

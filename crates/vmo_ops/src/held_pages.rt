@@ -4,7 +4,7 @@ ghost use Rattle.std.specs.Prelude.{◌≡◌, ℕ, ◌<◌, ◌≤◌, None, Is
 ghost use Rattle.vm_model.specs.Contents.Content.{is_held, pages_of, sole, IsGood};
 
 use crate::owning::is_sole;
-use page_store::{Look, PageStore};
+use pages::{Look, Pages};
 use vm_base::{Koid, PageNo};
 
 /// The most pages of a range that are looked at one by one. A longer range is gone over by its held pages. A look at a
@@ -13,7 +13,7 @@ use vm_base::{Koid, PageNo};
 const FEW_PAGES: u64 = 2;
 
 /// The first page that is held, from page `from` of a VMO to below `end`. `None` if and only if none is.
-pub(crate) fn next_held_below<P: PageStore>(
+pub(crate) fn next_held_below<P: Pages>(
     store: &P,
     v: Koid,
     from: PageNo,
@@ -46,7 +46,7 @@ pub(crate) struct HeldPage {
 /// If the held pages before stand in a row (`in_row`), page `from` is looked at before a search. So held pages in a row
 /// cost one look each, and held pages that stand apart a search and a look each. The answer does not depend on
 /// `in_row`.
-pub(crate) fn next_with_sole<P: PageStore>(
+pub(crate) fn next_with_sole<P: Pages>(
     store: &P,
     v: Koid,
     from: PageNo,
@@ -77,8 +77,8 @@ pub(crate) fn next_with_sole<P: PageStore>(
 }
 
 // A page, if it is held.
-#[tactic(auto, using(crate::proofs::LookLaws::look_laws))]
-fn held_at<P: PageStore>(store: &P, v: Koid, page: PageNo) -> Option<HeldPage>
+#[tactic(auto, using(pages::proofs::LookLaws::look_laws))]
+fn held_at<P: Pages>(store: &P, v: Koid, page: PageNo) -> Option<HeldPage>
     requires { page < pages_of (P.content store.now) v.0 }
     ensures page { IfSome result (λ held. held.page ≡ page) }
     ensures held { IfSome result (λ held. IsSome ((P.content store.now).page v.0 page)) }
@@ -92,7 +92,7 @@ fn held_at<P: PageStore>(store: &P, v: Koid, page: PageNo) -> Option<HeldPage>
 }
 
 // Does what `next_held_below` does, by a look at each page.
-fn first_held<P: PageStore>(store: &P, v: Koid, from: PageNo, end: PageNo) -> Option<PageNo>
+fn first_held<P: Pages>(store: &P, v: Koid, from: PageNo, end: PageNo) -> Option<PageNo>
     requires { end ≤ pages_of (P.content store.now) v.0 }
     ensures some { IfSome result (λ page. (from ≤ page) × (page < end)
         × IsSome ((P.content store.now).page v.0 page)
@@ -110,8 +110,8 @@ fn first_held<P: PageStore>(store: &P, v: Koid, from: PageNo, end: PageNo) -> Op
 }
 
 // Whether a page is held.
-#[tactic(auto, using(crate::proofs::LookLaws::look_laws))]
-fn is_held_at<P: PageStore>(store: &P, v: Koid, page: PageNo) -> bool
+#[tactic(auto, using(pages::proofs::LookLaws::look_laws))]
+fn is_held_at<P: Pages>(store: &P, v: Koid, page: PageNo) -> bool
     requires { page < pages_of (P.content store.now) v.0 }
     ensures { result ≡ is_held (P.content store.now) v.0 page }
 {

@@ -2,12 +2,12 @@
 //! owning, zeroing and pinning pages, and giving their frames back; changing the size. Each is one command of the
 //! machine, by a name that is already looked up.
 //!
-//! It stands on `page_store`, whose trait it is generic over, on `vmo_table` and on `pin_table`. Its contracts say that
+//! It stands on `pages`, whose trait it is generic over, on `vmo_table` and on `pin_table`. Its contracts say that
 //! a call is the step of its command, as `vm_model` defines it. The layer above looks names up, calls an operation, and
 //! makes a reply of its answer.
 #![tactic(auto,
 // no VMO has more pages than fit
-using(page_store::proofs::NameLaws::pages_of_le,
+using(vm_model::proofs::ContentLaws::pages_of_le,
 // where the host may lack memory, some page that is touched is held
 crate::proofs::ZeroLaws::held_touched_any),
 // what a state says of a name and of a VMO
@@ -44,12 +44,12 @@ pub use copies::{count_copies, next_copy};
 pub use decommitting::decommit;
 pub use filling::fill;
 pub use making::create;
-pub use owning::reserve_rows;
+pub use owning::{need_of, reserve_rows};
 pub use pinning::{pin, pin_into, unpin};
-pub use ranges::{PagePart, part_in_page, touched_pages};
+pub use ranges::{PagePart, part_in_page, place_in_vmo, touched_pages};
 pub use reading::{read, read_into, read_range};
 pub use ready::reserve_to_own;
-pub use sizes::resize;
-pub use snapshots::pages_within;
+pub use sizes::{is_pinned_past, resize};
+pub use snapshots::{pages_within, seen_part};
 pub use writing::{write, write_part};
-pub use zeroing::zero;
+pub use zeroing::{ZeroCost, cost_to_zero, zero};

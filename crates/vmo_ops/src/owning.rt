@@ -6,13 +6,13 @@ ghost use Rattle.vm_model.specs.Contents.Content.{pages_of, sole, used, IsGood};
 ghost use Rattle.vm_model.specs.Contents.Owning.{need};
 
 use crate::held_pages::next_with_sole;
-use page_store::{Look, PageStore};
+use pages::{Look, Pages};
 use vm_base::{HostMemory, Koid, PageNo};
 
 /// How many frames it takes to own the pages from `first` to below `end`: as many as are not sole. A range of one page
 /// costs one look.
 #[inline(always)]
-pub(crate) fn need_of<P: PageStore>(store: &P, v: Koid, first: PageNo, end: PageNo) -> u64
+pub fn need_of<P: Pages>(store: &P, v: Koid, first: PageNo, end: PageNo) -> u64
     requires good { IsGood (P.content store.now) }
     requires vmo { IsSome ((P.content store.now).count v.0) }
     requires order { first ≤ end }
@@ -27,7 +27,7 @@ pub(crate) fn need_of<P: PageStore>(store: &P, v: Koid, first: PageNo, end: Page
 }
 
 // Does what `need_of` does, page by page. It looks at the held pages alone.
-fn need_of_pages<P: PageStore>(store: &P, v: Koid, first: PageNo, end: PageNo) -> u64
+fn need_of_pages<P: Pages>(store: &P, v: Koid, first: PageNo, end: PageNo) -> u64
     requires good { IsGood (P.content store.now) }
     requires vmo { IsSome ((P.content store.now).count v.0) }
     requires order { first ≤ end }
@@ -54,8 +54,8 @@ pub(crate) fn with_one(n: u64, passes: bool) -> u64
 }
 
 /// Whether a page is held and no other VMO shows its frame.
-#[tactic(auto, using(crate::proofs::LookLaws::look_laws))]
-pub(crate) fn is_sole<P: PageStore>(store: &P, v: Koid, page: PageNo) -> bool
+#[tactic(auto, using(pages::proofs::LookLaws::look_laws))]
+pub(crate) fn is_sole<P: Pages>(store: &P, v: Koid, page: PageNo) -> bool
     requires { page < pages_of (P.content store.now) v.0 }
     ensures { result ≡ sole (P.content store.now) v.0 page }
 {
@@ -67,7 +67,7 @@ pub(crate) fn is_sole<P: PageStore>(store: &P, v: Koid, page: PageNo) -> bool
 
 /// Makes room for owning `pages` pages, or for zeroing them. `wanting` of them need a row of the store. `HostMemory` if
 /// the host has too little memory, but never if no page needs a row.
-pub fn reserve_rows<P: PageStore>(store: &mut P, wanting: u64, pages: u64) -> Result<(), HostMemory>
+pub fn reserve_rows<P: Pages>(store: &mut P, wanting: u64, pages: u64) -> Result<(), HostMemory>
     ensures room { OnOk result ((wanting ≡ 0) ⊎ (pages ≤ P.spare store.new)) }
     ensures same { P.content store.new ≡ P.content store.old }
     ensures err { OnErr result (0 < wanting) }
@@ -85,7 +85,7 @@ const UNSEEN_PAGES: u64 = 64;
 /// each. No page takes more, so none has to be looked at before. If there are more than `UNSEEN_PAGES` pages, or fewer
 /// frames are free, the call asks for nothing and answers `false`. A page that is sole takes neither a row nor a frame,
 /// so `false` does not mean a refusal.
-pub(crate) fn reserve_unseen<P: PageStore>(store: &mut P, pages: u64) -> bool
+pub(crate) fn reserve_unseen<P: Pages>(store: &mut P, pages: u64) -> bool
     ensures same { P.content store.new ≡ P.content store.old }
     ensures room { IsTrue result → (pages ≤ P.spare store.new)
         × (used (P.content store.old) + pages ≤ (P.content store.old).frames) }

@@ -12,7 +12,7 @@ ghost use Rattle.vm_model.specs.Contents.Owning.{need, OwnsAll};
 ghost use Rattle.vm_model.specs.Contents.Writing.{touched};
 ghost use Rattle.vm_model.specs.Machine.State.{State};
 ghost use Rattle.vm_model.specs.Machine.Step.{Step, frame_of, frames_of, reply_of};
-ghost use Rattle.page_store.specs.Names.{IsInside};
+ghost use Rattle.pages.specs.Names.{IsInside};
 ghost use Rattle.vmo_table.specs.Table.{keepers_of, lineage_in, names_of, CountsKeepers, IsNamed, IsWellCounted};
 ghost use Rattle.pin_table.specs.Table.{pins_of, room_of};
 ghost use Rattle.vmo_ops.specs.Costs.{HasRows};
@@ -21,7 +21,7 @@ ghost use Rattle.vmo_ops.specs.Targets.{with_tables};
 
 use crate::ranges::{place_in_vmo, touched_pages};
 use crate::ready::reserve_to_own;
-use page_store::{PageStore, drop_gone};
+use pages::{Pages, drop_gone};
 use pin_table::PinTable;
 use vm_base::{Koid, PAGE, PIN_PAGES, PinName, Refusal, in_page, page_of};
 use vm_model::{LentNumbers, PinNumbers};
@@ -39,7 +39,7 @@ const PIN_BYTES: u64 = PIN_PAGES as u64 * PAGE;
 /// - `OutOfRange` if the range passes the name's end;
 /// - `NoMemory` if the pages that are not sole are more than the free frames;
 /// - `HostMemory`.
-pub fn pin<P: PageStore>(
+pub fn pin<P: Pages>(
     store: &mut P,
     vmos: &mut VmoTable,
     pins: &mut PinTable,
@@ -67,7 +67,7 @@ pub fn pin<P: PageStore>(
 
 /// Pins as `pin` does, and writes the numbers of the frames to `room`, which has at least `PIN_PAGES` places. The
 /// answer borrows them from there.
-pub fn pin_into<'a, P: PageStore>(
+pub fn pin_into<'a, P: Pages>(
     store: &mut P,
     vmos: &mut VmoTable,
     pins: &mut PinTable,
@@ -96,7 +96,7 @@ pub fn pin_into<'a, P: PageStore>(
 
 // Makes a range of a name ready for a pin, and answers the range's place in its VMO, in bytes. It is refused as `pin`
 // is.
-fn ready_to_pin<P: PageStore>(
+fn ready_to_pin<P: Pages>(
     store: &mut P,
     pins: &mut PinTable,
     t: &Target,
@@ -128,7 +128,7 @@ fn ready_to_pin<P: PageStore>(
 
 // Pins the pages of a range of a VMO that is ready for it. Writes the numbers of their frames to `room`, and lends them
 // from there.
-fn add_pin<'a, P: PageStore>(
+fn add_pin<'a, P: Pages>(
     store: &mut P,
     vmos: &mut VmoTable,
     pins: &mut PinTable,
@@ -176,7 +176,7 @@ fn is_pin_range(offset: u64, len: u64) -> bool
 
 // Owns the pages of a range of whole pages inside a VMO, and writes the number of each page's frame to `numbers`. There
 // is room for it.
-fn own_frames<P: PageStore>(store: &mut P, v: Koid, offset: u64, len: u64, numbers: &mut [u64])
+fn own_frames<P: Pages>(store: &mut P, v: Koid, offset: u64, len: u64, numbers: &mut [u64])
     requires good { IsGood (P.content store.old) }
     requires inside { offset + len ≤ pages_of (P.content store.old) v.0 * PAGE }
     requires whole { (offset % PAGE ≡ 0) × (len % PAGE ≡ 0) }
@@ -197,7 +197,7 @@ fn own_frames<P: PageStore>(store: &mut P, v: Koid, offset: u64, len: u64, numbe
 
 /// Removes a pin that is there (`zx_pmt_unpin`). If nothing keeps its VMO any more, the VMO leaves with its pages, and
 /// its children get its parent. The call never wants memory.
-pub fn unpin<P: PageStore>(store: &mut P, vmos: &mut VmoTable, pins: &mut PinTable, pin: PinName)
+pub fn unpin<P: Pages>(store: &mut P, vmos: &mut VmoTable, pins: &mut PinTable, pin: PinName)
     requires parts { (s : State) × IsWellCounted vmos.old (with_tables s (P.content store.old) vmos.old pins.old) }
     requires there { IsSome (pins_of pins.old pin.0) }
     ensures step { (s : State) → IsWellCounted vmos.old (with_tables s (P.content store.old) vmos.old pins.old) →

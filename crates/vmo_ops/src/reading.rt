@@ -1,16 +1,16 @@
 //! Reading bytes of a VMO (`zx_vmo_read`).
 
-ghost use Rattle.std.specs.Prelude.{◌≡◌, ◌+◌, ◌*◌, ◌<◌, ◌≤◌, length, take, drop};
+ghost use Rattle.std.specs.Prelude.{◌≡◌, ◌+◌, ◌*◌, ◌<◌, ◌≤◌, length};
 ghost use Rattle.vm_model.specs.declared.command.Command.{Command};
 ghost use Rattle.vm_model.specs.declared.reply.Reply.{Reply};
-ghost use Rattle.vm_model.specs.Contents.Content.{shown, pages_of, IsGood};
+ghost use Rattle.vm_model.specs.Contents.Content.{pages_of, IsGood};
 ghost use Rattle.vm_model.specs.Contents.Writing.{bytes_in};
 ghost use Rattle.vm_model.specs.Machine.Step.{reply_of};
-ghost use Rattle.page_store.specs.Names.{IsInside};
+ghost use Rattle.pages.specs.Names.{IsInside};
 ghost use Rattle.vmo_ops.specs.Targets.{Does};
 
 use crate::ranges::{part_in_page, place_in_vmo, touched_pages};
-use page_store::PageStore;
+use pages::Pages;
 use vm_base::{DATA_BYTES, Koid, PAGE, PageNo, Refusal};
 use vm_model::{Bytes4k, LentBytes};
 use vmo_table::Target;
@@ -20,7 +20,7 @@ use vmo_table::Target;
 ///
 /// - `InvalidArgs` if `len` is over `DATA_BYTES`;
 /// - `OutOfRange` if the range passes the name's end.
-pub fn read<P: PageStore>(store: &P, t: &Target, offset: u64, len: u64) -> Result<Bytes4k, Refusal>
+pub fn read<P: Pages>(store: &P, t: &Target, offset: u64, len: u64) -> Result<Bytes4k, Refusal>
     requires good { IsGood (P.content store.now) }
     requires inside { IsInside (P.content store.now) t.now }
     ensures { Does (λ name. Command.VmoRead name offset len) t.now (P.content store.now)
@@ -35,7 +35,7 @@ pub fn read<P: PageStore>(store: &P, t: &Target, offset: u64, len: u64) -> Resul
 
 /// Reads as `read` does, into `room`, which has at least `DATA_BYTES` bytes, and lends the bytes that were read from
 /// there.
-pub fn read_into<'a, P: PageStore>(
+pub fn read_into<'a, P: Pages>(
     store: &P,
     t: &Target,
     offset: u64,
@@ -60,15 +60,15 @@ pub fn read_into<'a, P: PageStore>(
 }
 
 /// Reads the bytes of a range inside a VMO, `offset` bytes into it. Most ranges lie in one page.
-#[tactic(auto, using(page_store::proofs::NameLaws::pages_of_le))]
-pub fn read_range<P: PageStore>(store: &P, v: Koid, offset: u64, out: &mut [u8])
+#[tactic(auto, using(vm_model::proofs::ContentLaws::pages_of_le))]
+pub fn read_range<P: Pages>(store: &P, v: Koid, offset: u64, out: &mut [u8])
     requires good { IsGood (P.content store.now) }
     requires inside { offset + length out.old ≤ pages_of (P.content store.now) v.0 * PAGE }
     ensures { out.new ≡ bytes_in (P.content store.now) v.0 offset (length out.old) }
 {
     let (first, end) = touched_pages(offset, out.len() as u64);
     if end - first == 1 {
-        read_page(store, v, first, offset % PAGE, out);
+        store.read(v, first, offset % PAGE, out);
     } else {
         read_pages(store, v, offset, out);
     }
@@ -76,7 +76,7 @@ pub fn read_range<P: PageStore>(store: &P, v: Koid, offset: u64, out: &mut [u8])
 
 // Reads the bytes of a range inside the VMO, page by page.
 #[tactic(auto, using(crate::proofs::ReadLaws::read_laws))]
-fn read_pages<P: PageStore>(store: &P, v: Koid, offset: u64, out: &mut [u8])
+fn read_pages<P: Pages>(store: &P, v: Koid, offset: u64, out: &mut [u8])
     requires good { IsGood (P.content store.now) }
     requires inside { offset + length out.old ≤ pages_of (P.content store.now) v.0 * PAGE }
     ensures { out.new ≡ bytes_in (P.content store.now) v.0 offset (length out.old) }
@@ -86,26 +86,11 @@ fn read_pages<P: PageStore>(store: &P, v: Koid, offset: u64, out: &mut [u8])
     for page in first..end {
         let part = part_in_page(offset, len, page);
         let until = part.from + part.len;
-        read_page(
-            store,
+        store.read(
             v,
             page,
             part.at,
             &mut out[part.from as usize..until as usize],
         );
-    }
-}
-
-// Reads what a page shows, from `at` bytes into the page on.
-#[inline(always)]
-#[tactic(auto, using(crate::proofs::LookLaws::look_laws))]
-fn read_page<P: PageStore>(store: &P, v: Koid, page: PageNo, at: u64, out: &mut [u8])
-    requires page { page < pages_of (P.content store.now) v.0 }
-    requires range { at + length out.old ≤ PAGE }
-    ensures { out.new ≡ take (length out.old) (drop at (shown (P.content store.now) v.0 page)) }
-{
-    match store.frame(v, page) {
-        Some(tag) => store.read(tag, at, out),
-        None => out.fill(0),
     }
 }

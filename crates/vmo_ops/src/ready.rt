@@ -5,19 +5,19 @@ ghost use Rattle.std.specs.List.{range_with_len};
 ghost use Rattle.vm_model.specs.Contents.Content.{pages_of, used, IsGood};
 ghost use Rattle.vm_model.specs.Contents.Owning.{need};
 ghost use Rattle.vm_model.specs.Contents.Writing.{touched};
-ghost use Rattle.page_store.specs.Names.{IsInside};
+ghost use Rattle.pages.specs.Names.{IsInside};
 ghost use Rattle.vmo_ops.specs.Costs.{HasRows, LacksRoom};
 ghost use Rattle.vmo_ops.specs.Targets.{IsPlaced, IsBarred};
 
 use crate::owning::{need_of, reserve_rows, reserve_unseen};
 use crate::ranges::{place_in_vmo, touched_pages};
-use page_store::PageStore;
+use pages::Pages;
 use vm_base::{Koid, PAGE, PageNo, Refusal};
 use vmo_table::Target;
 
 /// The place of a range of a name in the name's VMO, in bytes. `AccessDenied` if the name may not write, else
 /// `OutOfRange` if the range passes the name's end.
-pub(crate) fn place_to_change<P: PageStore>(
+pub(crate) fn place_to_change<P: Pages>(
     store: &P,
     t: &Target,
     offset: u64,
@@ -41,7 +41,7 @@ pub(crate) fn place_to_change<P: PageStore>(
 /// Makes a range of a name ready for owning its pages, and answers its place in the VMO, in bytes. It is refused as a
 /// change is, also for want of frames or of the host's memory. A refusal changes nothing.
 #[inline(always)]
-pub(crate) fn ready_to_own<P: PageStore>(
+pub(crate) fn ready_to_own<P: Pages>(
     store: &mut P,
     t: &Target,
     offset: u64,
@@ -72,7 +72,7 @@ pub(crate) fn ready_to_own<P: PageStore>(
 /// `HostMemory` only if one of these pages is not sole. If the range is short and frames are free for all of it, no
 /// page is looked at.
 #[inline(always)]
-pub fn reserve_to_own<P: PageStore>(
+pub fn reserve_to_own<P: Pages>(
     store: &mut P,
     v: Koid,
     offset: u64,
@@ -97,7 +97,7 @@ pub fn reserve_to_own<P: PageStore>(
 /// Makes room for owning the pages from `first` to below `end`, by a look at those that are held. It is refused as
 /// `reserve_to_own` is.
 #[inline(never)]
-fn reserve_needed<P: PageStore>(
+fn reserve_needed<P: Pages>(
     store: &mut P,
     v: Koid,
     first: PageNo,

@@ -13,14 +13,14 @@ ghost use Rattle.vm_model.specs.Contents.Sharing.{snapshotted};
 ghost use Rattle.vm_model.specs.Naming.Pins.{is_pinned};
 ghost use Rattle.vm_model.specs.Machine.State.{State};
 ghost use Rattle.vm_model.specs.Machine.Step.{Step, seen_pages, reply_of};
-ghost use Rattle.page_store.specs.Names.{IsInside};
+ghost use Rattle.pages.specs.Names.{IsInside};
 ghost use Rattle.vmo_table.specs.Table.{names_of, keepers_of, IsNamed};
 ghost use Rattle.pin_table.specs.Table.{pins_of};
 ghost use Rattle.vmo_ops.specs.inside.Copies.{copies_of};
 ghost use Rattle.vmo_ops.specs.Targets.{AreTogether, with_tables, koid_given};
 
 use crate::copies::{count_copies, own_copies};
-use page_store::{PageStore, pages_of_name};
+use pages::{Pages, pages_of_name};
 use pin_table::PinTable;
 use vm_base::{
     HostMemory, Koid, PAGE, PageNo, Refusal, VMO_PAGES, VmoName, in_page, page_of, round_up,
@@ -30,7 +30,7 @@ use vmo_table::{Origin, Target, VmoTable};
 /// Makes a VMO that shows the pages of what `t` stands for, from `offset` bytes into it on, as they are now
 /// (`ZX_VMO_CHILD_SNAPSHOT`). A page is copied when one of the two VMOs is written to. A pinned page is copied at once,
 /// so that it keeps its frame for itself. Pages past the end of the name are zero.
-pub(crate) fn snapshot<P: PageStore>(
+pub(crate) fn snapshot<P: Pages>(
     store: &mut P,
     vmos: &mut VmoTable,
     pins: &PinTable,
@@ -85,7 +85,7 @@ pub(crate) fn snapshot<P: PageStore>(
 // Makes a snapshot of `pages` pages that owns its copies of pinned pages, and answers its koid. The snapshot sees
 // `seen` pages of `of` from the page `first` of `of` on. Of these, `copied` pages are pinned. `HostMemory`, with
 // nothing changed, if the host has too little memory.
-fn snapshot_owned<P: PageStore>(
+fn snapshot_owned<P: Pages>(
     store: &mut P,
     pins: &PinTable,
     of: Koid,
@@ -127,9 +127,9 @@ pub fn pages_within(offset: u64, size: u64) -> Option<PageNo>
     Some(page_of(whole))
 }
 
-// The pages that a snapshot sees of a name: the first one, counted in the VMO, and how many there are. They are at most
-// `pages`, from the name's page `start` on. If the snapshot sees none, the first is 0.
-fn seen_part<P: PageStore>(store: &P, t: &Target, start: PageNo, pages: PageNo) -> (PageNo, PageNo)
+/// Returns the pages that a snapshot sees of a name: the first one, counted in the VMO, and how many there are. They are
+/// at most `pages`, from the name's page `start` on. If the snapshot sees none, the first is 0.
+pub fn seen_part<P: Pages>(store: &P, t: &Target, start: PageNo, pages: PageNo) -> (PageNo, PageNo)
     requires good { IsGood (P.content store.now) }
     requires inside { IsInside (P.content store.now) t.now }
     ensures seen { result.1 ≡ seen_pages (P.content store.now) t.now start pages }

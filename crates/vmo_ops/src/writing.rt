@@ -7,13 +7,13 @@ ghost use Rattle.vm_model.specs.Contents.Content.{pages_of, sole, used, IsGood};
 ghost use Rattle.vm_model.specs.Contents.Owning.{need};
 ghost use Rattle.vm_model.specs.Contents.Writing.{touched, pieces, WritesPiece, Writes};
 ghost use Rattle.vm_model.specs.Machine.Step.{reply_of};
-ghost use Rattle.page_store.specs.Names.{IsInside};
+ghost use Rattle.pages.specs.Names.{IsInside};
 ghost use Rattle.vmo_ops.specs.Costs.{HasRows};
 ghost use Rattle.vmo_ops.specs.Targets.{Does};
 
 use crate::ranges::{part_in_page, touched_pages};
 use crate::ready::ready_to_own;
-use page_store::PageStore;
+use pages::Pages;
 use vm_base::{Koid, PAGE, PageNo, Refusal};
 use vmo_table::Target;
 
@@ -24,12 +24,7 @@ use vmo_table::Target;
 /// - `OutOfRange` if the range passes the name's end;
 /// - `NoMemory` if the pages that are not sole are more than the free frames;
 /// - `HostMemory`, only if some of these pages is not sole.
-pub fn write<P: PageStore>(
-    store: &mut P,
-    t: &Target,
-    offset: u64,
-    bytes: &[u8],
-) -> Result<(), Refusal>
+pub fn write<P: Pages>(store: &mut P, t: &Target, offset: u64, bytes: &[u8]) -> Result<(), Refusal>
     requires good { IsGood (P.content store.old) }
     requires inside { IsInside (P.content store.old) t.now }
     ensures { Does (λ name. Command.VmoWrite name offset bytes.now) t.now (P.content store.old)
@@ -45,8 +40,8 @@ pub fn write<P: PageStore>(
 }
 
 // Writes bytes inside the VMO. There is room for it. Most ranges lie in one page.
-#[tactic(auto, using(page_store::proofs::NameLaws::pages_of_le))]
-fn write_range<P: PageStore>(store: &mut P, v: Koid, offset: u64, bytes: &[u8])
+#[tactic(auto, using(vm_model::proofs::ContentLaws::pages_of_le))]
+fn write_range<P: Pages>(store: &mut P, v: Koid, offset: u64, bytes: &[u8])
     requires good { IsGood (P.content store.old) }
     requires inside { offset + length bytes.now ≤ pages_of (P.content store.old) v.0 * PAGE }
     requires room { HasRows (P.content store.old) v.0 (touched offset (length bytes.now)) (P.spare store.old) }
@@ -64,7 +59,7 @@ fn write_range<P: PageStore>(store: &mut P, v: Koid, offset: u64, bytes: &[u8])
 }
 
 // Writes bytes inside the VMO, page by page. There is room for it.
-fn write_pages<P: PageStore>(store: &mut P, v: Koid, offset: u64, bytes: &[u8])
+fn write_pages<P: Pages>(store: &mut P, v: Koid, offset: u64, bytes: &[u8])
     requires good { IsGood (P.content store.old) }
     requires inside { offset + length bytes.now ≤ pages_of (P.content store.old) v.0 * PAGE }
     requires room { HasRows (P.content store.old) v.0 (touched offset (length bytes.now)) (P.spare store.old) }
@@ -90,7 +85,7 @@ fn write_pages<P: PageStore>(store: &mut P, v: Koid, offset: u64, bytes: &[u8])
 
 /// Writes bytes to one page, from `at` bytes into the page on. The page is owned first.
 #[inline(always)]
-pub fn write_part<P: PageStore>(store: &mut P, v: Koid, page: PageNo, at: u64, bytes: &[u8])
+pub fn write_part<P: Pages>(store: &mut P, v: Koid, page: PageNo, at: u64, bytes: &[u8])
     requires good { IsGood (P.content store.old) }
     requires page { page < pages_of (P.content store.old) v.0 }
     requires within { at + length bytes.now ≤ PAGE }
@@ -100,6 +95,5 @@ pub fn write_part<P: PageStore>(store: &mut P, v: Koid, page: PageNo, at: u64, b
         (record { koid = v.0; page = page; at = at; bytes = bytes.now }) (P.content store.new) }
     ensures spare { P.spare store.old ≤ P.spare store.new + 1 }
 {
-    let tag = store.own(v, page);
-    store.write(tag, at, bytes);
+    store.write(v, page, at, bytes);
 }

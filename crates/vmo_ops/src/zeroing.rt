@@ -9,7 +9,7 @@ ghost use Rattle.vm_model.specs.Contents.Writing.{touched};
 ghost use Rattle.vm_model.specs.Naming.Pins.{is_pinned};
 ghost use Rattle.vm_model.specs.Contents.Zeroing.{is_cleared, owned_by_zero, ZeroesPage, Zeroes};
 ghost use Rattle.vm_model.specs.Machine.Step.{reply_of};
-ghost use Rattle.page_store.specs.Names.{IsInside};
+ghost use Rattle.pages.specs.Names.{IsInside};
 ghost use Rattle.pin_table.specs.Table.{pins_of};
 ghost use Rattle.vmo_ops.specs.Targets.{DoesWith};
 ghost use Rattle.vmo_ops.specs.Costs.{held_touched, LacksRoomToZero};
@@ -19,7 +19,7 @@ use crate::held_pages::next_held_below;
 use crate::owning::{is_sole, reserve_rows, reserve_unseen, with_one};
 use crate::ranges::{PagePart, part_in_page, touched_pages};
 use crate::ready::place_to_change;
-use page_store::PageStore;
+use pages::Pages;
 use pin_table::PinTable;
 use vm_base::{Koid, PAGE, PAGE_BYTES, PageNo, Refusal};
 use vmo_table::Target;
@@ -33,7 +33,7 @@ use vmo_table::Target;
 /// - `OutOfRange` if the range passes the name's end;
 /// - `NoMemory` if owning takes more frames than are free;
 /// - `HostMemory`, only if a page that the range touches is held.
-pub fn zero<P: PageStore>(
+pub fn zero<P: Pages>(
     store: &mut P,
     pins: &PinTable,
     t: &Target,
@@ -61,7 +61,7 @@ pub fn zero<P: PageStore>(
 // Makes room for zeroing a range inside the VMO. `NoMemory` if owning takes more frames than are free, else
 // `HostMemory` only if a page that the range touches is held. If the range is short and frames are free for all of it,
 // no page is looked at.
-fn reserve_to_zero<P: PageStore>(
+fn reserve_to_zero<P: Pages>(
     store: &mut P,
     pins: &PinTable,
     v: Koid,
@@ -96,13 +96,13 @@ fn reserve_to_zero<P: PageStore>(
 /// What it takes to zero a range: how many pages that it touches are held, and how many of these are to be owned and
 /// are not sole.
 #[derive(Clone, Copy)]
-pub(crate) struct ZeroCost {
+pub struct ZeroCost {
     pub held: u64,
     pub owned: u64,
 }
 
 /// What it takes to zero a range inside the VMO. The call looks at the held pages alone.
-pub(crate) fn cost_to_zero<P: PageStore>(
+pub fn cost_to_zero<P: Pages>(
     store: &P,
     pins: &PinTable,
     v: Koid,
@@ -129,7 +129,7 @@ pub(crate) fn cost_to_zero<P: PageStore>(
 
 // Whether zeroing a range takes a frame for a held page that it touches: the page does not become zero as a whole, and
 // is not sole.
-fn takes_frame<P: PageStore>(
+fn takes_frame<P: Pages>(
     store: &P,
     pins: &PinTable,
     v: Koid,
@@ -158,13 +158,7 @@ fn is_cleared_page(pins: &PinTable, v: Koid, page: PageNo, part: PagePart) -> bo
 }
 
 /// Zeroes a range inside the VMO, one held page after another. There is room for it.
-pub(crate) fn zero_pages<P: PageStore>(
-    store: &mut P,
-    pins: &PinTable,
-    v: Koid,
-    offset: u64,
-    len: u64,
-)
+pub(crate) fn zero_pages<P: Pages>(store: &mut P, pins: &PinTable, v: Koid, offset: u64, len: u64)
     requires good { IsGood (P.content store.old) }
     requires vmo { IsSome ((P.content store.old).count v.0) }
     requires inside { offset + len ≤ pages_of (P.content store.old) v.0 * PAGE }
@@ -187,14 +181,7 @@ pub(crate) fn zero_pages<P: PageStore>(
 static ZEROS: [u8; PAGE_BYTES] = [0; PAGE_BYTES];
 
 // Zeroes the part of a range that falls into one page. The range touches the page, and the page is held.
-fn zero_part<P: PageStore>(
-    store: &mut P,
-    pins: &PinTable,
-    v: Koid,
-    offset: u64,
-    len: u64,
-    page: PageNo,
-)
+fn zero_part<P: Pages>(store: &mut P, pins: &PinTable, v: Koid, offset: u64, len: u64, page: PageNo)
     requires good { IsGood (P.content store.old) }
     requires held { IsSome ((P.content store.old).page v.0 page) }
     requires range { offset + len ≤ pages_of (P.content store.old) v.0 * PAGE }

@@ -8,7 +8,7 @@ use Rattle.vm_model.specs.declared.command.Command.TheVariants.{VmoSetSize, VmoW
 use Rattle.vm_model.specs.declared.names.Target.{Target}
 use Rattle.vm_model.specs.Contents.Writing.{touched}
 use Rattle.vm_model.specs.Machine.State.{State, target_of, place_of, name_pages, seen_pages}
-use Rattle.page_store.specs.Names.{IsInside}
+use Rattle.pages.specs.Names.{IsInside}
 use Rattle.vmo_table.specs.Table.{names_of}
 use Rattle.eager_vmos.specs.Vmos.{content_in}
 use Rattle.eager_vmos.specs.declared.eager_vmos.EagerVmos.{EagerVmos}

@@ -18,7 +18,7 @@ use Rattle.vm_model.specs.Naming.Pins.{Pin, is_pinned}
 use Rattle.vm_model.specs.Space.Readiness.{shows_but}
 use Rattle.vm_model.specs.Space.Regions.{region_of}
 use Rattle.vm_model.specs.Machine.State.{State, target_of, name_pages, seen_pages}
-use Rattle.page_store.specs.Names.{IsInside}
+use Rattle.pages.specs.Names.{IsInside}
 use Rattle.fault.specs.declared.translation.Translation.{Translation}
 use Rattle.fault.specs.Table.{Places, without, is_of, is_stale, is_at}
 

@@ -3,7 +3,7 @@ use Rattle.region_tree.specs.Tree.{regions_of, spaces_of}
 use Rattle.std.proofs.Common.{refl}
 use Rattle.ready_map.specs.Notes.{rows_of}
 use Rattle.eager_machine.specs.Machine.{state_in}
-use Rattle.eager_machine.proofs.ActLaws.{effect_of, same_of}
+use Rattle.eager_vmos.proofs.DoingLaws.{effect_of, same_of}
 use Rattle.eager_machine.proofs.LiveLaws.{live_protect}
 use Rattle.eager_machine.proofs.SpaceLaws.{counted_mapped, dropped}
 use Rattle.eager_machine.proofs.mappings.vmar_protect.Goals as goal

@@ -1,7 +1,7 @@
 use Rattle.std.proofs.Common.{sym, ap, ◌∙◌, Option}
 use Rattle.std.specs.Prelude.{is_some}
 use Rattle.vm_model.specs.declared.names.Target.{Target}
-use Rattle.page_store.proofs.NameLaws.{IsInside-good}
+use Rattle.pages.proofs.NameLaws.{IsInside-good}
 use Rattle.mapping_set.specs.Tables.{table_of}
 use Rattle.region_tree.specs.Tree.{regions_of, spaces_of}
 use Rattle.region_ops.specs.Spaces.{with_all}

@@ -1,5 +1,5 @@
 use Rattle.std.proofs.Common.{◌∙◌, sym, arith}
-use Rattle.page_store.proofs.NameLaws.{IsInside-good, name_few}
+use Rattle.pages.proofs.NameLaws.{IsInside-good, name_few}
 use Rattle.vm_model.proofs.RegionLaws.{region_bounds}
 use Rattle.mapping_set.specs.Tables.{table_of}
 use Rattle.region_tree.specs.Tree.{regions_of, spaces_of}

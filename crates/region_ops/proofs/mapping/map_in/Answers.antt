@@ -1,6 +1,6 @@
 use Rattle.std.proofs.Common.{◌≡◌, ◌∙◌, sym, arith, rules}
 use Rattle.std.specs.declared.result.Result.TheVariants.{Err}
-use Rattle.page_store.proofs.NameLaws.{IsInside-good, name_few}
+use Rattle.pages.proofs.NameLaws.{IsInside-good, name_few}
 use Rattle.vm_model.proofs.RegionLaws.{region_bounds}
 use Rattle.mapping_set.specs.Tables.{table_of}
 use Rattle.region_tree.specs.Tree.{regions_of, spaces_of}
@@ -44,7 +44,7 @@ returns-in_default-reserve-clause-does g c = rw c.in_default-reserve.ensures.tab
 
 pub entry_of-entry-requires : goal.entry_of-entry-requires
 entry_of-entry-requires g c =
-    let old = with_all c.requires.well.rest (g.P.PageStore.content c.args.store.now) c.args.vmos.now (spaces_of (regions_of c.args.regions.now) (table_of c.args.maps.now)) in
+    let old = with_all c.requires.well.rest (g.P.Pages.content c.args.store.now) c.args.vmos.now (spaces_of (regions_of c.args.regions.now) (table_of c.args.maps.now)) in
     let good = c.requires.well.well.good in
     omega (arith, name_few old.content c.args.t.now good.content (IsInside-good old c.requires.named.0 _ good c.requires.named.1))
 
@@ -56,7 +56,7 @@ put-requires-clause-well g c = rw c.in-Ok.ensures.table (record {
 
 pub put-requires-clause-place : goal.put-requires-clause-place
 put-requires-clause-place g c =
-    let old = with_all c.requires.well.rest (g.P.PageStore.content c.args.store.now) c.args.vmos.now (spaces_of (regions_of c.args.regions.now) (table_of c.args.maps.now)) in
+    let old = with_all c.requires.well.rest (g.P.Pages.content c.args.store.now) c.args.vmos.now (spaces_of (regions_of c.args.regions.now) (table_of c.args.maps.now)) in
     rw c.in-Ok.ensures.table (rw c.entry_of-entry.ensures (rw c.page_count-count.ensures (rw c.by-wanted.ensures
     (puttable old c.args.region c.args.offset (record { 0 = c.requires.named.0 }) c.args.vmo_offset c.args.len c.args.perm c.args.flags _ _
     c.requires.above c.requires.live c.requires.named.1 c.in_ok-first.first
@@ -65,7 +65,7 @@ put-requires-clause-place g c =
 
 pub overflow_mul-result : goal.overflow_mul-result
 overflow_mul-result g c =
-    let old = with_all c.requires.well.rest (g.P.PageStore.content c.args.store.now) c.args.vmos.now (spaces_of (regions_of c.args.regions.now) (table_of c.args.maps.now)) in
+    let old = with_all c.requires.well.rest (g.P.Pages.content c.args.store.now) c.args.vmos.now (spaces_of (regions_of c.args.regions.now) (table_of c.args.maps.now)) in
     let may = puttable old c.args.region c.args.offset (record { 0 = c.requires.named.0 }) c.args.vmo_offset c.args.len c.args.perm c.args.flags _ _
     c.requires.above c.requires.live c.requires.named.1 c.in_ok-first.first
     (rw c.by-wanted.ensures at (rw (c.contains-faults.ensures tt) at (sym (rw c.pages_of_name-pages.ensures at c.map_refusal.ensures) ∙ c.in_default.is)))
@@ -79,15 +79,15 @@ returns-clause-does g c = λ name named. record {
       (rw c.by-wanted.ensures at (rw (c.contains-faults.ensures tt) at (sym (rw c.pages_of_name-pages.ensures at c.map_refusal.ensures) ∙ c.in_default.is)))
       (rw c.by-wanted.ensures at (rw c.page_count-count.ensures at c.in_ok-first.ensures)) _
       ((rw c.in-Ok.ensures.table at (rw c.entry_of-entry.ensures at (rw c.page_count-count.ensures at c.put.ensures.puts.put)))
-      (with_all s (g.P.PageStore.content c.args.store.now) c.args.vmos.now (spaces_of (regions_of c.args.regions.now) (table_of c.args.maps.now))) well);
+      (with_all s (g.P.Pages.content c.args.store.now) c.args.vmos.now (spaces_of (regions_of c.args.regions.now) (table_of c.args.maps.now))) well);
   counted = λ s well.
       (rw c.in-Ok.ensures.table at c.put.ensures.puts.counted)
-      (with_all s (g.P.PageStore.content c.args.store.now) c.args.vmos.now (spaces_of (regions_of c.args.regions.now) (table_of c.args.maps.now))) well;
+      (with_all s (g.P.Pages.content c.args.store.now) c.args.vmos.now (spaces_of (regions_of c.args.regions.now) (table_of c.args.maps.now))) well;
 }
 
 pub returns-clause-places : goal.returns-clause-places
 returns-clause-places g c = λ on.
-    let old = with_all c.requires.well.rest (g.P.PageStore.content c.args.store.now) c.args.vmos.now (spaces_of (regions_of c.args.regions.now) (table_of c.args.maps.now)) in
+    let old = with_all c.requires.well.rest (g.P.Pages.content c.args.store.now) c.args.vmos.now (spaces_of (regions_of c.args.regions.now) (table_of c.args.maps.now)) in
     let good = c.requires.well.well.good.spaces.regions in
     let apart = placed_apart old c.args.region c.args.offset (record { 0 = c.requires.named.0 }) c.args.vmo_offset c.args.len c.args.perm c.args.flags _ _
     c.requires.above c.requires.live c.requires.named.1 c.in_ok-first.first

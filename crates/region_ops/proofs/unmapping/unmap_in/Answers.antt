@@ -10,7 +10,7 @@ clear_mapped-requires g c = record { well = AreWell-all _ _ _ c.requires.well }
 
 pub returns-clause-does : goal.returns-clause-does
 returns-clause-does g c =
-    unmap_done (g.P.PageStore.content c.args.store.now) c.args.vmos.now (spaces_of (regions_of c.args.regions.now) (table_of c.args.maps.now))
+    unmap_done (g.P.Pages.content c.args.store.now) c.args.vmos.now (spaces_of (regions_of c.args.regions.now) (table_of c.args.maps.now))
     c.args.region c.args.addr c.args.len c.args.above c.requires.above c.requires.live
     (or_from _ _ (sym c.is_outside.ensures ∙ c.if-is_outside.false) (rw (c.page_of-first.ensures, c.page_count-count.ensures) at (sym c.cuts.ensures ∙ c.if-cuts.false)))
     _ _ (table_of c.destroy_within.new.maps) _

@@ -1,5 +1,5 @@
 use Rattle.std.proofs.Common.{arith}
-use Rattle.page_store.proofs.NameLaws.{pages_of_le}
+use Rattle.vm_model.proofs.ContentLaws.{pages_of_le}
 use Rattle.source_vm.specs.Table.{names_of, backings_of, links_of}
 use Rattle.source_vm.proofs.StepLaws.{kept_content, no_more}
 use Rattle.source_vm.proofs.RowLaws.{supply_refused}

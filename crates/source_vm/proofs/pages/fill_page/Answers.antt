@@ -1,4 +1,4 @@
-use Rattle.vmo_ops.proofs.LookLaws.{held_frame}
+use Rattle.pages.proofs.LookLaws.{held_frame}
 use Rattle.source_vm.specs.Table.{backings_of, links_of}
 use Rattle.source_vm.proofs.FillingLaws.{FillsPage-held, FillsPage-from}
 use Rattle.source_vm.proofs.pages.fill_page.Goals as goal

@@ -1,5 +1,5 @@
 use Rattle.std.proofs.Common.{◌≡◌, [], length, ℕ, List, subst, arith}
-use Rattle.page_store.proofs.NameLaws.{pages_of_le}
+use Rattle.vm_model.proofs.ContentLaws.{pages_of_le}
 use Rattle.vmo_ops.proofs.ModelLaws.{used_le}
 use Rattle.source_vm.specs.Pages.{absent_touched}
 use Rattle.source_vm.specs.Table.{backings_of, links_of}

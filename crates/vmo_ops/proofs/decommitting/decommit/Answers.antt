@@ -34,9 +34,9 @@ returns g c = search rules
 pub returns-in_default-reserve_rows : goal.returns-in_default-reserve_rows
 unfolding target_of lineage_of
 returns-in_default-reserve_rows g c = λ rest name named.
-    let some : 0 < held_touched (g.P.PageStore.content c.args.store.now) c.args.t.now.koid.0 c.in-Some.at c.args.len =
+    let some : 0 < held_touched (g.P.Pages.content c.args.store.now) c.args.t.now.koid.0 c.in-Some.at c.args.len =
     omega (arith, c.cost_to_zero-cost.ensures.held, c.in_default-reserve_rows.ensures.err) in
-    let s = with_tables rest (g.P.PageStore.content c.args.store.now) c.args.vmos.now c.args.pins.now in
+    let s = with_tables rest (g.P.Pages.content c.args.store.now) c.args.vmos.now c.args.pins.now in
     rw c.reserve_rows.ensures.same (Step-lacks _ _ (search rules)
     (wants_held s name.0 c.args.offset c.args.len c.args.t.now c.in-Some.at named c.in-Some.ensures.some.place some))
 

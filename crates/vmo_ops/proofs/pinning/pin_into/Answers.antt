@@ -38,14 +38,14 @@ pub add_pin-requires-clause-koid : goal.add_pin-requires-clause-koid
 add_pin-requires-clause-koid g c = named_known _ _ c.requires.parts.1.good c.requires.named
 
 pub add_pin-requires-clause-few : goal.add_pin-requires-clause-few
-add_pin-requires-clause-few g c = few_keepers (with_tables c.requires.parts.0 (g.P.PageStore.content c.args.store.now) c.args.vmos.now c.args.pins.now) c.args.vmos.now _ c.requires.parts.1.counted
+add_pin-requires-clause-few g c = few_keepers (with_tables c.requires.parts.0 (g.P.Pages.content c.args.store.now) c.args.vmos.now c.args.pins.now) c.args.vmos.now _ c.requires.parts.1.counted
 
 pub returns-in-Ok-clause-step : goal.returns-in-Ok-clause-step
 returns-in-Ok-clause-step g c = λ s name named.
     let added = c.add_pin.ensures in
     rw (added.names, added.lineage, added.pins, c.ready_to_pin.ensures.pins) (
-    pinned_step (with_tables s (g.P.PageStore.content c.args.store.now) c.args.vmos.now c.args.pins.now) c.args.pin name c.args.offset c.args.len _ named c.requires.free
-    _ _ (g.P.PageStore.content c.add_pin.new.store) _ c.in-Ok.ensures.ok (rw c.ready_to_pin.ensures.content at added.owns) added.numbers
+    pinned_step (with_tables s (g.P.Pages.content c.args.store.now) c.args.vmos.now c.args.pins.now) c.args.pin name c.args.offset c.args.len _ named c.requires.free
+    _ _ (g.P.Pages.content c.add_pin.new.store) _ c.in-Ok.ensures.ok (rw c.ready_to_pin.ensures.content at added.owns) added.numbers
     )
 
 pub returns-in-Ok-clause-counted : goal.returns-in-Ok-clause-counted
@@ -56,7 +56,7 @@ returns-in-Ok-clause-counted g c = λ s counted.
 pub returns-in-Err-clause-step : goal.returns-in-Err-clause-step
 returns-in-Err-clause-step g c = λ s name named.
     rw (c.ready_to_pin.ensures.content, c.ready_to_pin.ensures.pins) (
-    unpinnable_step (with_tables s (g.P.PageStore.content c.args.store.now) c.args.vmos.now c.args.pins.now) c.args.pin name c.args.offset c.args.len _ named c.requires.free _
+    unpinnable_step (with_tables s (g.P.Pages.content c.args.store.now) c.args.vmos.now c.args.pins.now) c.args.pin name c.args.offset c.args.len _ named c.requires.free _
     c.in-Err.ensures.err
     )
 

@@ -1,5 +1,5 @@
 use Rattle.std.proofs.Common.{refl, arith}
-use Rattle.page_store.proofs.NameLaws.{pages_of_le}
+use Rattle.vm_model.proofs.ContentLaws.{pages_of_le}
 use Rattle.vmo_ops.proofs.ranges.place_in_vmo.Goals as goal
 
 pub overflow_mul-result : goal.overflow_mul-result

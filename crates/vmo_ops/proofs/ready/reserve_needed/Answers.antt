@@ -5,7 +5,7 @@ use Rattle.vmo_ops.proofs.ready.reserve_needed.Goals as goal
 
 pub returns-in_default-clause-err : goal.returns-in_default-clause-err
 returns-in_default-clause-err g c =
-    let content = g.P.PageStore.content c.args.store.now in
+    let content = g.P.Pages.content c.args.store.now in
     inr (
       refl,
       omega (arith, c.need_of-need.ensures),

@@ -15,5 +15,5 @@ returns-then-reserve_unseen-clause-free g c =
     rw c.touched_pages-first.ensures.pages (omega (
       arith,
       there.1,
-      need-most (g.P.PageStore.content c.args.store.now) c.args.v.0 pages.0 (pages.1 - pages.0),
+      need-most (g.P.Pages.content c.args.store.now) c.args.v.0 pages.0 (pages.1 - pages.0),
     ))

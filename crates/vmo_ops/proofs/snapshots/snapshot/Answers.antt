@@ -1,5 +1,5 @@
 use Rattle.std.proofs.Common.{arith}
-use Rattle.page_store.proofs.NameLaws.{pages_of_le}
+use Rattle.vm_model.proofs.ContentLaws.{pages_of_le}
 use Rattle.vmo_ops.proofs.CopyRows.{asked-from, copies-lack, copies-host, copies-entered}
 use Rattle.vmo_ops.proofs.NameLaws.{named_inside, named_known}
 use Rattle.vmo_ops.proofs.snapshots.snapshot.Goals as goal
@@ -9,7 +9,7 @@ seen_part-first-requires-clause-inside g c = named_inside _ _ c.requires.parts.g
 
 pub count_copies-copied-requires : goal.count_copies-copied-requires
 count_copies-copied-requires g c =
-    omega (arith, c.seen_part-first.ensures.inside, pages_of_le (g.P.PageStore.content c.args.store.now) c.args.t.now.koid.0 c.requires.parts.good.content)
+    omega (arith, c.seen_part-first.ensures.inside, pages_of_le (g.P.Pages.content c.args.store.now) c.args.t.now.koid.0 c.requires.parts.good.content)
 
 pub snapshot_owned-requires-clause-vmo : goal.snapshot_owned-requires-clause-vmo
 snapshot_owned-requires-clause-vmo g c = (named_inside _ _ c.requires.parts.good c.requires.named).vmo

@@ -10,7 +10,7 @@ returns-then-reserve_unseen-clause-room g c =
     omega (
       arith,
       there.0,
-      held_touched-most (g.P.PageStore.content c.args.store.now) c.args.v.0 c.args.offset c.args.len _ _
+      held_touched-most (g.P.Pages.content c.args.store.now) c.args.v.0 c.args.offset c.args.len _ _
           c.touched_pages-first.ensures.pages,
     )
 
@@ -20,6 +20,6 @@ returns-then-reserve_unseen-clause-free g c =
     omega (
       arith,
       there.1,
-      need-zero-most (g.P.PageStore.content c.args.store.now) c.args.v.0 (is_pinned (pins_of c.args.pins.now) c.args.v.0)
+      need-zero-most (g.P.Pages.content c.args.store.now) c.args.v.0 (is_pinned (pins_of c.args.pins.now) c.args.v.0)
           c.args.offset c.args.len _ _ c.touched_pages-first.ensures.pages,
     )

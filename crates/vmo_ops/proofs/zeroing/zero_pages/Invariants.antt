@@ -6,8 +6,8 @@ use Rattle.vmo_ops.proofs.zeroing.zero_pages.Given as goal
 
 abbrev pub invariant-loop-page : goal.invariant-loop-page
 invariant-loop-page g l =
-    IsZeroing l.v.0 (is_pinned (pins_of l.pins) l.v.0) l.offset l.len (g.P.PageStore.content l.fn.store)
-    (g.P.PageStore.content l.store) l.from l.end (g.P.PageStore.spare l.store)
+    IsZeroing l.v.0 (is_pinned (pins_of l.pins) l.v.0) l.offset l.len (g.P.Pages.content l.fn.store)
+    (g.P.Pages.content l.store) l.from l.end (g.P.Pages.spare l.store)
 
 abbrev pub decreases-loop-page : goal.decreases-loop-page
 decreases-loop-page g l = l.end - l.from

@@ -1,18 +1,23 @@
-use Rattle.eager_vmos.proofs.FoundLaws.{found_inside}
-use Rattle.eager_vmos.proofs.ChangeLaws.{same_does, same_good, commit_does}
+use Rattle.std.proofs.Common.{sym, ◌∙◌}
+use Rattle.vm_model.specs.declared.command.Command.TheVariants.{VmoCommit}
+use Rattle.vm_model.specs.declared.reply.Reply.TheVariants.{Done}
+use Rattle.vm_model.specs.Machine.State.{target_of, lineage_of}
+use Rattle.eager_vmos.specs.Vmos.{state_with}
+use Rattle.eager_vmos.proofs.FoundLaws.{name_inside}
+use Rattle.eager_vmos.proofs.DoingLaws.{done, kept}
 use Rattle.eager_vmos.proofs.eager_vmos.EagerVmos.commit.Goals as goal
 
-pub own_pages-requires-clause-good : goal.own_pages-requires-clause-good
-own_pages-requires-clause-good c = same_good _ _ c.ready_to_own.ensures.same c.requires.parts
+pub commit-requires-clause-inside : goal.commit-requires-clause-inside
+commit-requires-clause-inside c = name_inside c.args.self.now c.requires.parts c.args.name.0 _ (sym c.resolve.ensures ∙ c.in-Some.is)
 
-pub own_pages-requires-clause-inside : goal.own_pages-requires-clause-inside
-own_pages-requires-clause-inside c = found_inside c.in-Ok.ensures.ok.found
+pub returns-in-Ok : goal.returns-in-Ok
+unfolding target_of lineage_of
+returns-in-Ok c =
+    done c.args.self.now _ (VmoCommit c.args.name c.args.offset c.args.len) c.requires.parts (λ s. c.requires.allowed.none) (λ s counted. counted) Done (λ refusal e. absurd cc)
+    (λ s well. c.in-Ok.ensures (state_with s c.args.self.now) c.args.name (sym c.resolve.ensures ∙ c.in-Some.is))
 
-pub own_pages-requires-clause-room : goal.own_pages-requires-clause-room
-own_pages-requires-clause-room c = c.in-Ok.ensures.ok.rows
-
-pub own_pages-requires-clause-free : goal.own_pages-requires-clause-free
-own_pages-requires-clause-free c = c.in-Ok.ensures.ok.free
-
-pub returns : goal.returns
-returns c = same_does _ _ c.ready_to_own.ensures.same _ _ _ (commit_does _ c.in-Ok.ensures.ok.found _ c.own_pages.ensures)
+pub returns-in-Err : goal.returns-in-Err
+unfolding target_of lineage_of
+returns-in-Err c =
+    kept c.args.self.now _ (VmoCommit c.args.name c.args.offset c.args.len) c.requires.parts (λ s. c.requires.allowed.none) (λ s counted. counted) c.in-Err.field-0 (λ s effect. let e = effect.0 in absurd cc)
+    (λ s well. c.in-Err.ensures (state_with s c.args.self.now) c.args.name (sym c.resolve.ensures ∙ c.in-Some.is))

@@ -1,22 +1,24 @@
-use Rattle.std.proofs.Common.{sym, ◌∙◌, arith}
-use Rattle.std.proofs.lemmas.Bool.{ltb-false}
-use Rattle.eager_vmos.specs.Vmos.{content_in, state_with}
-use Rattle.eager_vmos.proofs.FoundLaws.{name_inside}
-use Rattle.eager_vmos.proofs.RowLaws.{rows_off_at, decommit_rows}
-use Rattle.eager_vmos.proofs.ChangeLaws.{decommit_does}
-use Rattle.vm_model.specs.Contents.Zeroing.{zeroed}
+use Rattle.std.proofs.Common.{sym, ◌∙◌}
+use Rattle.vm_model.specs.declared.command.Command.TheVariants.{VmoDecommit}
+use Rattle.vm_model.specs.declared.reply.Reply.TheVariants.{Done}
+use Rattle.vm_model.specs.Machine.State.{target_of, lineage_of}
+use Rattle.eager_vmos.proofs.DoingLaws.{done, kept}
 use Rattle.eager_vmos.proofs.eager_vmos.EagerVmos.decommit.Goals as goal
 
-pub place_in_vmo-requires-clause-inside : goal.place_in_vmo-requires-clause-inside
-place_in_vmo-requires-clause-inside c = name_inside c.args.self.now c.requires.parts c.args.name.0 _ (sym c.resolve.ensures ∙ c.in-Some.is)
+pub decommit-requires-clause-parts : goal.decommit-requires-clause-parts
+decommit-requires-clause-parts c = record { rest = c.requires.parts.rest; good = c.requires.parts.well.good }
 
-pub unreachable-requires-in_default-place_in_vmo : goal.unreachable-requires-in_default-place_in_vmo
-unreachable-requires-in_default-place_in_vmo c =
-    let off = rows_off_at (state_with c.requires.allowed.rest c.args.self.now) c.args.name.0 _ (sym c.resolve.ensures ∙ c.in-Some.is) (decommit_rows (state_with c.requires.allowed.rest c.args.self.now) c.args.offset c.args.len) c.requires.allowed.none in
-    let inside = ltb-false _ _ off.1.1.1.0 in
-    omega (arith, inside, c.in_default-place_in_vmo.ensures.none)
+pub decommit-requires-clause-named : goal.decommit-requires-clause-named
+decommit-requires-clause-named c = (c.args.name.0, sym c.resolve.ensures ∙ c.in-Some.is)
 
-pub returns : goal.returns
-returns c =
-    decommit_does c.args.self.now c.args.name _ (sym c.resolve.ensures ∙ c.in-Some.is) _ c.args.offset c.args.len _ c.in-Some-place_in_vmo.ensures.some.place
-    (c.clear_pages.ensures ∙ (λ i. zeroed (content_in c.args.self.now) c.in-Some.target.koid.0 (c.page_of-first.ensures i) (c.page_of-end.ensures i)))
+pub returns-in-Ok : goal.returns-in-Ok
+unfolding target_of lineage_of
+returns-in-Ok c =
+    done c.args.self.now _ (VmoDecommit c.args.name c.args.offset c.args.len) c.requires.parts (λ s. c.requires.allowed.none) (λ s counted. counted) Done (λ refusal e. absurd cc)
+    (λ s well. c.in-Ok.ensures s c.args.name (sym c.resolve.ensures ∙ c.in-Some.is))
+
+pub returns-in-Err : goal.returns-in-Err
+unfolding target_of lineage_of
+returns-in-Err c =
+    kept c.args.self.now _ (VmoDecommit c.args.name c.args.offset c.args.len) c.requires.parts (λ s. c.requires.allowed.none) (λ s counted. counted) c.in-Err.field-0 (λ s effect. let e = effect.0 in absurd cc)
+    (λ s well. c.in-Err.ensures s c.args.name (sym c.resolve.ensures ∙ c.in-Some.is))

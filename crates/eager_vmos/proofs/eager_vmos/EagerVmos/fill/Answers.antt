@@ -1,18 +1,23 @@
-use Rattle.eager_vmos.proofs.FoundLaws.{found_inside}
-use Rattle.eager_vmos.proofs.ChangeLaws.{same_does, same_good, fill_does}
+use Rattle.std.proofs.Common.{sym, ◌∙◌}
+use Rattle.vm_model.specs.declared.command.Command.TheVariants.{VmoFill}
+use Rattle.vm_model.specs.declared.reply.Reply.TheVariants.{Done}
+use Rattle.vm_model.specs.Machine.State.{target_of, lineage_of}
+use Rattle.eager_vmos.specs.Vmos.{state_with}
+use Rattle.eager_vmos.proofs.FoundLaws.{name_inside}
+use Rattle.eager_vmos.proofs.DoingLaws.{done, kept}
 use Rattle.eager_vmos.proofs.eager_vmos.EagerVmos.fill.Goals as goal
 
-pub fill_pages-requires-clause-good : goal.fill_pages-requires-clause-good
-fill_pages-requires-clause-good c = same_good _ _ c.ready_to_own.ensures.same c.requires.parts
+pub fill-requires-clause-inside : goal.fill-requires-clause-inside
+fill-requires-clause-inside c = name_inside c.args.self.now c.requires.parts c.args.name.0 _ (sym c.resolve.ensures ∙ c.in-Some.is)
 
-pub fill_pages-requires-clause-inside : goal.fill_pages-requires-clause-inside
-fill_pages-requires-clause-inside c = found_inside c.in-Ok.ensures.ok.found
+pub returns-in-Ok : goal.returns-in-Ok
+unfolding target_of lineage_of
+returns-in-Ok c =
+    done c.args.self.now _ (VmoFill c.args.name c.args.offset c.args.len c.args.byte) c.requires.parts (λ s. c.requires.allowed.none) (λ s counted. counted) Done (λ refusal e. absurd cc)
+    (λ s well. c.in-Ok.ensures (state_with s c.args.self.now) c.args.name (sym c.resolve.ensures ∙ c.in-Some.is))
 
-pub fill_pages-requires-clause-room : goal.fill_pages-requires-clause-room
-fill_pages-requires-clause-room c = c.in-Ok.ensures.ok.rows
-
-pub fill_pages-requires-clause-free : goal.fill_pages-requires-clause-free
-fill_pages-requires-clause-free c = c.in-Ok.ensures.ok.free
-
-pub returns : goal.returns
-returns c = same_does _ _ c.ready_to_own.ensures.same _ _ _ (fill_does _ c.in-Ok.ensures.ok.found _ _ c.fill_pages.ensures)
+pub returns-in-Err : goal.returns-in-Err
+unfolding target_of lineage_of
+returns-in-Err c =
+    kept c.args.self.now _ (VmoFill c.args.name c.args.offset c.args.len c.args.byte) c.requires.parts (λ s. c.requires.allowed.none) (λ s counted. counted) c.in-Err.field-0 (λ s effect. let e = effect.0 in absurd cc)
+    (λ s well. c.in-Err.ensures (state_with s c.args.self.now) c.args.name (sym c.resolve.ensures ∙ c.in-Some.is))

@@ -1,6 +1,6 @@
 use Rattle.std.proofs.Common.{sym, ap, not, ◌∙◌}
 use Rattle.std.proofs.lemmas.Bool.{lt-ltb}
-use Rattle.page_store.proofs.NameLaws.{IsInside-good}
+use Rattle.pages.proofs.NameLaws.{IsInside-good}
 use Rattle.eager_vmos.specs.Vmos.{state_with}
 use Rattle.eager_vmos.proofs.FoundLaws.{change_rows_at}
 use Rattle.eager_vmos.proofs.RowLaws.{hit, skip}

@@ -1,10 +1,13 @@
-use Rattle.std.proofs.Common.{sym, ◌∙◌, rules}
-use Rattle.eager_vmos.proofs.FoundLaws.{name_inside}
+use Rattle.std.proofs.Common.{sym, ◌∙◌}
+use Rattle.eager_vmos.specs.Vmos.{state_with}
 use Rattle.eager_vmos.proofs.TellLaws.{info_does}
 use Rattle.eager_vmos.proofs.eager_vmos.EagerVmos.info.Goals as goal
 
-pub size_of_name-requires-clause-inside : goal.size_of_name-requires-clause-inside
-size_of_name-requires-clause-inside c = name_inside c.args.self.now c.requires.parts c.args.name.0 _ (sym c.resolve.ensures ∙ c.in-Some.is)
+pub info-requires-clause-parts : goal.info-requires-clause-parts
+info-requires-clause-parts c = record { rest = state_with c.requires.parts.rest c.args.self.now; good = c.requires.parts.well.good }
+
+pub info-requires-clause-named : goal.info-requires-clause-named
+info-requires-clause-named c = (c.args.name.0, sym c.resolve.ensures ∙ c.in-Some.is)
 
 pub returns : goal.returns
-returns c = info_does c.args.self.now c.args.name _ (sym c.resolve.ensures ∙ c.in-Some.is) _ (λ s. search rules)
+returns c = info_does c.args.self.now c.args.name _ (sym c.resolve.ensures ∙ c.in-Some.is) _ (λ s. c.info.ensures (state_with s c.args.self.now))

@@ -1,21 +1,31 @@
-use Rattle.std.proofs.Common.{ℕ, ap, ◌∙◌, arith}
-use Rattle.vm_base.specs.Entries.{with_key}
-use Rattle.pin_table.specs.Table.{pins_of}
-use Rattle.vmo_ops.proofs.PinLaws.{few_keepers}
+use Rattle.std.proofs.Common.{sym, ◌∙◌}
+use Rattle.vm_model.specs.declared.command.Command.TheVariants.{VmoPin}
+use Rattle.vm_base.proofs.EntryLaws.{none_is}
+use Rattle.vm_model.specs.Machine.State.{target_of, lineage_of}
 use Rattle.eager_vmos.specs.Vmos.{state_with}
-use Rattle.eager_vmos.proofs.ChangeLaws.{same_does}
-use Rattle.eager_vmos.proofs.PinningLaws.{pin_done}
+use Rattle.eager_vmos.proofs.RowLaws.{rows_off_at, pin_rows}
+use Rattle.eager_vmos.proofs.DoingLaws.{done, kept}
 use Rattle.eager_vmos.proofs.eager_vmos.EagerVmos.pin.Goals as goal
 
-pub keep-requires-clause-few : goal.keep-requires-clause-few
-keep-requires-clause-few c =
-    let few = few_keepers (state_with c.requires.parts.rest c.args.self.now) c.args.self.now.vmos c.in-Ok.found.koid.0 c.requires.parts.well.counted in
-    let same = ap (λ (k : ℕ → ℕ). k c.in-Ok.found.koid.0) c.ready_to_pin.ensures.same.tables.keepers in
-    omega (arith, few, same)
+pub pin_into-requires-clause-parts : goal.pin_into-requires-clause-parts
+pin_into-requires-clause-parts c = (c.requires.parts.rest, c.requires.parts.well)
 
-pub returns : goal.returns
-returns c =
-    same_does _ _ c.ready_to_pin.ensures.same _ _ _ (pin_done _ _ c.args.pin c.args.name c.args.offset c.args.len _ _ c.in-Ok.ensures.ok (omega arith)
-    c.own_frames.ensures.owns (c.new.ensures ∙ c.own_frames.ensures.frames)
-    (c.add.ensures ∙ (λ i. with_key (pins_of c.ready_to_pin.new.self.pins) c.args.pin.0 (record { koid = c.in-Ok.found.koid.0; first = c.page_of-first.ensures i; count = c.page_of-count.ensures i })))
-    c.keep.ensures.names c.keep.ensures.lineage c.keep.ensures.keepers)
+pub pin_into-requires-clause-named : goal.pin_into-requires-clause-named
+pin_into-requires-clause-named c = (c.args.name.0, sym c.resolve.ensures ∙ c.in-Some.is)
+
+pub pin_into-requires-clause-free : goal.pin_into-requires-clause-free
+pin_into-requires-clause-free c =
+    let off = rows_off_at (state_with c.requires.allowed.rest c.args.self.now) c.args.name.0 _ (sym c.resolve.ensures ∙ c.in-Some.is) (pin_rows (state_with c.requires.allowed.rest c.args.self.now) c.args.pin.0 c.args.offset c.args.len) c.requires.allowed.none in
+    none_is _ off.0
+
+pub returns-in-Ok : goal.returns-in-Ok
+unfolding target_of lineage_of
+returns-in-Ok c =
+    done c.args.self.now _ (VmoPin c.args.pin c.args.name c.args.offset c.args.len) c.requires.parts (λ s. c.requires.allowed.none) (λ s counted. c.pin_into.ensures.counted (state_with s c.args.self.now) counted) _ (λ refusal e. absurd cc)
+    (λ s well. c.in-Ok.ensures.step s c.args.name (sym c.resolve.ensures ∙ c.in-Some.is))
+
+pub returns-in-Err : goal.returns-in-Err
+unfolding target_of lineage_of
+returns-in-Err c =
+    kept c.args.self.now _ (VmoPin c.args.pin c.args.name c.args.offset c.args.len) c.requires.parts (λ s. c.requires.allowed.none) (λ s counted. c.pin_into.ensures.counted (state_with s c.args.self.now) counted) c.in-Err.field-0 (λ s effect. let e = effect.0 in absurd cc)
+    (λ s well. c.in-Err.ensures.step s c.args.name (sym c.resolve.ensures ∙ c.in-Some.is))

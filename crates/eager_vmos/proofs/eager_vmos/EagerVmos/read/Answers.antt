@@ -1,20 +1,20 @@
-use Rattle.std.proofs.Common.{sym, ◌∙◌, arith, rules}
-use Rattle.std.proofs.lemmas.Bool.{ltb-false}
+use Rattle.std.proofs.Common.{refl, sym, ◌∙◌}
+use Rattle.vm_model.specs.declared.command.Command.TheVariants.{VmoRead}
+use Rattle.vm_model.specs.Machine.State.{target_of, lineage_of}
 use Rattle.eager_vmos.specs.Vmos.{state_with}
+use Rattle.eager_vmos.proofs.DoingLaws.{done, no_refusal}
 use Rattle.eager_vmos.proofs.FoundLaws.{name_inside}
-use Rattle.eager_vmos.proofs.RowLaws.{rows_off_at, read_rows}
-use Rattle.eager_vmos.proofs.TellLaws.{read_does}
 use Rattle.eager_vmos.proofs.eager_vmos.EagerVmos.read.Goals as goal
 
-pub place_in_vmo-requires-clause-inside : goal.place_in_vmo-requires-clause-inside
-place_in_vmo-requires-clause-inside c = name_inside c.args.self.now c.requires.parts c.args.name.0 _ (sym c.resolve.ensures ∙ c.in-Some.is)
+pub read_into-requires-clause-inside : goal.read_into-requires-clause-inside
+read_into-requires-clause-inside c = name_inside c.args.self.now c.requires.parts c.args.name.0 _ (sym c.resolve.ensures ∙ c.in-Some.is)
 
-pub unreachable-requires-in_default-place_in_vmo : goal.unreachable-requires-in_default-place_in_vmo
-unreachable-requires-in_default-place_in_vmo c =
-    let off = rows_off_at (state_with c.requires.allowed.rest c.args.self.now) c.args.name.0 _ (sym c.resolve.ensures ∙ c.in-Some.is) (read_rows (state_with c.requires.allowed.rest c.args.self.now) c.args.offset c.args.len) c.requires.allowed.none in
-    let inside = ltb-false _ _ off.1.0 in
-    omega (arith, inside, c.in_default-place_in_vmo.ensures.none)
+pub unreachable-requires-in-Err : goal.unreachable-requires-in-Err
+unfolding target_of lineage_of
+unreachable-requires-in-Err c = let s = state_with c.requires.parts.rest c.args.self.now in no_refusal s _ (VmoRead c.args.name c.args.offset c.args.len) c.requires.allowed.none (λ effect. let e = effect.0 in absurd cc) refl (c.in-Err.ensures s c.args.name (sym c.resolve.ensures ∙ c.in-Some.is))
 
 pub returns : goal.returns
+unfolding target_of lineage_of
 returns c =
-    read_does c.args.self.now c.args.name _ (sym c.resolve.ensures ∙ c.in-Some.is) c.args.offset c.args.len _ _ c.in-Some-place_in_vmo.ensures.some.place (search rules)
+    done c.args.self.now _ (VmoRead c.args.name c.args.offset c.args.len) c.requires.parts (λ s. c.requires.allowed.none) (λ s counted. counted) _ (λ refusal e. absurd cc)
+    (λ s well. c.in-Ok.ensures (state_with s c.args.self.now) c.args.name (sym c.resolve.ensures ∙ c.in-Some.is))

@@ -1,23 +1,34 @@
-use Rattle.std.proofs.Common.{ℕ, Option, refl, sym, ap, ◌∙◌, arith}
-use Rattle.vm_base.specs.Entries.{with_key}
-use Rattle.vm_model.specs.declared.names.Target.{Target}
-use Rattle.vmo_table.specs.Table.{names_of}
-use Rattle.eager_vmos.specs.Vmos.{content_in}
-use Rattle.vm_model.specs.Machine.Step.{slice_of}
-use Rattle.page_store.proofs.NameLaws.{pages_of_le}
-use Rattle.eager_vmos.proofs.FoundLaws.{name_inside}
-use Rattle.eager_vmos.proofs.NamingLaws.{slice_does}
+use Rattle.std.proofs.Common.{ℕ, sym, ap, ◌∙◌}
+use Rattle.vm_model.specs.declared.command.Command.TheVariants.{VmoChild}
+use Rattle.vm_model.specs.declared.command.ChildKind.TheVariants.{Slice}
+use Rattle.vm_model.specs.declared.reply.Reply.TheVariants.{Done}
+use Rattle.vm_base.proofs.EntryLaws.{none_is}
+use Rattle.vm_model.proofs.StepLaws.{AllOff-from_none}
+use Rattle.vm_model.specs.Machine.Refusals.{refusals}
+use Rattle.vm_model.specs.Machine.State.{target_of, lineage_of}
+use Rattle.eager_vmos.specs.Vmos.{state_with}
+use Rattle.eager_vmos.proofs.DoingLaws.{done, kept}
 use Rattle.eager_vmos.proofs.eager_vmos.EagerVmos.slice.Goals as goal
 
-pub slice_target-requires : goal.slice_target-requires
-slice_target-requires c =
-    let inside = name_inside c.args.self.now c.requires.parts c.args.parent.0 _ (sym c.resolve.ensures ∙ c.in-Some.is) in
-    omega (arith, inside.pages, pages_of_le (content_in c.args.self.now) c.in-Some.target.koid.0 c.requires.parts.well.good.content, c.page_of.ensures)
+pub create_child-requires-clause-parts : goal.create_child-requires-clause-parts
+create_child-requires-clause-parts c = record { rest = c.requires.parts.rest; good = c.requires.parts.well.good }
 
-pub returns : goal.returns
-returns c =
-    slice_does c.args.self.now _ c.args.name c.args.parent _ (sym c.resolve.ensures ∙ c.in-Some.is) c.args.offset c.args.size c.args.resizable c.args.no_write
-    refl (c.alias.ensures.lineage ∙ c.reserve.ensures.lineage) (c.alias.ensures.keepers ∙ c.reserve.ensures.keepers) refl
-    (c.alias.ensures.names ∙ (ap (λ (m : ℕ → Option Target). with_key m c.args.name.0 c.slice_target.result) c.reserve.ensures.names
-    ∙ ap (λ (t : Target). with_key (names_of c.args.self.now.vmos) c.args.name.0 t) (c.slice_target.ensures
-    ∙ (λ i. slice_of c.in-Some.target (c.page_of.ensures i) (c.page_count.ensures i) c.args.no_write))))
+pub create_child-requires-clause-named : goal.create_child-requires-clause-named
+create_child-requires-clause-named c = (c.args.parent.0, sym c.resolve.ensures ∙ c.in-Some.is)
+
+pub create_child-requires-clause-closed : goal.create_child-requires-clause-closed
+create_child-requires-clause-closed c =
+    let s = state_with c.requires.allowed.rest c.args.self.now in
+    none_is (s.names c.args.name.0) (AllOff-from_none (refusals s (VmoChild c.args.name c.args.parent Slice c.args.offset c.args.size c.args.resizable c.args.no_write)) c.requires.allowed.none).1.0
+
+pub returns-in-Ok : goal.returns-in-Ok
+unfolding target_of lineage_of
+returns-in-Ok c =
+    done c.args.self.now _ (VmoChild c.args.name c.args.parent Slice c.args.offset c.args.size c.args.resizable c.args.no_write) c.requires.parts (λ s. c.requires.allowed.none) (λ s counted v. ap (λ (k : ℕ → ℕ). k v) c.create_child.ensures.keepers ∙ counted v) Done (λ refusal e. absurd cc)
+    (λ s well. c.in-Ok.ensures.step s c.args.parent (sym c.resolve.ensures ∙ c.in-Some.is))
+
+pub returns-in-Err : goal.returns-in-Err
+unfolding target_of lineage_of
+returns-in-Err c =
+    kept c.args.self.now _ (VmoChild c.args.name c.args.parent Slice c.args.offset c.args.size c.args.resizable c.args.no_write) c.requires.parts (λ s. c.requires.allowed.none) (λ s counted v. ap (λ (k : ℕ → ℕ). k v) c.create_child.ensures.keepers ∙ counted v) c.in-Err.field-0 (λ s effect. let e = effect.0 in absurd cc)
+    (λ s well. c.in-Err.ensures.step s c.args.parent (sym c.resolve.ensures ∙ c.in-Some.is))

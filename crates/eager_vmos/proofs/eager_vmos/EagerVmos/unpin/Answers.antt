@@ -1,20 +1,24 @@
-use Rattle.std.proofs.Common.{sym}
-use Rattle.vm_model.proofs.LeavingLaws.{pin_vmo}
-use Rattle.vmo_table.proofs.SettleLaws.{leaving_vmo}
-use Rattle.pin_table.specs.Table.{pin_of}
-use Rattle.eager_vmos.specs.Vmos.{content_in, state_with}
-use Rattle.eager_vmos.proofs.ClosingLaws.{one_keeper, unpin_does}
+use Rattle.std.specs.Prelude.{is_some}
+use Rattle.std.proofs.lemmas.Bool.{not-false}
+use Rattle.vm_model.specs.declared.command.Command.TheVariants.{VmoUnpin}
+use Rattle.vm_model.specs.declared.reply.Reply.TheVariants.{Done}
+use Rattle.vm_model.specs.Machine.State.{target_of, lineage_of}
+use Rattle.vm_model.proofs.StepLaws.{AllOff-from_none}
+use Rattle.vm_model.specs.Machine.Refusals.{refusals}
+use Rattle.eager_vmos.specs.Vmos.{state_with}
+use Rattle.eager_vmos.proofs.DoingLaws.{done}
 use Rattle.eager_vmos.proofs.eager_vmos.EagerVmos.unpin.Goals as goal
 
-pub release-gone-requires : goal.release-gone-requires
-release-gone-requires c = record { keepers = one_keeper c.args.self.now c.args.pin (pin_of c.remove.result) c.remove.ensures.pin c.requires.parts }
+pub unpin-requires-clause-parts : goal.unpin-requires-clause-parts
+unpin-requires-clause-parts c = (c.requires.parts.rest, c.requires.parts.well)
 
-pub drop_gone-requires : goal.drop_gone-requires
-drop_gone-requires c =
-    leaving_vmo _ _ _ _ _ (content_in c.args.self.now) _
-    (pin_vmo (state_with c.requires.parts.rest c.args.self.now) c.args.pin.0 (pin_of c.remove.result) c.requires.parts.well.good (sym c.remove.ensures.pin)) c.release-gone.ensures.vmo
+pub unpin-requires-clause-there : goal.unpin-requires-clause-there
+unpin-requires-clause-there c =
+    let s = state_with c.requires.allowed.rest c.args.self.now in
+    not-false (is_some (s.pins c.args.pin.0)) (AllOff-from_none (refusals s (VmoUnpin c.args.pin)) c.requires.allowed.none).0
 
 pub returns : goal.returns
+unfolding target_of lineage_of
 returns c =
-    unpin_does c.args.self.now c.args.pin (pin_of c.remove.result) c.remove.ensures.pin c.requires.parts _ c.release-gone.result c.remove.ensures.pins
-    c.release-gone.ensures.names c.release-gone.ensures.keepers c.release-gone.ensures.vmo c.drop_gone.ensures
+    done c.args.self.now _ (VmoUnpin c.args.pin) c.requires.parts (λ s. c.requires.allowed.none) (λ s counted. c.unpin.ensures.counted (state_with s c.args.self.now) counted) Done (λ refusal e. absurd cc)
+    (λ s well. c.unpin.ensures.step s well)

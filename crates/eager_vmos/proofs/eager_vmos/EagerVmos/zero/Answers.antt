@@ -1,21 +1,23 @@
-use Rattle.eager_vmos.proofs.FoundLaws.{found_inside}
-use Rattle.eager_vmos.proofs.ChangeLaws.{same_does, same_good, found_vmo, zero_does}
+use Rattle.std.proofs.Common.{sym, ◌∙◌}
+use Rattle.vm_model.specs.declared.command.Command.TheVariants.{VmoZero}
+use Rattle.vm_model.specs.declared.reply.Reply.TheVariants.{Done}
+use Rattle.vm_model.specs.Machine.State.{target_of, lineage_of}
+use Rattle.eager_vmos.specs.Vmos.{state_with}
+use Rattle.eager_vmos.proofs.FoundLaws.{name_inside}
+use Rattle.eager_vmos.proofs.DoingLaws.{done, kept}
 use Rattle.eager_vmos.proofs.eager_vmos.EagerVmos.zero.Goals as goal
 
-pub zero_pages-requires-clause-good : goal.zero_pages-requires-clause-good
-zero_pages-requires-clause-good c = same_good _ _ c.ready_to_zero.ensures.same c.requires.parts
+pub zero-requires-clause-inside : goal.zero-requires-clause-inside
+zero-requires-clause-inside c = name_inside c.args.self.now c.requires.parts c.args.name.0 _ (sym c.resolve.ensures ∙ c.in-Some.is)
 
-pub zero_pages-requires-clause-inside : goal.zero_pages-requires-clause-inside
-zero_pages-requires-clause-inside c = found_inside c.in-Ok.ensures.ok.found
+pub returns-in-Ok : goal.returns-in-Ok
+unfolding target_of lineage_of
+returns-in-Ok c =
+    done c.args.self.now _ (VmoZero c.args.name c.args.offset c.args.len) c.requires.parts (λ s. c.requires.allowed.none) (λ s counted. counted) Done (λ refusal e. absurd cc)
+    (λ s well. c.in-Ok.ensures (state_with s c.args.self.now) c.args.name (sym c.resolve.ensures ∙ c.in-Some.is))
 
-pub zero_pages-requires-clause-room : goal.zero_pages-requires-clause-room
-zero_pages-requires-clause-room c = c.in-Ok.ensures.ok.rows
-
-pub zero_pages-requires-clause-free : goal.zero_pages-requires-clause-free
-zero_pages-requires-clause-free c = c.in-Ok.ensures.ok.free
-
-pub returns : goal.returns
-returns c = same_does _ _ c.ready_to_zero.ensures.same _ _ _ (zero_does _ c.in-Ok.ensures.ok.found _ c.zero_pages.ensures)
-
-pub zero_pages-requires-clause-vmo : goal.zero_pages-requires-clause-vmo
-zero_pages-requires-clause-vmo c = found_vmo _ _ c.ready_to_zero.ensures.same c.requires.parts _ _ _ _ c.in-Ok.ensures.ok.found
+pub returns-in-Err : goal.returns-in-Err
+unfolding target_of lineage_of
+returns-in-Err c =
+    kept c.args.self.now _ (VmoZero c.args.name c.args.offset c.args.len) c.requires.parts (λ s. c.requires.allowed.none) (λ s counted. counted) c.in-Err.field-0 (λ s effect. let e = effect.0 in absurd cc)
+    (λ s well. c.in-Err.ensures (state_with s c.args.self.now) c.args.name (sym c.resolve.ensures ∙ c.in-Some.is))

@@ -4,7 +4,7 @@ use Rattle.pair_map.specs.declared.pair_map.PairMap.{PairMap}
 use Rattle.pair_map.specs.Maps.{spare_of}
 use Rattle.vm_model.specs.Contents.Content.{created}
 use Rattle.page_store.specs.Flat.{flat_of, content_of}
-use Rattle.page_store.proofs.NameLaws.{pages_of_le}
+use Rattle.vm_model.proofs.ContentLaws.{pages_of_le}
 use Rattle.page_store.proofs.FlatLaws.{snapshot-zero, snapshot-is, snapshot-good, snapshot-held}
 use Rattle.page_store.proofs.flat_store.FlatStorePageStore.snapshot.Goals as goal
 
