@@ -21,7 +21,7 @@ use Rattle.vm_model.proofs.AccessLaws.{refusal_at-entry, access_refusal-parts}
 use Rattle.vm_model.proofs.ContentLaws.{pages_of-at}
 use Rattle.vm_model.proofs.RangeLaws.{touched-nil}
 use Rattle.vm_model.proofs.StepLaws.{AllOff-from_none}
-use Rattle.fault.proofs.TouchedLaws.{touched-one, touched-two}
+use Rattle.vm_model.proofs.TouchedLaws.{touched-one, touched-two}
 use Rattle.eager_access.specs.Accesses.{IsAllowed, state_with}
 use Rattle.eager_access.specs.inside.Pages.{IsShown, ShowsPage}
 

@@ -8,11 +8,11 @@ use Rattle.vm_model.specs.Contents.Content.{Page, Content, shown, used, pages_of
 use Rattle.vm_model.specs.Contents.Owning.{VmoPage, need_from, need_each}
 use Rattle.vm_model.specs.Space.Readiness.{frame_at}
 use Rattle.vm_model.proofs.ContentLaws.{page-hold_other, page-hold_cases, koid_below, views_at, sole-at, sole_from}
-use Rattle.page_store.specs.Pages.{look_at}
-use Rattle.fault.specs.inside.Needing.{have_one_frame}
-use Rattle.fault.proofs.NeedingLaws.{need-one, need-same, need-apart}
+use Rattle.pages.specs.Pages.{look_at}
+use Rattle.pages.specs.Needs.{have_one_frame, MayOwn}
+use Rattle.pages.proofs.NeedLaws.{need-one, need-same, need-apart}
 use Rattle.eager_pages.specs.Eager.{IsSeenByThird}
-use Rattle.eager_access.specs.inside.Pages.{MayOwn, HaveOneFrame, need_after}
+use Rattle.eager_access.specs.inside.Pages.{HaveOneFrame, need_after}
 
 -- ---- one page
 

@@ -13,7 +13,7 @@ use Rattle.vm_model.specs.Contents.Writing.{touched}
 use Rattle.vm_model.specs.Space.Readiness.{Ready}
 use Rattle.vm_model.specs.Machine.Access.{bytes_through, read_faults, after_reading}
 use Rattle.vm_model.proofs.OwningLaws.{length-shown}
-use Rattle.fault.proofs.ReadLaws.{bytes_through-page, bytes_through-append}
+use Rattle.vm_model.proofs.ThroughLaws.{bytes_through-page, bytes_through-append}
 use Rattle.ready_map.specs.Notes.{Rows, ready_of}
 use Rattle.eager_access.specs.Accesses.{DoesAccess, machine_with}
 use Rattle.eager_access.specs.inside.Pages.{ReadsPage, read_fault, after_one}

@@ -17,7 +17,7 @@ use Rattle.vm_model.specs.Machine.Access.{entry_at, pages_shown, page_shown, acc
 use Rattle.vm_model.proofs.AccessLaws.{frame_at-other}
 use Rattle.vm_model.proofs.RangeLaws.{touched-nil}
 use Rattle.vm_model.proofs.WritingLaws.{Written, Written-from_WritesPiece}
-use Rattle.fault.proofs.NeedingLaws.{first-free, second-free}
+use Rattle.pages.proofs.NeedLaws.{first-free, second-free}
 use Rattle.ready_map.specs.Notes.{Rows, ready_of, ChangesRange, AreTrue}
 use Rattle.eager_access.specs.Accesses.{DoesAccess}
 use Rattle.eager_access.specs.inside.Pages.{IsShown, ShowsPage, MayWrite, IsNoted, WritesPart, memory_with}

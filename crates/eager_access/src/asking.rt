@@ -11,7 +11,7 @@ ghost use Rattle.vm_model.specs.Machine.MachineStep.{may_want_memory};
 ghost use Rattle.vm_model.specs.Machine.Refusals.{read_refusals, write_refusals, first_of};
 ghost use Rattle.vm_model.specs.Machine.State.{State};
 ghost use Rattle.mapping_set.specs.Tables.{table_of};
-ghost use Rattle.fault.specs.Table.{AreBacked};
+ghost use Rattle.mapping_set.specs.Backed.{AreBacked};
 ghost use Rattle.region_tree.specs.Tree.{regions_of, spaces_of};
 ghost use Rattle.eager_pages.specs.Eager.{content_of};
 ghost use Rattle.ready_map.specs.Notes.{rows_of, ready_of};
@@ -213,7 +213,7 @@ fn denied_access(
 }
 
 // What refuses an access that needs this right on a page.
-#[tactic(auto, using(fault::proofs::CheckLaws::check_laws), unfolding(vm_model::specs::Machine::Access::refusal_at))]
+#[tactic(auto, using(vm_model::proofs::ThroughLaws::check_laws), unfolding(vm_model::specs::Machine::Access::refusal_at))]
 fn denied_page(
     pages: &EagerPages,
     maps: &MappingSet,

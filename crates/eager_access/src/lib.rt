@@ -4,9 +4,9 @@
 //! `write`), with as many page faults as the machine's rules say. It is for a checker of what the machine answers.
 //!
 //! With the machine that is judged it shares the tables (`MappingSet`, `Regions`). It calls no code of a store of pages or of
-//! `fault`, whose laws on contents alone it takes. An access has at most `DATA_BYTES` bytes, so it touches no page, one or two,
-//! and costs a few look-ups for each. The layer above has the machine's good state: each entry shows a VMO (`AreBacked`), and
-//! what was noted of ready pages is true (`AreTrue`).
+//! page faults. An access has at most `DATA_BYTES` bytes, so it touches no page, one or two, and costs a few look-ups for each.
+//! The layer above has the machine's good state: each entry shows a VMO (`AreBacked`), and what was noted of ready pages is true
+//! (`AreTrue`).
 #![tactic(auto)]
 
 mod asking;

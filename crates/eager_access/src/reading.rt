@@ -7,7 +7,7 @@ ghost use Rattle.vm_model.specs.declared.reply.Reply.{Reply};
 ghost use Rattle.vm_model.specs.declared.space.Entry.{Entry};
 ghost use Rattle.vm_model.specs.Contents.Content.{shown};
 ghost use Rattle.mapping_set.specs.Tables.{table_of};
-ghost use Rattle.fault.specs.Table.{AreBacked};
+ghost use Rattle.mapping_set.specs.Backed.{AreBacked};
 ghost use Rattle.eager_pages.specs.Eager.{content_of};
 ghost use Rattle.ready_map.specs.Notes.{rows_of, ready_of, spare_of, AreTrue};
 ghost use Rattle.eager_access.specs.Accesses.{IsAllowed, DoesAccess};

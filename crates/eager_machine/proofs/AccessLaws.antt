@@ -13,7 +13,7 @@ use Rattle.vm_model.specs.Machine.Refusals.{refusals, first_of}
 use Rattle.vm_model.specs.Machine.MachineStep.{MachineEffect}
 use Rattle.vm_model.proofs.StepLaws.{AllOff-from_none}
 use Rattle.vmo_table.specs.Table.{IsWellCounted}
-use Rattle.fault.specs.Table.{AreBacked}
+use Rattle.mapping_set.specs.Backed.{AreBacked}
 use Rattle.ready_map.specs.Notes.{Rows, AreTrue}
 use Rattle.eager_access.specs.Accesses.{IsAllowed, DoesAccess}
 use Rattle.eager_vmos.specs.declared.eager_vmos.EagerVmos.{EagerVmos}

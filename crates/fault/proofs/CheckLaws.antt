@@ -3,7 +3,6 @@ use Rattle.std.proofs.Common.{◌≡◌, ℕ, ◌<◌, List, [], ◌∷◌, Opti
 use Rattle.std.proofs.lemmas.Grind.{common_steps}
 use Rattle.std.proofs.lemmas.Bool.Decides.{nat_tests}
 use Rattle.vm_base.specs.declared.refusal.Refusal.{Refusal}
-use Rattle.vm_model.proofs.ContentLaws.{pages_of-at}
 use Rattle.vm_model.specs.declared.space.Entry.{Entry}
 use Rattle.vm_model.specs.Contents.Content.{Content, pages_of}
 use Rattle.vm_model.specs.Machine.Access.{refusal_at, access_refusal}
@@ -29,6 +28,3 @@ module _ (c : Content) (right : ℕ) (entries : ℕ → Option Entry) (p : ℕ) 
 pub access_refusal-nil : (c : Content) (right : ℕ) (entries : ℕ → Option Entry) → access_refusal c right entries [] ≡ None
 unfolding access_refusal
 access_refusal-nil c right entries = refl
-
--- what a check finds
-pub ruleset check_laws = (pages_of-at)

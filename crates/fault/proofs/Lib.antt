@@ -3,11 +3,9 @@ pub mod PlaceLaws
 pub mod WalkLaws
 pub mod ListLaws
 pub mod CheckLaws
-pub mod TouchedLaws
 pub mod TranslationLaws
 pub mod TouchingLaws
 pub mod FrameLaws
-pub mod ReadLaws
 pub mod EmptyLaws
 pub mod FindLaws
 pub mod FirstLaws
@@ -18,6 +16,5 @@ pub mod WrittenLaws
 pub mod WritableLaws
 pub mod AskedLaws
 pub mod OutcomeLaws
-pub mod PartLaws
 pub mod ThroughLaws
 pub mod BothLaws

@@ -14,7 +14,7 @@ use Rattle.fault.specs.Access.{Reads}
 use Rattle.fault.specs.inside.Touching.{IsTouched, ReadsPage, missing_in}
 use Rattle.fault.proofs.AskedLaws.{AreAsked, AreAsked-one, AreAsked-two, none-refuses_read}
 use Rattle.fault.proofs.TouchingLaws.{refusal_at-touched, read_faults-more, read_faults-nil}
-use Rattle.fault.proofs.ReadLaws.{bytes_through-page, bytes_through-append}
+use Rattle.vm_model.proofs.ThroughLaws.{bytes_through-page, bytes_through-append}
 
 -- no page
 pub Reads-none : (c : Content) (table : ℕ → ℕ → Option Entry) (root addr : ℕ) (old : Places) (out : List ℕ) → length out ≡ 0

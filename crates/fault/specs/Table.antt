@@ -1,11 +1,11 @@
 -- The translations as their callers see them, when they are true, and what the resets leave of them.
-use Rattle.std.specs.Prelude.{◌≡◌, ℕ, ◌+◌, ◌<◌, Bool, true, not, ◌&&◌, ◌==◌, if◌then◌else◌, Option, None, Some, IsSome, IfSome}
+use Rattle.std.specs.Prelude.{◌≡◌, ℕ, ◌+◌, ◌<◌, Bool, true, not, ◌&&◌, ◌==◌, if◌then◌else◌, Option, None, Some, IfSome}
 use Rattle.std.specs.Option.{option_map}
 use Rattle.vm_base.specs.Entries.{passes}
 use Rattle.vm_base.specs.declared.names.Tag.{Tag}
 use Rattle.vm_model.specs.declared.space.Entry.{Entry}
 use Rattle.vm_model.specs.declared.space.Readiness.TheVariants.{Read, Write}
-use Rattle.vm_model.specs.Contents.Content.{Content, sole, pages_of, IsGood}
+use Rattle.vm_model.specs.Contents.Content.{Content, sole, pages_of}
 use Rattle.vm_model.specs.Contents.Zeroing.{is_within}
 use Rattle.vm_model.specs.Space.Readiness.{Ready, frame_at, is_same_frame, shows_in}
 use Rattle.balanced_tree.specs.Rows.{Rows}
@@ -42,11 +42,6 @@ number_of frame = option_map (λ (tag : Tag). tag.0) frame
 -- the number of the frame that a translation holds
 abbrev pub frame_in : Translation → Option ℕ
 frame_in x = number_of x.frame
-
--- The content is a good one, and each entry shows a VMO of it.
-pub record AreBacked (c : Content) (table : ℕ → ℕ → Option Entry) : Type 0 where
-  pub good : IsGood c
-  pub vmos : (root p : ℕ) (entry : Entry) → table root p ≡ Some entry → IsSome (c.count entry.koid.0)
 
 -- Each translation is of an entry of the table, and holds the frame that the page of the VMO has. That page lies in its
 -- VMO. If the translation may be written by, the page is sole.

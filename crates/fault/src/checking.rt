@@ -4,7 +4,8 @@ ghost use Rattle.std.specs.Prelude.{◌≡◌, ◌<◌, ◌≤◌, Some, MatchRe
 ghost use Rattle.mapping_set.specs.Tables.{table_of};
 ghost use Rattle.vm_model.specs.Machine.Access.{refusal_at};
 ghost use Rattle.vm_base.specs.declared.refusal.Refusal.TheVariants as Refusal;
-ghost use Rattle.fault.specs.Table.{AreBacked, AreTrue, places_of, room_of};
+ghost use Rattle.mapping_set.specs.Backed.{AreBacked};
+ghost use Rattle.fault.specs.Table.{AreTrue, places_of, room_of};
 ghost use Rattle.fault.specs.inside.Touching.{IsTouched, missing_in};
 
 use crate::translation::Translation;
@@ -38,7 +39,7 @@ impl Translations {
     /// `NotFound` if the page has no entry, `AccessDenied` if the entry lacks the right, `OutOfRange` if the entry
     /// shows a page past the end of the VMO. If the page has a translation, neither the mappings nor the store are
     /// asked.
-    #[tactic(auto, using(crate::proofs::CheckLaws::check_laws), unfolding(vm_model::specs::Machine::Access::refusal_at))]
+    #[tactic(auto, using(vm_model::proofs::ThroughLaws::check_laws), unfolding(vm_model::specs::Machine::Access::refusal_at))]
     pub(crate) fn check<P: PageStore>(
         &self,
         store: &P,

@@ -5,7 +5,8 @@ ghost use Rattle.vm_base.specs.declared.limits.TheConstants.{PAGE, DATA_BYTES};
 ghost use Rattle.vm_model.specs.declared.space.Readiness.TheVariants as Readiness;
 ghost use Rattle.vm_model.specs.Contents.Content.{shown, pages_of};
 ghost use Rattle.mapping_set.specs.Tables.{table_of};
-ghost use Rattle.fault.specs.Table.{AreBacked, AreTrue, places_of, room_of};
+ghost use Rattle.mapping_set.specs.Backed.{AreBacked};
+ghost use Rattle.fault.specs.Table.{AreTrue, places_of, room_of};
 ghost use Rattle.fault.specs.Access.{Reads, RefusesRead, AnswersRead};
 ghost use Rattle.fault.specs.inside.Touching.{IsFound, IsOf, ReadsPage, missing_in};
 

@@ -6,7 +6,8 @@ ghost use Rattle.page_store.specs.Pages.{look_at};
 ghost use Rattle.vm_model.specs.Contents.Content.{pages_of};
 ghost use Rattle.vm_model.specs.Space.Rights.{writing};
 ghost use Rattle.vm_model.specs.Machine.Access.{refusal_at};
-ghost use Rattle.fault.specs.Table.{AreBacked, AreTrue, places_of};
+ghost use Rattle.mapping_set.specs.Backed.{AreBacked};
+ghost use Rattle.fault.specs.Table.{AreTrue, places_of};
 ghost use Rattle.fault.specs.inside.Writable.{IsInStore, IsWritable, fault_of, writing_frame};
 
 use crate::translation::Translation;

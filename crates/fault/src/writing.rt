@@ -6,10 +6,12 @@ ghost use Rattle.mapping_set.specs.Tables.{table_of};
 ghost use Rattle.vm_model.specs.declared.space.Entry.{Entry};
 ghost use Rattle.vm_model.specs.Contents.Content.{IsGood};
 ghost use Rattle.vm_model.specs.Contents.Owning.{Owns};
-ghost use Rattle.fault.specs.Table.{AreBacked, AreTrue, IsOfEntry, places_of, room_of};
+ghost use Rattle.mapping_set.specs.Backed.{AreBacked};
+ghost use Rattle.fault.specs.Table.{AreTrue, IsOfEntry, places_of, room_of};
 ghost use Rattle.fault.specs.Access.{AnswersWrite, Writes};
 ghost use Rattle.fault.specs.inside.Both.{AreFound, Finds, RefusesTwo};
-ghost use Rattle.fault.specs.inside.Writable.{IsInStore, IsAbsent, MayOwn, WritesTo, fault_of, faulted};
+ghost use Rattle.fault.specs.inside.Writable.{IsInStore, IsAbsent, WritesTo, fault_of, faulted};
+ghost use Rattle.pages.specs.Needs.{MayOwn};
 ghost use Rattle.fault.specs.inside.Needing.{IsReady, LacksRoom};
 
 use crate::needing::{frames_for_one, frames_needed};

@@ -1,3 +1,4 @@
 pub mod NameLaws
 pub mod LookLaws
 pub mod ChargeLaws
+pub mod NeedLaws

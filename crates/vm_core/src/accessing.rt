@@ -6,7 +6,8 @@ ghost use Rattle.vm_model.specs.declared.command.Command.{Command};
 ghost use Rattle.vm_model.specs.Machine.Lent.{reply_for};
 ghost use Rattle.mapping_set.specs.Tables.{table_of};
 ghost use Rattle.region_tree.specs.Tree.{regions_of, spaces_of};
-ghost use Rattle.fault.specs.Table.{places_of, AreBacked, AreTrue};
+ghost use Rattle.mapping_set.specs.Backed.{AreBacked};
+ghost use Rattle.fault.specs.Table.{places_of, AreTrue};
 ghost use Rattle.vm_core.specs.inside.Calls.{DoesAccess};
 
 use fault::Translations;

@@ -28,3 +28,6 @@ pub mod WordLaws
 pub mod FieldLaws
 pub mod SpellingLaws
 pub mod ExampleLaws
+pub mod TouchedLaws
+pub mod PartLaws
+pub mod ThroughLaws

@@ -1,13 +1,14 @@
 -- The pages that an access touches, one by one.
-use Rattle.std.specs.Prelude.{◌≡◌, ℕ, ◌<◌, ◌≤◌, Bool, true, not, is_some, if◌then◌else◌, List, [], ◌∷◌, take, drop, Option, Some, ◌⊎◌}
+use Rattle.std.specs.Prelude.{◌≡◌, ℕ, ◌<◌, ◌≤◌, Bool, not, is_some, if◌then◌else◌, List, [], ◌∷◌, take, drop, Option, Some}
 use Rattle.vm_model.specs.declared.space.Entry.{Entry}
 use Rattle.vm_model.specs.declared.space.Readiness.{Readiness}
 use Rattle.vm_model.specs.declared.space.Readiness.TheVariants.{Read, Write}
-use Rattle.vm_model.specs.Contents.Content.{Content, pages_of, shown, sole, used, hold}
+use Rattle.vm_model.specs.Contents.Content.{Content, pages_of, shown, hold}
 use Rattle.vm_model.specs.Contents.Owning.{VmoPage, need_each}
 use Rattle.vm_model.specs.Contents.Writing.{part_at, part_bytes, WritesPiece}
 use Rattle.vm_model.specs.Space.Readiness.{Ready, is_writable, with_ready, frame_at}
 use Rattle.vm_model.specs.Machine.Access.{Memory, WritesPage}
+use Rattle.pages.specs.Needs.{MayOwn}
 use Rattle.ready_map.specs.declared.ready_map.ReadyPage.{ReadyPage}
 use Rattle.ready_map.specs.Notes.{Rows, ready_of, number_of, with_row, kept_rows, agrees, AreTrue}
 
@@ -20,10 +21,6 @@ pub record IsShown (c : Content) (table : ℕ → ℕ → Option Entry) (root p 
 pub record ShowsPage (c : Content) (table : ℕ → ℕ → Option Entry) (root p : ℕ) : Type 0 where
   pub entry : Entry
   pub shows : IsShown c table root p entry
-
--- a page may be owned: it is sole, or a frame is free
-abbrev pub MayOwn : Content → (v p : ℕ) → Type 0
-MayOwn c v p = (sole c v p ≡ true) ⊎ (used c < c.frames)
 
 -- Page p of an address space shows a page that may be owned.
 pub record MayWrite (c : Content) (table : ℕ → ℕ → Option Entry) (root p : ℕ) : Type 0 where

@@ -1,20 +1,8 @@
--- The frames that owning pages takes, and the room for a write.
-use Rattle.std.specs.Prelude.{◌≡◌, ℕ, ◌+◌, ◌<◌, ◌≤◌, ◌⊎◌, Bool, false, ◌==◌, if◌then◌else◌}
+-- The room for a write.
+use Rattle.std.specs.Prelude.{◌≡◌, ℕ, ◌+◌, ◌<◌, ◌≤◌, ◌⊎◌}
 use Rattle.vm_base.specs.declared.refusal.Refusal.{Refusal}
 use Rattle.vm_base.specs.declared.refusal.Refusal.TheVariants.{NoMemory, HostMemory}
 use Rattle.vm_model.specs.Contents.Content.{Content, used}
-use Rattle.page_store.specs.declared.page_store.Look.{Look}
-use Rattle.page_store.specs.declared.page_store.Look.TheVariants.{Zero, Held}
-
--- how many frames it takes to own a page
-abbrev pub need_by : Look → ℕ
-need_by Zero = 1
-need_by (Held tag alone) = if alone then 0 else 1
-
--- both pages are held, with one frame
-abbrev pub have_one_frame : Look → Look → Bool
-have_one_frame (Held first _) (Held second _) = first.0 == second.0
-have_one_frame _ _ = false
 
 -- as many frames fit in with those in use as with the other count
 pub record FitsAs (c : Content) (count need : ℕ) : Type 0 where

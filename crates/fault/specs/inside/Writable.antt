@@ -1,10 +1,10 @@
 -- A page of an address space that may be written, as it is found before anything is written, and what writing to it
 -- does.
-use Rattle.std.specs.Prelude.{◌≡◌, ℕ, ◌<◌, ◌⊎◌, true, false, List, if◌then◌else◌, Option, None, Some, is_some}
+use Rattle.std.specs.Prelude.{◌≡◌, ℕ, ◌<◌, true, false, List, if◌then◌else◌, Option, None, Some, is_some}
 use Rattle.vm_base.specs.declared.names.Tag.{Tag}
 use Rattle.vm_model.specs.declared.space.Entry.{Entry}
 use Rattle.vm_model.specs.declared.space.Readiness.TheVariants.{Write}
-use Rattle.vm_model.specs.Contents.Content.{Content, sole, used, pages_of}
+use Rattle.vm_model.specs.Contents.Content.{Content, sole, pages_of}
 use Rattle.vm_model.specs.Contents.Owning.{Owns}
 use Rattle.vm_model.specs.Space.Readiness.{frame_at, is_writable}
 use Rattle.page_store.specs.Pages.{Overwrites}
@@ -37,10 +37,6 @@ pub record IsWritable (c : Content) (table : ℕ → ℕ → Option Entry) (plac
   pub ready : is_some page.frame ≡ is_writable (ready_of places root p)
   pub absent : IsAbsent places root p page
   pub store : IsInStore c page
-
--- page p of the VMO v is sole, or a frame is free for it
-abbrev pub MayOwn : Content → (v p : ℕ) → Type 0
-MayOwn c v p = (sole c v p ≡ true) ⊎ (used c < c.frames)
 
 -- how many page faults a write to the page takes
 abbrev pub fault_of : WritablePage → ℕ

@@ -4,7 +4,7 @@ use Rattle.vm_model.specs.declared.command.Command.TheVariants.{MemWrite}
 use Rattle.vm_model.specs.declared.reply.Reply.TheVariants.{Faults}
 use Rattle.vm_model.specs.Contents.Content.{Content}
 use Rattle.mapping_set.specs.Tables.{table_of}
-use Rattle.fault.proofs.PartLaws.{part_at-first, part_bytes-all}
+use Rattle.vm_model.proofs.PartLaws.{part_at-first, part_bytes-all}
 use Rattle.eager_pages.specs.Eager.{content_of}
 use Rattle.ready_map.specs.Notes.{rows_of}
 use Rattle.eager_access.specs.inside.Pages.{MayWrite}

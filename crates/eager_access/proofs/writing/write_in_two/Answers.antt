@@ -1,6 +1,6 @@
 use Rattle.std.proofs.Common.{length, ◌∙◌, arith}
 use Rattle.mapping_set.specs.Tables.{table_of}
-use Rattle.fault.proofs.PartLaws.{part_at-first, part_bytes-first, part_at-second, part_bytes-second}
+use Rattle.vm_model.proofs.PartLaws.{part_at-first, part_bytes-first, part_at-second, part_bytes-second}
 use Rattle.eager_pages.specs.Eager.{content_of}
 use Rattle.ready_map.specs.Notes.{rows_of}
 use Rattle.eager_access.proofs.AskLaws.{may_write, touches_two}

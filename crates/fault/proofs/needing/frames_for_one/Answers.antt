@@ -1,6 +1,7 @@
 use Rattle.std.proofs.Common.{ap, ◌∙◌, arith}
-use Rattle.fault.specs.inside.Needing.{need_by}
-use Rattle.fault.proofs.NeedingLaws.{FitsAs-free, FitsAs-same, need-one}
+use Rattle.pages.specs.Needs.{need_by}
+use Rattle.pages.proofs.NeedLaws.{need-one}
+use Rattle.fault.proofs.NeedingLaws.{FitsAs-free, FitsAs-same}
 use Rattle.fault.proofs.needing.frames_for_one.Goals as goal
 
 pub returns-then-free-gt0 : goal.returns-then-free-gt0

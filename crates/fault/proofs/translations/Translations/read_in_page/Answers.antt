@@ -2,7 +2,7 @@ use Rattle.std.proofs.Common.{refl, arith}
 use Rattle.std.proofs.lemmas.Result.{err_from_is_err_and}
 use Rattle.fault.proofs.AskedLaws.{IsDenied-first, IsDenied-memory}
 use Rattle.fault.proofs.OutcomeLaws.{asked-one, faults-one, Reads-one}
-use Rattle.fault.proofs.TouchedLaws.{touched-one}
+use Rattle.vm_model.proofs.TouchedLaws.{touched-one}
 use Rattle.fault.proofs.TouchingLaws.{IsFound-from_IsTouched}
 use Rattle.fault.proofs.translations.Translations.read_in_page.Goals as goal
 

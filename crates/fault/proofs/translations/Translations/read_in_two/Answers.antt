@@ -3,7 +3,7 @@ use Rattle.std.proofs.lemmas.Result.{err_from_is_err_and}
 use Rattle.mapping_set.specs.Tables.{table_of}
 use Rattle.fault.proofs.AskedLaws.{IsDenied-first, IsDenied-second, IsDenied-memory}
 use Rattle.fault.proofs.OutcomeLaws.{asked-two, faults-two, Reads-two}
-use Rattle.fault.proofs.TouchedLaws.{touched-two}
+use Rattle.vm_model.proofs.TouchedLaws.{touched-two}
 use Rattle.fault.proofs.TouchingLaws.{IsFound-from_IsTouched, IsFound-stays, refusal_at-touched}
 use Rattle.fault.proofs.translations.Translations.read_in_two.Goals as goal
 

@@ -1,10 +1,10 @@
 use Rattle.std.proofs.Common.{◌+◌, ◌∙◌, refl, arith}
 use Rattle.fault.specs.Table.{places_of}
 use Rattle.fault.proofs.AskedLaws.{AreAsked-two}
-use Rattle.fault.proofs.PartLaws.{part_at-first, part_bytes-first, part_at-second, part_bytes-second}
+use Rattle.vm_model.proofs.PartLaws.{part_at-first, part_bytes-first, part_at-second, part_bytes-second}
 use Rattle.fault.proofs.ThroughLaws.{IsBetween, IsBetween-written, Writes-two}
-use Rattle.fault.proofs.TouchedLaws.{touched-two}
-use Rattle.fault.proofs.NeedingLaws.{first-free}
+use Rattle.vm_model.proofs.TouchedLaws.{touched-two}
+use Rattle.pages.proofs.NeedLaws.{first-free}
 use Rattle.fault.proofs.WritableLaws.{entry-found}
 use Rattle.fault.proofs.translations.Translations.write_both.Given.{Over}
 use Rattle.fault.proofs.translations.Translations.write_both.Goals as goal

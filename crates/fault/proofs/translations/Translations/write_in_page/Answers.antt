@@ -1,9 +1,9 @@
 use Rattle.std.proofs.Common.{refl, ◌∙◌, arith}
 use Rattle.fault.proofs.AskedLaws.{AreAsked-one, IsDenied-first, IsDenied-room, wants-one}
-use Rattle.fault.proofs.PartLaws.{part_at-first, part_bytes-all}
+use Rattle.vm_model.proofs.PartLaws.{part_at-first, part_bytes-all}
 use Rattle.fault.proofs.NeedingLaws.{LacksRoom-as}
 use Rattle.fault.proofs.ThroughLaws.{Writes-one}
-use Rattle.fault.proofs.TouchedLaws.{touched-one}
+use Rattle.vm_model.proofs.TouchedLaws.{touched-one}
 use Rattle.fault.proofs.WritableLaws.{entry-found, IsAbsent-stays, one-free}
 use Rattle.fault.proofs.WrittenLaws.{AreTrue-written}
 use Rattle.fault.proofs.translations.Translations.write_in_page.Goals as goal

@@ -5,7 +5,7 @@ use Rattle.fault.specs.Table.{places_of, AreTrue}
 use Rattle.fault.specs.inside.Writable.{fault_of}
 use Rattle.fault.proofs.BothLaws.{AreFound-ready}
 use Rattle.fault.proofs.AskedLaws.{AreAsked-two, IsDenied-room, wants-two}
-use Rattle.fault.proofs.TouchedLaws.{touched-two}
+use Rattle.vm_model.proofs.TouchedLaws.{touched-two}
 use Rattle.fault.proofs.translations.Translations.write_in_two.Given.{Over}
 use Rattle.fault.proofs.translations.Translations.write_in_two.Goals as goal
 

@@ -1,4 +1,4 @@
--- Laws of the bytes of a short read.
+-- Laws of what an access through mappings finds: how many pages a VMO has, and the bytes of a short read.
 use Rattle.std.proofs.Common.{◌≡◌, ℕ, ◌+◌, ◌/◌, ◌%◌, ◌≤◌, List, ◌++◌, length, map, take, drop, get_or, Option, Some, refl, sym, ap, ◌∙◌, arith}
 use Rattle.std.specs.List.{range_with_len}
 use Rattle.std.proofs.lemmas.Grind.{same_number_lists}
@@ -7,6 +7,7 @@ use Rattle.std.proofs.lemmas.List.FromFn.{get_or-map-range_with_len, length-map-
 use Rattle.vm_base.specs.declared.limits.TheConstants.{PAGE}
 use Rattle.vm_model.specs.declared.space.Entry.{Entry}
 use Rattle.vm_model.specs.Contents.Content.{Content, shown}
+use Rattle.vm_model.proofs.ContentLaws.{pages_of-at}
 use Rattle.vm_model.specs.Machine.Access.{entry_at, byte_through, bytes_through}
 
 module _ (c : Content) (entries : ℕ → Option Entry) where
@@ -36,3 +37,6 @@ module _ (c : Content) (entries : ℕ → Option Entry) where
   unfolding bytes_through
   bytes_through-page addr n entry is size fits =
       grind (arith, same_number_lists, length-map-range_with_len, length-take, length-drop, get_or-map-range_with_len, get_or-take, get_or-drop, byte_through-page)
+
+-- what a check of an access finds
+pub ruleset check_laws = (pages_of-at)
