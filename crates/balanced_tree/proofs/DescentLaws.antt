@@ -86,7 +86,7 @@ module _ {R : Type 0} (f : Functions R) where
               part = Leaf;
               low = 0;
               high = 0;
-              standing = record { spelled = tt; is_at = refl; ordered = omega arith; short = omega arith };
+              standing = record { spelled = tt; is_at = refl; ordered = omega arith; short = omega arith; balanced = tt };
               finds = sym (found-here f node down n (option_map (plain f) best) from to) ∙ l.finds;
               steps = omega (arith, l.steps, height-left f node);
             };

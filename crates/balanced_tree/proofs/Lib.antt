@@ -2,6 +2,7 @@ pub mod PlainLaws
 pub mod Spelling
 pub mod Turns
 pub mod Nodes
+pub mod Hiding
 pub mod DescentLaws
 pub mod Insertions
 pub mod Removals

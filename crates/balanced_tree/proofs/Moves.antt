@@ -1,31 +1,37 @@
 -- What a row that comes in place of one of another rank does to a tree, case by case.
 use Rattle.std.proofs.Common.{◌≡◌, ℕ, ◌+◌, ◌<◌, ◌≤◌, Option, None, Some, inl, inr, refl, sym, ap, ◌∙◌, subst, arith}
 use Rattle.std.proofs.lemmas.Bool.{cases_lt}
+use Rattle.std.proofs.lemmas.Option.{same_Some}
 use Rattle.slab.specs.Slab.{Slab, get, slab_len, ContainsKey, Updates}
-use Rattle.balanced_tree.specs.Row.{Functions, AreLawful}
-use Rattle.balanced_tree.specs.inside.Tree.{Tree, Leaf, Node, moved, AreBeside}
-use Rattle.balanced_tree.specs.inside.Standing.{child_at, IsStanding, StandsBeside, Becomes, IsSplit, HasMoved}
+use Rattle.balanced_tree.specs.declared.changes.Change.{Change}
+use Rattle.balanced_tree.specs.declared.changes.Change.TheVariants.{Hidden, Root}
+use Rattle.balanced_tree.specs.Row.{Functions, AreLawful, AreAlike}
+use Rattle.balanced_tree.specs.inside.Tree.{Tree, Leaf, Node, child_of, moved, AreBeside}
+use Rattle.balanced_tree.specs.inside.Standing.{child_under, child_at, IsRooted, IsStanding, StandsBeside, Becomes, IsSplit, HasMoved}
 use Rattle.balanced_tree.proofs.Spelling.{Keeps-refl, Same-refl, child_at-link, ContainsKey-place_of, place_over-tree}
 use Rattle.balanced_tree.proofs.Nodes.{IsNode, node_of, standing-at, rank_here, height-left, height-right, right_is, left_is, same_again, again_left, again_right, split_left, split_right, left_kept, right_kept}
+use Rattle.balanced_tree.proofs.Hiding.{like-same, rooted-hidden, rooted-put, rooted-again, still-left, still-right, becomes-still}
 use Rattle.balanced_tree.proofs.Insertions.{Becomes-left, Becomes-right}
 use Rattle.balanced_tree.proofs.TreeLaws.{moved-left, moved-right, moved-here, moved-leaf, place-moved, ordered-below, ordered-above}
 
 module _ {R : Type 0} (f : Functions R) where
-  pub move-leaf : {s : Slab R} {at : Option ℕ} (t : Tree R) {low high before : ℕ} (n : ℕ) (w : R) → at ≡ None → IsStanding f s at t low high → HasMoved f s s n w t low high before before
+  pub move-leaf : {s : Slab R} {at : Option ℕ} (t : Tree R) {low high before : ℕ} (n : ℕ) (w : R) → at ≡ None → IsStanding f s at t low high → HasMoved f s s n w t low high Hidden before before
   move-leaf {s} Leaf {low} {high} n w none h = record {
     becomes = subst (λ u. Becomes f s s u low high) (sym (moved-leaf f n w)) (record { spelled = tt; ordered = h.ordered; kept = Keeps-refl f low high s });
+    rooted = rooted-hidden f (like-same f (ap (child_of f) (sym (moved-leaf f n w))));
     len = refl;
     steps = omega arith;
   }
   move-leaf {s} (Node l p x r) n w none h = let some : Some p ≡ None = h.is_at ∙ none in absurd cc
 
-  module _ {s s1 s2 : Slab R} {p : ℕ} {here again w : R} {t : Tree R} {low high n before b1 b2 b3 after : ℕ} {left right : Option ℕ}
+  module _ {s s1 s2 : Slab R} {p : ℕ} {here again w : R} {t : Tree R} {low high n before b1 b2 b3 after : ℕ} {left right : Option ℕ} {part change : Change}
       (laws : AreLawful f) (d : IsNode f s p here t low high) (left_link : left ≡ f.left here) (right_link : right ≡ f.right here) where
     -- where the way down went to the left
-    pub move-left : n < f.rank here → HasMoved f s s1 n w d.left low (f.rank d.row) b1 b2
+    pub move-left : n < f.rank here → HasMoved f s s1 n w d.left low (f.rank d.row) part b1 b2
         → get s1 p ≡ Some again → Updates s1 s2 p (Some (f.linked again (child_at s1 left) (child_at s1 right))) → slab_len s2 ≡ slab_len s1 → b1 ≤ before + 1 → b3 ≤ b2 + 1 → after ≤ b3 + 3
-        → HasMoved f s s2 n w t low high before after
-    move-left less sub e u len g1 g2 g3 =
+        → ((q : Option ℕ) → change ≡ Root q → q ≡ Some p) → (change ≡ Hidden → AreAlike f again (f.linked again (child_at s1 left) (child_at s1 right)))
+        → HasMoved f s s2 n w t low high change before after
+    move-left less sub e u len g1 g2 g3 root hidden =
         let again_is = again_left f d sub.becomes.kept e in
         let on_left = child_at-link f s1 (moved f n w d.left) sub.becomes.spelled (place-moved f n w d.left ∙ (d.left_standing.is_at ∙ sym left_link)) in
         let on_right = child_at-link f s1 d.right (right_kept f d laws sub.becomes.kept) (d.right_standing.is_at ∙ sym right_link) in
@@ -33,15 +39,17 @@ module _ {R : Type 0} (f : Functions R) where
         let is = ap (moved f n w) d.is ∙ moved-left f n w d.left p d.row d.right (omega (arith, rank_here f d)) in
         record {
           becomes = Becomes-left f d sub.becomes (subst (λ u. Becomes f s1 s2 u low high) (sym is) made.becomes);
+          rooted = rooted-again f laws d again_is is (rooted-put f made.child root hidden);
           len = len ∙ sub.len;
           steps = omega (arith, sub.steps, height-left f d);
         }
 
     -- and to the right
-    pub move-right : f.rank here < n → HasMoved f s s1 n w d.right (f.rank d.row + 1) high b1 b2
+    pub move-right : f.rank here < n → HasMoved f s s1 n w d.right (f.rank d.row + 1) high part b1 b2
         → get s1 p ≡ Some again → Updates s1 s2 p (Some (f.linked again (child_at s1 left) (child_at s1 right))) → slab_len s2 ≡ slab_len s1 → b1 ≤ before + 1 → b3 ≤ b2 + 1 → after ≤ b3 + 3
-        → HasMoved f s s2 n w t low high before after
-    move-right more sub e u len g1 g2 g3 =
+        → ((q : Option ℕ) → change ≡ Root q → q ≡ Some p) → (change ≡ Hidden → AreAlike f again (f.linked again (child_at s1 left) (child_at s1 right)))
+        → HasMoved f s s2 n w t low high change before after
+    move-right more sub e u len g1 g2 g3 root hidden =
         let again_is = again_right f d sub.becomes.kept e in
         let on_left = child_at-link f s1 d.left (left_kept f d laws sub.becomes.kept) (d.left_standing.is_at ∙ sym left_link) in
         let on_right = child_at-link f s1 (moved f n w d.right) sub.becomes.spelled (place-moved f n w d.right ∙ (d.right_standing.is_at ∙ sym right_link)) in
@@ -49,7 +57,32 @@ module _ {R : Type 0} (f : Functions R) where
         let is = ap (moved f n w) d.is ∙ moved-right f n w d.left p d.row d.right (omega (arith, rank_here f d)) in
         record {
           becomes = Becomes-right f d sub.becomes (subst (λ u. Becomes f s1 s2 u low high) (sym is) made.becomes);
+          rooted = rooted-again f laws d again_is is (rooted-put f made.child root hidden);
           len = len ∙ sub.len;
+          steps = omega (arith, sub.steps, height-right f d);
+        }
+
+  -- the row hides the change of a part
+  module _ {s s1 : Slab R} {p : ℕ} {here w : R} {t : Tree R} {low high n before b1 b2 : ℕ} {part : Change} (laws : AreLawful f) (d : IsNode f s p here t low high) where
+    pub move-left_hidden : n < f.rank here → HasMoved f s s1 n w d.left low (f.rank d.row) part b1 b2 → part ≡ Hidden → b1 ≤ before + 1 → HasMoved f s s1 n w t low high Hidden before b2
+    move-left_hidden less sub is_hidden g =
+        let is = ap (moved f n w) d.is ∙ moved-left f n w d.left p d.row d.right (omega (arith, rank_here f d)) in
+        let still = still-left f laws d sub.becomes.spelled sub.becomes.ordered sub.becomes.kept (sub.rooted.hidden is_hidden) in
+        record {
+          becomes = subst (λ u. Becomes f s s1 u low high) (sym is) (becomes-still f still);
+          rooted = subst (λ u. IsRooted f (child_of f t) u Hidden) (sym is) (rooted-hidden f still.like);
+          len = sub.len;
+          steps = omega (arith, sub.steps, height-left f d);
+        }
+
+    pub move-right_hidden : f.rank here < n → HasMoved f s s1 n w d.right (f.rank d.row + 1) high part b1 b2 → part ≡ Hidden → b1 ≤ before + 1 → HasMoved f s s1 n w t low high Hidden before b2
+    move-right_hidden more sub is_hidden g =
+        let is = ap (moved f n w) d.is ∙ moved-right f n w d.left p d.row d.right (omega (arith, rank_here f d)) in
+        let still = still-right f laws d sub.becomes.spelled sub.becomes.ordered sub.becomes.kept (sub.rooted.hidden is_hidden) in
+        record {
+          becomes = subst (λ u. Becomes f s s1 u low high) (sym is) (becomes-still f still);
+          rooted = subst (λ u. IsRooted f (child_of f t) u Hidden) (sym is) (rooted-hidden f still.like);
+          len = sub.len;
           steps = omega (arith, sub.steps, height-right f d);
         }
 
@@ -65,12 +98,13 @@ module _ {R : Type 0} (f : Functions R) where
       → AreBeside f n m d.right × (f.rank d.row + 1 ≤ m)
   sub-right n m d b is more = let sides = beside-node n m d b in let same = rank_here f d in let above = sides.0.0 (omega arith) in (sides.2, omega arith)
 
-  pub move-here : {s s2 : Slab R} {p : ℕ} {here w : R} {t : Tree R} {low high n before after : ℕ} {left right : Option ℕ}
+  pub move-here : {s s2 : Slab R} {p : ℕ} {here w now : R} {t : Tree R} {low high n before after : ℕ} {left right : Option ℕ} {change : Change}
       → AreLawful f → (d : IsNode f s p here t low high) → f.rank here ≤ n → n ≤ f.rank here → AreBeside f n (f.rank w) t → low ≤ f.rank w → f.rank w < high
       → left ≡ f.left here → right ≡ f.right here
-      → Updates s s2 p (Some (f.linked w (child_at s left) (child_at s right))) → slab_len s2 ≡ slab_len s → after ≤ before + 4
-      → HasMoved f s s2 n w t low high before after
-  move-here {s} {s2} {p} {here} {w} {t} {low} {high} {n} laws d g h b from below left_link right_link u len steps =
+      → Updates s s2 p (Some (f.linked w (child_at s left) (child_at s right))) → slab_len s2 ≡ slab_len s → after ≤ before + 5
+      → get s2 p ≡ Some now → ((q : Option ℕ) → change ≡ Root q → q ≡ Some p) → (change ≡ Hidden → AreAlike f here now)
+      → HasMoved f s s2 n w t low high change before after
+  move-here {s} {s2} {p} {here} {w} {now} {t} {low} {high} {n} laws d g h b from below left_link right_link u len steps e root hidden =
       let sides = beside-node n (f.rank w) d b in
       let same = rank_here f d in
       let split : IsSplit f s d.left p w d.right low high = elim (cases_lt (f.rank w) n) [
@@ -107,6 +141,7 @@ module _ {R : Type 0} (f : Functions R) where
       let is = ap (moved f n w) d.is ∙ moved-here f n w d.left p d.row d.right (omega arith) in
       record {
         becomes = subst (λ u. Becomes f s s2 u low high) (sym is) made.becomes;
+        rooted = rooted-again f laws d refl is (rooted-put f (ap (λ y. child_under p (Some y)) (same_Some _ _ (sym e ∙ u.changed)) ∙ made.child) root hidden);
         len = len;
         steps = omega (arith, height-left f d);
       }
@@ -144,16 +179,16 @@ module _ {R : Type 0} (f : Functions R) where
       }
 
   -- the links to the parts of a node lead to rows, also after a change of one part
-  module _ {s s1 : Slab R} {p n : ℕ} {here w : R} {t : Tree R} {low high b1 b2 : ℕ} {left right : Option ℕ}
+  module _ {s s1 : Slab R} {p n : ℕ} {here w : R} {t : Tree R} {low high b1 b2 : ℕ} {left right : Option ℕ} {part : Change}
       (laws : AreLawful f) (d : IsNode f s p here t low high) (left_link : left ≡ f.left here) (right_link : right ≡ f.right here) where
-    pub left-readable : HasMoved f s s1 n w d.left low (f.rank d.row) b1 b2 → (q : ℕ) → left ≡ Some q → ContainsKey s1 q
+    pub left-readable : HasMoved f s s1 n w d.left low (f.rank d.row) part b1 b2 → (q : ℕ) → left ≡ Some q → ContainsKey s1 q
     left-readable sub q e = ContainsKey-place_of f s1 (moved f n w d.left) q sub.becomes.spelled (place-moved f n w d.left ∙ (d.left_standing.is_at ∙ (sym left_link ∙ e)))
 
-    pub left-beside : HasMoved f s s1 n w d.left low (f.rank d.row) b1 b2 → (q : ℕ) → right ≡ Some q → ContainsKey s1 q
+    pub left-beside : HasMoved f s s1 n w d.left low (f.rank d.row) part b1 b2 → (q : ℕ) → right ≡ Some q → ContainsKey s1 q
     left-beside sub q e = ContainsKey-place_of f s1 d.right q (right_kept f d laws sub.becomes.kept) (d.right_standing.is_at ∙ (sym right_link ∙ e))
 
-    pub right-readable : HasMoved f s s1 n w d.right (f.rank d.row + 1) high b1 b2 → (q : ℕ) → right ≡ Some q → ContainsKey s1 q
+    pub right-readable : HasMoved f s s1 n w d.right (f.rank d.row + 1) high part b1 b2 → (q : ℕ) → right ≡ Some q → ContainsKey s1 q
     right-readable sub q e = ContainsKey-place_of f s1 (moved f n w d.right) q sub.becomes.spelled (place-moved f n w d.right ∙ (d.right_standing.is_at ∙ (sym right_link ∙ e)))
 
-    pub right-beside : HasMoved f s s1 n w d.right (f.rank d.row + 1) high b1 b2 → (q : ℕ) → left ≡ Some q → ContainsKey s1 q
+    pub right-beside : HasMoved f s s1 n w d.right (f.rank d.row + 1) high part b1 b2 → (q : ℕ) → left ≡ Some q → ContainsKey s1 q
     right-beside sub q e = ContainsKey-place_of f s1 d.left q (left_kept f d laws sub.becomes.kept) (d.left_standing.is_at ∙ (sym left_link ∙ e))

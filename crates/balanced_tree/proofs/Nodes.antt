@@ -29,7 +29,10 @@ module _ {R : Type 0} (f : Functions R) where
     pub row : R
     pub is : t ≡ Node left p row right
     pub at : get s p ≡ Some here
+    pub here_is : here ≡ f.linked row (child_of f left) (child_of f right)
     pub same : Same f row here
+    pub left_level : height left ≤ height right + 1
+    pub right_level : height right ≤ height left + 1
     pub left_standing : IsStanding f s (f.left here) left low (f.rank row)
     pub right_standing : IsStanding f s (f.right here) right (f.rank row + 1) high
 
@@ -45,9 +48,12 @@ module _ {R : Type 0} (f : Functions R) where
         row = x;
         is = ap (λ k. Node l k x r) e;
         at = at;
+        here_is = here_is;
         same = subst (Same f x) (sym here_is) (Same-linked f laws x _ _);
-        left_standing = record { spelled = h.spelled.1; is_at = sym (ap f.left here_is ∙ laws.left_set x _ _ ∙ link_of-child_of f l); ordered = h.ordered.0; short = omega arith };
-        right_standing = record { spelled = h.spelled.2; is_at = sym (ap f.right here_is ∙ laws.right_set x _ _ ∙ link_of-child_of f r); ordered = h.ordered.1; short = omega arith };
+        left_level = h.balanced.0;
+        right_level = h.balanced.1;
+        left_standing = record { spelled = h.spelled.1; is_at = sym (ap f.left here_is ∙ laws.left_set x _ _ ∙ link_of-child_of f l); ordered = h.ordered.0; short = omega arith; balanced = h.balanced.2 };
+        right_standing = record { spelled = h.spelled.2; is_at = sym (ap f.right here_is ∙ laws.right_set x _ _ ∙ link_of-child_of f r); ordered = h.ordered.1; short = omega arith; balanced = h.balanced.3 };
       }
 
   module _ {s : Slab R} {p : ℕ} {here : R} {t : Tree R} {low high : ℕ} (n : IsNode s p here t low high) where

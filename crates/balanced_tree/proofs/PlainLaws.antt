@@ -1,5 +1,5 @@
 -- Small laws over plain numbers and tests. An answer that cites one needs no search of all that is known there.
-use Rattle.std.proofs.Common.{◌≡◌, ℕ, ◌+◌, ◌<◌, ◌≤◌, Bool, false, IsTrue, ◌∙◌, arith}
+use Rattle.std.proofs.Common.{◌≡◌, ◌⊎◌, ℕ, ◌+◌, ◌<◌, ◌≤◌, Bool, true, false, IsTrue, inl, inr, ◌∙◌, arith}
 
 pub less_of : {a b x y : ℕ} → x ≡ a → y ≡ b → x < y → a < b
 less_of e g h = omega arith
@@ -23,6 +23,9 @@ to_second a e h = omega arith
 pub to_fourth : (a : ℕ) {b c : ℕ} → b ≡ a + 1 → c ≤ b + 3 → c ≤ a + 4
 to_fourth a e h = omega arith
 
+pub to_fifth : (a : ℕ) {b c d : ℕ} → b ≡ a + 1 → c ≤ b + 3 → d ≡ c + 1 → d ≤ a + 5
+to_fifth a e h g = omega arith
+
 pub same_twice : {A : Type 0} {a b c : A} → b ≡ a → c ≡ b → c ≡ a
 same_twice e g = g ∙ e
 
@@ -36,3 +39,8 @@ double_steps a i j k l m = omega arith
 -- a test that is false says that what would make it true does not hold
 pub refuted : {b : Bool} {P : Type 0} → (P → IsTrue b) → b ≡ false → P → ⊥
 refuted holds is p = let yes = holds p in cc
+
+-- what a test says that tells nothing where it is false
+pub heard : {b : Bool} {P : Type 0} → (b ≡ false) ⊎ ((b ≡ true) × P) → b ≡ true → P
+heard (inl none) e = absurd cc
+heard (inr some) e = some.1

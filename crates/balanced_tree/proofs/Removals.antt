@@ -3,12 +3,15 @@ use Rattle.std.proofs.Common.{◌≡◌, ℕ, ◌+◌, ◌<◌, ◌≤◌, true,
 use Rattle.std.proofs.lemmas.Bool.{lt-ltb, le-ltb, cond-true, cond-false}
 use Rattle.std.proofs.lemmas.Option.{same_Some}
 use Rattle.slab.specs.Slab.{Slab, get, slab_len, Updates}
+use Rattle.balanced_tree.specs.declared.changes.Change.{Change}
+use Rattle.balanced_tree.specs.declared.changes.Change.TheVariants.{Hidden, Root}
 use Rattle.balanced_tree.specs.Row.{Functions, AreLawful, plain}
-use Rattle.balanced_tree.specs.inside.Tree.{Tree, Leaf, Node, is_leaf, place_of, IsOrdered, balanced, least, without_least, without_root, removed}
-use Rattle.balanced_tree.specs.inside.Standing.{Spells, Same, IsStanding, Keeps, Becomes, IsSplit, Splits, HasRemoved, HasTakenLeast, HasTakenRoot}
+use Rattle.balanced_tree.specs.inside.Tree.{Tree, Leaf, Node, is_leaf, place_of, child_of, IsOrdered, balanced, least, without_least, without_root, removed}
+use Rattle.balanced_tree.specs.inside.Standing.{root_after, IsRooted, Spells, Same, IsStanding, Keeps, Becomes, IsSplit, Splits, HasRemoved, HasTakenLeast, HasTakenRoot}
 use Rattle.balanced_tree.proofs.Spelling.{Keeps-refl, Keeps-trans, Keeps-wider, Keeps-Updates, Spells-kept, split_over}
 use Rattle.balanced_tree.proofs.Nodes.{IsNode, rank_here, height-left, height-right, in_low, in_high, same_again, left_again, right_again, stays_left, stays_right, again_left, again_right, right_kept, left_kept, split_left, split_right, kept_wider_left, has_rank-left, has_rank-right, has_rank-here, row_in-left, row_in-right, row_in-here, IsSplit-Same}
-use Rattle.balanced_tree.proofs.Insertions.{Balances, Becomes-left, Becomes-right}
+use Rattle.balanced_tree.proofs.Hiding.{IsStill, like-same, rooted-at, rooted-hidden, rooted-link, rooted-again, still-left, still-right, becomes-still, even-left, even-right}
+use Rattle.balanced_tree.proofs.Insertions.{Balances, Rebalances, Becomes-left, Becomes-right}
 
 module _ {R : Type 0} where
   is_leaf-none : (t : Tree R) → place_of t ≡ None → is_leaf t ≡ true
@@ -55,7 +58,7 @@ module _ {R : Type 0} (f : Functions R) where
       {s s1 : Slab R} {p : ℕ} {here y : R} {t : Tree R} {low high before after : ℕ} {rest : Option ℕ}
       → AreLawful f → (n : IsNode f s p here t low high) → f.left here ≡ None
       → rest ≡ f.right here → get s p ≡ Some y → Updates s s1 p None → slab_len s1 + 1 ≡ slab_len s → after ≤ before + 2
-      → HasTakenLeast f s s1 t low high y rest before after
+      → HasTakenLeast f s s1 t low high y (Root rest) before after
   take-first {s} {s1} {p} {here} {y} {t} {low} {high} laws n none on_right e u len steps =
       let leaf = is_leaf-none n.left (n.left_standing.is_at ∙ none) in
       let is : without_least f t ≡ n.right = ap (without_least f) n.is ∙ without_least-first n.left p n.row n.right leaf in
@@ -66,7 +69,7 @@ module _ {R : Type 0} (f : Functions R) where
         spelled = subst (Spells f s1) (sym is) right;
         ordered = subst (λ z. IsOrdered f (f.rank z + 1) high (without_least f t)) (sym first) (subst (IsOrdered f (f.rank n.row + 1) high) (sym is) n.right_standing.ordered);
         kept = Keeps-wider f low high (in_low f n) (in_high f n) kept;
-        root = ap place_of is ∙ right_again f n refl on_right;
+        rooted = rooted-at f (ap place_of is ∙ right_again f n refl on_right);
         row = subst (λ z. Same f z y) (sym first) (same_again f n (same_Some _ _ (sym e ∙ n.at)));
         from_low = subst (λ z. low ≤ f.rank z) (sym first) (in_low f n);
         len = len;
@@ -75,7 +78,7 @@ module _ {R : Type 0} (f : Functions R) where
 
   -- what stands once the first row of the left part is taken
   split_least :
-      {s s1 : Slab R} {p : ℕ} {here y : R} {t : Tree R} {low high b1 b2 : ℕ} {rest : Option ℕ}
+      {s s1 : Slab R} {p : ℕ} {here y : R} {t : Tree R} {low high b1 b2 : ℕ} {rest : Change}
       → AreLawful f → (n : IsNode f s p here t low high)
       → HasTakenLeast f s s1 n.left low (f.rank n.row) y rest b1 b2
       → IsSplit f s1 (without_least f n.left) p n.row n.right (f.rank (least f n.left y) + 1) high
@@ -83,11 +86,11 @@ module _ {R : Type 0} (f : Functions R) where
       split_over f (stays_left f n sub.kept) (rank_here f n) sub.spelled (right_kept f n laws sub.kept) sub.ordered n.right_standing.ordered
 
   pub Splits-least :
-      {s s1 : Slab R} {p : ℕ} {here again y : R} {t : Tree R} {low high b1 b2 : ℕ} {rest right : Option ℕ}
+      {s s1 : Slab R} {p : ℕ} {here again y : R} {t : Tree R} {low high b1 b2 : ℕ} {rest right : Option ℕ} {part : Change}
       → AreLawful f → (n : IsNode f s p here t low high)
-      → HasTakenLeast f s s1 n.left low (f.rank n.row) y rest b1 b2
+      → HasTakenLeast f s s1 n.left low (f.rank n.row) y part b1 b2 → part ≡ Root rest
       → get s1 p ≡ Some again → right ≡ f.right again → Splits f s1 rest p again right
-  Splits-least {y = y} {high = high} laws n sub e on_right =
+  Splits-least {y = y} {high = high} {rest = rest} laws n sub is_root e on_right =
       let is = again_left f n sub.kept e in
       record {
         left_tree = without_least f n.left;
@@ -95,32 +98,54 @@ module _ {R : Type 0} (f : Functions R) where
         low = f.rank (least f n.left y) + 1;
         high = high;
         split = IsSplit-Same f (same_again f n is) (split_least laws n sub);
-        left_is = sub.root;
+        left_is = sub.rooted.root rest is_root;
         right_is = right_again f n is on_right;
       }
 
   pub take-later :
-      {s s1 s2 : Slab R} {p q : ℕ} {here again y : R} {t : Tree R} {low high before b1 b2 b3 after root : ℕ} {rest right : Option ℕ}
+      {s s1 s2 : Slab R} {p q : ℕ} {here again y : R} {t : Tree R} {low high before b1 b2 b3 after : ℕ} {rest right : Option ℕ} {part change : Change}
       → AreLawful f → (n : IsNode f s p here t low high) → f.left here ≡ Some q
-      → HasTakenLeast f s s1 n.left low (f.rank n.row) y rest b1 b2
-      → get s1 p ≡ Some again → right ≡ f.right again → Balances f s1 s2 p again rest right root
+      → HasTakenLeast f s s1 n.left low (f.rank n.row) y part b1 b2 → part ≡ Root rest
+      → get s1 p ≡ Some again → right ≡ f.right again → Rebalances f s1 s2 p again rest right change
       → slab_len s2 ≡ slab_len s1 → b1 ≤ before + 1 → b3 ≤ b2 + 1 → after ≤ b3 + 11
-      → HasTakenLeast f s s2 t low high y (Some root) before after
-  take-later {s} {s1} {s2} {p} {q} {here} {y = y} {t} {low} {high} laws n some sub e on_right balance len g1 g2 g3 =
+      → HasTakenLeast f s s2 t low high y change before after
+  take-later {s} {s1} {s2} {p} {q} {here} {y = y} {t} {low} {high} {rest = rest} laws n some sub is_root e on_right balance len g1 g2 g3 =
       let node = is_leaf-some n.left q (n.left_standing.is_at ∙ some) in
       let is : without_least f t ≡ balanced f (without_least f n.left) p n.row n.right = ap (without_least f) n.is ∙ without_least-later n.left p n.row n.right node in
       let first : least f t y ≡ least f n.left y = ap (λ u. least f u y) n.is ∙ least-any n.left n.row y node in
       let from = f.rank (least f n.left y) + 1 in
       let again_is = again_left f n sub.kept e in
-      let made = balance _ n.row n.right from high (split_least laws n sub) (same_again f n again_is) sub.root (right_again f n again_is on_right) in
+      let made = balance _ n.row n.right from high (split_least laws n sub) (same_again f n again_is) (sub.rooted.root rest is_root) (right_again f n again_is on_right) in
       record {
         spelled = subst (Spells f s2) (sym is) made.0.spelled;
         ordered = subst (λ z. IsOrdered f (f.rank z + 1) high (without_least f t)) (sym first) (subst (IsOrdered f from high) (sym is) made.0.ordered);
         kept = Keeps-trans f (kept_wider_left f n sub.kept) (Keeps-wider f low high (omega (arith, sub.from_low)) (omega arith) made.0.kept);
-        root = ap place_of is ∙ made.1;
+        rooted = rooted-again f laws n again_is is made.1;
         row = subst (λ z. Same f z y) (sym first) sub.row;
         from_low = subst (λ z. low ≤ f.rank z) (sym first) sub.from_low;
         len = omega (arith, len, sub.len);
+        steps = omega (arith, sub.steps, height-left f n);
+      }
+
+  pub take-later_hidden :
+      {s s1 : Slab R} {p q : ℕ} {here y : R} {t : Tree R} {low high before b1 b2 : ℕ} {part : Change}
+      → AreLawful f → (n : IsNode f s p here t low high) → f.left here ≡ Some q
+      → HasTakenLeast f s s1 n.left low (f.rank n.row) y part b1 b2 → part ≡ Hidden → b1 ≤ before + 1
+      → HasTakenLeast f s s1 t low high y Hidden before b2
+  take-later_hidden {s} {s1} {p} {q} {y = y} {t} {low} {high} laws n some sub is_hidden g =
+      let node = is_leaf-some n.left q (n.left_standing.is_at ∙ some) in
+      let like = sub.rooted.hidden is_hidden in
+      let is : without_least f t ≡ Node (without_least f n.left) p n.row n.right = ap (without_least f) n.is ∙ without_least-later n.left p n.row n.right node ∙ even-left f laws n (without_least f n.left) like in
+      let first : least f t y ≡ least f n.left y = ap (λ u. least f u y) n.is ∙ least-any n.left n.row y node in
+      let still = subst (λ u. IsStill f s s1 t u (f.rank (least f n.left y) + 1) low high) (sym is) (still-left f laws n sub.spelled sub.ordered sub.kept like) in
+      record {
+        spelled = still.spelled;
+        ordered = subst (λ z. IsOrdered f (f.rank z + 1) high (without_least f t)) (sym first) still.ordered;
+        kept = still.kept;
+        rooted = rooted-hidden f still.like;
+        row = subst (λ z. Same f z y) (sym first) sub.row;
+        from_low = subst (λ z. low ≤ f.rank z) (sym first) sub.from_low;
+        len = sub.len;
         steps = omega (arith, sub.steps, height-left f n);
       }
 
@@ -147,7 +172,7 @@ module _ {R : Type 0} (f : Functions R) where
 
   -- what stands once the first row of the right part is taken, with this row for the place of the root
   split_root :
-      {s s1 : Slab R} {p : ℕ} {here y : R} {t : Tree R} {low high b1 b2 : ℕ} {rest : Option ℕ}
+      {s s1 : Slab R} {p : ℕ} {here y : R} {t : Tree R} {low high b1 b2 : ℕ} {rest : Change}
       → AreLawful f → (n : IsNode f s p here t low high)
       → HasTakenLeast f s s1 n.right (f.rank n.row + 1) high y rest b1 b2
       → IsSplit f s1 n.left p (least f n.right y) (without_least f n.right) low high
@@ -168,11 +193,11 @@ module _ {R : Type 0} (f : Functions R) where
       }
 
   pub Splits-root :
-      {s s1 : Slab R} {p : ℕ} {here y : R} {t : Tree R} {low high b1 b2 : ℕ} {left rest : Option ℕ}
+      {s s1 : Slab R} {p : ℕ} {here y : R} {t : Tree R} {low high b1 b2 : ℕ} {left right : Option ℕ} {rest : Change}
       → AreLawful f → (n : IsNode f s p here t low high)
       → HasTakenLeast f s s1 n.right (f.rank n.row + 1) high y rest b1 b2
-      → left ≡ f.left here → Splits f s1 left p y rest
-  Splits-root {low = low} {high} laws n sub on_left =
+      → left ≡ f.left here → right ≡ root_after rest (f.right here) → Splits f s1 left p y right
+  Splits-root {low = low} {high} laws n sub on_left on_right =
       record {
         left_tree = n.left;
         right_tree = without_least f n.right;
@@ -180,27 +205,27 @@ module _ {R : Type 0} (f : Functions R) where
         high = high;
         split = IsSplit-Same f sub.row (split_root laws n sub);
         left_is = left_again f n refl on_left;
-        right_is = sub.root;
+        right_is = rooted-link f n.right sub.rooted n.right_standing.is_at ∙ sym on_right;
       }
 
   pub take_root-node :
-      {s s1 s2 : Slab R} {p q : ℕ} {here y : R} {t : Tree R} {low high before b1 b2 after root : ℕ} {left rest : Option ℕ}
+      {s s1 s2 : Slab R} {p q : ℕ} {here y : R} {t : Tree R} {low high before b1 b2 after root : ℕ} {left right : Option ℕ} {rest : Change}
       → AreLawful f → (n : IsNode f s p here t low high) → f.right here ≡ Some q
       → HasTakenLeast f s s1 n.right (f.rank n.row + 1) high y rest b1 b2
-      → left ≡ f.left here → Balances f s1 s2 p y left rest root
+      → left ≡ f.left here → right ≡ root_after rest (f.right here) → Balances f s1 s2 p y left right root
       → slab_len s2 ≡ slab_len s1 → b1 ≤ before + 1 → after ≤ b2 + 11
       → HasTakenRoot f s s2 t low high (Some root) before after
-  take_root-node {s} {s1} {s2} {p} {q} {here} {y} {t} {low} {high} laws n some sub on_left balance len g1 g2 =
+  take_root-node {s} {s1} {s2} {p} {q} {here} {y} {t} {low} {high} laws n some sub on_left on_right balance len g1 g2 =
       let node = is_leaf-some n.right q (n.right_standing.is_at ∙ some) in
       let is : without_root f t ≡ balanced f n.left p (least f n.right y) (without_least f n.right) = ap (without_root f) n.is ∙ without_root-node n.left p n.row n.right y node in
-      let made = balance n.left _ _ low high (split_root laws n sub) sub.row (left_again f n refl on_left) sub.root in
+      let made = balance n.left _ _ low high (split_root laws n sub) sub.row (left_again f n refl on_left) (rooted-link f n.right sub.rooted n.right_standing.is_at ∙ sym on_right) in
       record {
         becomes = Becomes-right f n (record { spelled = sub.spelled; ordered = IsOrdered-least sub; kept = sub.kept }) (subst (λ u. Becomes f s1 s2 u low high) (sym is) made.0);
         root = ap place_of is ∙ made.1;
         len = omega (arith, len, sub.len);
         steps = omega (arith, sub.steps, height-right f n);
       } where
-        IsOrdered-least : {s s1 : Slab R} {t : Tree R} {low high b1 b2 : ℕ} {y : R} {c : Option ℕ} → HasTakenLeast f s s1 t low high y c b1 b2 → IsOrdered f low high (without_least f t)
+        IsOrdered-least : {s s1 : Slab R} {t : Tree R} {low high b1 b2 : ℕ} {y : R} {c : Change} → HasTakenLeast f s s1 t low high y c b1 b2 → IsOrdered f low high (without_least f t)
         IsOrdered-least {s} {s1} {t} {low} {high} {y = y} h = Rattle.balanced_tree.proofs.Spelling.IsOrdered-wider f low (f.rank (least f t y) + 1) high high (without_least f t) (omega (arith, h.from_low)) (omega arith) h.ordered
 
   pub removed-left : (m : ℕ) (l : Tree R) (p : ℕ) (x : R) (r : Tree R) → m < f.rank x → removed f m (Node l p x r) ≡ balanced f (removed f m l) p x r
@@ -220,40 +245,74 @@ module _ {R : Type 0} (f : Functions R) where
   removed-leaf m = refl
 
   pub remove-left :
-      {s s1 s2 : Slab R} {p m : ℕ} {here again : R} {t : Tree R} {low high before b1 b2 b3 after root : ℕ} {y : Option R} {left right : Option ℕ}
+      {s s1 s2 : Slab R} {p m : ℕ} {here again : R} {t : Tree R} {low high before b1 b2 b3 after : ℕ} {y : Option R} {left right : Option ℕ} {part change : Change}
       → AreLawful f → (n : IsNode f s p here t low high) → m < f.rank here
-      → HasRemoved f s s1 m n.left low (f.rank n.row) y left b1 b2
-      → get s1 p ≡ Some again → right ≡ f.right again → Balances f s1 s2 p again left right root
+      → HasRemoved f s s1 m n.left low (f.rank n.row) y part b1 b2 → part ≡ Root left
+      → get s1 p ≡ Some again → right ≡ f.right again → Rebalances f s1 s2 p again left right change
       → slab_len s2 ≡ slab_len s1 → b1 ≤ before + 1 → b3 ≤ b2 + 1 → after ≤ b3 + 11
-      → HasRemoved f s s2 m t low high y (Some root) before after
-  remove-left {s1 = s1} {s2} {p} {m} {low = low} {high} laws n less sub e on_right balance len g1 g2 g3 =
+      → HasRemoved f s s2 m t low high y change before after
+  remove-left {s1 = s1} {s2} {p} {m} {low = low} {high} {left = left} laws n less sub is_root e on_right balance len g1 g2 g3 =
       let again_is = again_left f n sub.becomes.kept e in
-      let made = balance _ n.row n.right low high (split_left f n laws sub.becomes) (same_again f n again_is) sub.root (right_again f n again_is on_right) in
+      let made = balance _ n.row n.right low high (split_left f n laws sub.becomes) (same_again f n again_is) (sub.rooted.root left is_root) (right_again f n again_is on_right) in
       let is = ap (removed f m) n.is ∙ removed-left m n.left p n.row n.right (omega (arith, rank_here f n)) in
       record {
         becomes = Becomes-left f n sub.becomes (subst (λ u. Becomes f s1 s2 u low high) (sym is) made.0);
         row = sub.row ∙ sym (row_in-left f n m less);
-        root = ap place_of is ∙ made.1;
+        rooted = rooted-again f laws n again_is is made.1;
         len = omega (arith, len, sub.len, ap {B = ℕ} (λ b. cond b 1 0) (has_rank-left f n m less));
         steps = omega (arith, sub.steps, height-left f n);
       }
 
   pub remove-right :
-      {s s1 s2 : Slab R} {p m : ℕ} {here again : R} {t : Tree R} {low high before b1 b2 b3 after root : ℕ} {y : Option R} {left right : Option ℕ}
+      {s s1 s2 : Slab R} {p m : ℕ} {here again : R} {t : Tree R} {low high before b1 b2 b3 after : ℕ} {y : Option R} {left right : Option ℕ} {part change : Change}
       → AreLawful f → (n : IsNode f s p here t low high) → f.rank here < m
-      → HasRemoved f s s1 m n.right (f.rank n.row + 1) high y right b1 b2
-      → get s1 p ≡ Some again → left ≡ f.left again → Balances f s1 s2 p again left right root
+      → HasRemoved f s s1 m n.right (f.rank n.row + 1) high y part b1 b2 → part ≡ Root right
+      → get s1 p ≡ Some again → left ≡ f.left again → Rebalances f s1 s2 p again left right change
       → slab_len s2 ≡ slab_len s1 → b1 ≤ before + 1 → b3 ≤ b2 + 1 → after ≤ b3 + 11
-      → HasRemoved f s s2 m t low high y (Some root) before after
-  remove-right {s1 = s1} {s2} {p} {m} {low = low} {high} laws n more sub e on_left balance len g1 g2 g3 =
+      → HasRemoved f s s2 m t low high y change before after
+  remove-right {s1 = s1} {s2} {p} {m} {low = low} {high} {right = right} laws n more sub is_root e on_left balance len g1 g2 g3 =
       let again_is = again_right f n sub.becomes.kept e in
-      let made = balance n.left n.row _ low high (split_right f n laws sub.becomes) (same_again f n again_is) (left_again f n again_is on_left) sub.root in
+      let made = balance n.left n.row _ low high (split_right f n laws sub.becomes) (same_again f n again_is) (left_again f n again_is on_left) (sub.rooted.root right is_root) in
       let is = ap (removed f m) n.is ∙ removed-right m n.left p n.row n.right (omega (arith, rank_here f n)) in
       record {
         becomes = Becomes-right f n sub.becomes (subst (λ u. Becomes f s1 s2 u low high) (sym is) made.0);
         row = sub.row ∙ sym (row_in-right f n m more);
-        root = ap place_of is ∙ made.1;
+        rooted = rooted-again f laws n again_is is made.1;
         len = omega (arith, len, sub.len, ap {B = ℕ} (λ b. cond b 1 0) (has_rank-right f n m more));
+        steps = omega (arith, sub.steps, height-right f n);
+      }
+
+  pub remove-left_hidden :
+      {s s1 : Slab R} {p m : ℕ} {here : R} {t : Tree R} {low high before b1 b2 : ℕ} {y : Option R} {part : Change}
+      → AreLawful f → (n : IsNode f s p here t low high) → m < f.rank here
+      → HasRemoved f s s1 m n.left low (f.rank n.row) y part b1 b2 → part ≡ Hidden → b1 ≤ before + 1
+      → HasRemoved f s s1 m t low high y Hidden before b2
+  remove-left_hidden {s} {s1} {p} {m} {t = t} {low} {high} laws n less sub is_hidden g =
+      let like = sub.rooted.hidden is_hidden in
+      let is = ap (removed f m) n.is ∙ removed-left m n.left p n.row n.right (omega (arith, rank_here f n)) ∙ even-left f laws n (removed f m n.left) like in
+      let still = still-left f laws n sub.becomes.spelled sub.becomes.ordered sub.becomes.kept like in
+      record {
+        becomes = subst (λ u. Becomes f s s1 u low high) (sym is) (becomes-still f still);
+        row = sub.row ∙ sym (row_in-left f n m less);
+        rooted = subst (λ u. IsRooted f (child_of f t) u Hidden) (sym is) (rooted-hidden f still.like);
+        len = omega (arith, sub.len, ap {B = ℕ} (λ b. cond b 1 0) (has_rank-left f n m less));
+        steps = omega (arith, sub.steps, height-left f n);
+      }
+
+  pub remove-right_hidden :
+      {s s1 : Slab R} {p m : ℕ} {here : R} {t : Tree R} {low high before b1 b2 : ℕ} {y : Option R} {part : Change}
+      → AreLawful f → (n : IsNode f s p here t low high) → f.rank here < m
+      → HasRemoved f s s1 m n.right (f.rank n.row + 1) high y part b1 b2 → part ≡ Hidden → b1 ≤ before + 1
+      → HasRemoved f s s1 m t low high y Hidden before b2
+  remove-right_hidden {s} {s1} {p} {m} {t = t} {low} {high} laws n more sub is_hidden g =
+      let like = sub.rooted.hidden is_hidden in
+      let is = ap (removed f m) n.is ∙ removed-right m n.left p n.row n.right (omega (arith, rank_here f n)) ∙ even-right f laws n (removed f m n.right) like in
+      let still = still-right f laws n sub.becomes.spelled sub.becomes.ordered sub.becomes.kept like in
+      record {
+        becomes = subst (λ u. Becomes f s s1 u low high) (sym is) (becomes-still f still);
+        row = sub.row ∙ sym (row_in-right f n m more);
+        rooted = subst (λ u. IsRooted f (child_of f t) u Hidden) (sym is) (rooted-hidden f still.like);
+        len = omega (arith, sub.len, ap {B = ℕ} (λ b. cond b 1 0) (has_rank-right f n m more));
         steps = omega (arith, sub.steps, height-right f n);
       }
 
@@ -261,23 +320,23 @@ module _ {R : Type 0} (f : Functions R) where
       {s s1 : Slab R} {p m : ℕ} {here : R} {t : Tree R} {low high before b1 after : ℕ} {y : Option R} {root : Option ℕ}
       → (n : IsNode f s p here t low high) → f.rank here ≤ m → m ≤ f.rank here → y ≡ Some (plain f here)
       → HasTakenRoot f s s1 t low high root b1 after → b1 ≤ before + 1
-      → HasRemoved f s s1 m t low high y root before after
+      → HasRemoved f s s1 m t low high y (Root root) before after
   remove-here {s} {s1} {p} {m} {here} {t} {low} {high} n g h row_is sub g1 =
       let is : removed f m t ≡ without_root f t = ap (removed f m) n.is ∙ removed-here m n.left p n.row n.right (omega (arith, rank_here f n)) ∙ ap (without_root f) (sym n.is) in
       record {
         becomes = subst (λ u. Becomes f s s1 u low high) (sym is) sub.becomes;
         row = row_is ∙ sym (row_in-here f n m g h);
-        root = ap place_of is ∙ sub.root;
+        rooted = rooted-at f (ap place_of is ∙ sub.root);
         len = omega (arith, sub.len, ap {B = ℕ} (λ b. cond b 1 0) (has_rank-here f n m g h));
         steps = omega (arith, sub.steps);
       }
 
-  pub remove-leaf : {s : Slab R} {m low high before : ℕ} (t : Tree R) → IsStanding f s None t low high → HasRemoved f s s m t low high None None before before
+  pub remove-leaf : {s : Slab R} {m low high before : ℕ} (t : Tree R) → IsStanding f s None t low high → HasRemoved f s s m t low high None Hidden before before
   remove-leaf {s} {m} {low} {high} Leaf h =
       record {
         becomes = subst (λ u. Becomes f s s u low high) (sym (removed-leaf m)) (record { spelled = tt; ordered = h.ordered; kept = Keeps-refl f low high s });
         row = refl;
-        root = ap place_of (removed-leaf m);
+        rooted = rooted-hidden f (like-same f (ap (child_of f) (sym (removed-leaf m))));
         len = omega arith;
         steps = omega arith;
       }

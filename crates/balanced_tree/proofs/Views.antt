@@ -1,12 +1,14 @@
 -- The rows that a slab and a link show are those of the tree that stands there.
 use Rattle.std.proofs.Common.{◌≡◌, ℕ, zero, suc, ◌+◌, ◌-◌, ◌*◌, ◌<◌, ◌≤◌, ◌^◌, true, false, [], length, Option, None, Some, is_some, IsSome, IsNone, slice_index_or, count_by, refl, sym, ap, ◌∙◌, subst, arith}
 use Rattle.slab.specs.Slab.{Slab, slab_len}
+use Rattle.balanced_tree.specs.declared.changes.Change.{Change}
 use Rattle.balanced_tree.specs.Row.{Functions, AreLawful, plain}
 use Rattle.balanced_tree.specs.Rows.{if_at, row_at, row_from, row_to, with_row, without_rank, AreAllBeside, IsRising}
 use Rattle.balanced_tree.specs.inside.Tree.{Tree, Leaf, Node, place_of, height, child_of, rows_of, has_rank, row_in, found, inserted, removed, moved, AreBeside}
-use Rattle.balanced_tree.specs.inside.Standing.{Spells, IsStanding, HasInserted, HasRemoved, HasMoved, height_at, rows_down, rows_in, IsTree}
+use Rattle.balanced_tree.specs.inside.Standing.{root_after, Spells, IsStanding, HasInserted, HasRemoved, HasMoved, height_at, rows_down, rows_in, IsTree}
 use Rattle.balanced_tree.proofs.Spelling.{link_of-child_of, child_at-place_of}
 use Rattle.balanced_tree.proofs.Nodes.{height_at-standing}
+use Rattle.balanced_tree.proofs.Hiding.{rooted-link}
 use Rattle.balanced_tree.proofs.TreeLaws.{IsGrown, IsShrunk, grown-inserted, shrunk-removed, place-moved, height-moved, balanced-moved, length-moved}
 use Rattle.balanced_tree.proofs.RowLaws.{option_or-none, rises-rows, rows-inserted, rows-removed, rows-moved, beside-rows, found-row_from, found-row_to, row_in-row_at, length-inserted, length-removed, row_at-row_from}
 use Rattle.balanced_tree.proofs.Costs.{height-short, look_cost, change_cost}
@@ -40,7 +42,7 @@ module _ {R : Type 0} (f : Functions R) (laws : AreLawful f) where
       let len : slab_len s ≡ 0 = ap (λ u. count_by is_some u) none in
       record {
         tree = Leaf;
-        standing = record { spelled = tt; is_at = refl; ordered = omega arith; short = omega arith };
+        standing = record { spelled = tt; is_at = refl; ordered = omega arith; short = omega arith; balanced = tt };
         balanced = tt;
         count = len;
         holds = omega arith;
@@ -54,7 +56,7 @@ module _ {R : Type 0} (f : Functions R) (laws : AreLawful f) where
 
   roomy_standing : {s s1 : Slab R} {root : Option ℕ} → s1.slots ≡ s.slots → (h : IsTree f s root) → IsStanding f s1 root h.tree 0 (2 ^ 128)
   roomy_standing {s} {s1} same h =
-      record { spelled = Spells-slots s s1 h.tree same h.standing.spelled; is_at = h.standing.is_at; ordered = h.standing.ordered; short = h.standing.short }
+      record { spelled = Spells-slots s s1 h.tree same h.standing.spelled; is_at = h.standing.is_at; ordered = h.standing.ordered; short = h.standing.short; balanced = h.balanced }
 
   pub IsTree-roomy : {s s1 : Slab R} {root : Option ℕ} → s1.slots ≡ s.slots → slab_len s1 ≤ s1.capacity → s1.capacity < 2 ^ 64 → IsTree f s root → IsTree f s1 root
   IsTree-roomy {s} {s1} same holds fits h =
@@ -96,14 +98,21 @@ module _ {R : Type 0} (f : Functions R) (laws : AreLawful f) where
   height-IsTree : {s : Slab R} {root : Option ℕ} → (h : IsTree f s root) → height h.tree < 2 ^ 31 - 1
   height-IsTree h = height-short f h.tree h.balanced (omega (arith, h.count, h.holds, h.fits))
 
-  module _ {s s1 : Slab R} {root : Option ℕ} (w : R) {c before after : ℕ} (h : IsTree f s root) (made : HasInserted f s s1 w h.tree 0 (2 ^ 128) c before after) where
+  module _ {s s1 : Slab R} {root link : Option ℕ} (w : R) {c : Change} {before after : ℕ} (h : IsTree f s root) (made : HasInserted f s s1 w h.tree 0 (2 ^ 128) c before after) (link_is : link ≡ root_after c root) where
     grown : IsGrown f h.tree (inserted f s.vacant_key w h.tree)
     grown = grown-inserted f laws s.vacant_key w h.tree h.balanced (omega (arith, height-IsTree h))
 
-    inserted_standing : IsStanding f s1 (Some c) (inserted f s.vacant_key w h.tree) 0 (2 ^ 128)
-    inserted_standing = record { spelled = made.becomes.spelled; is_at = made.root; ordered = made.becomes.ordered; short = omega (arith, grown.at_most, height-IsTree h) }
+    inserted_standing : IsStanding f s1 link (inserted f s.vacant_key w h.tree) 0 (2 ^ 128)
+    inserted_standing =
+        record {
+          spelled = made.becomes.spelled;
+          is_at = rooted-link f h.tree made.rooted h.standing.is_at ∙ sym link_is;
+          ordered = made.becomes.ordered;
+          short = omega (arith, grown.at_most, height-IsTree h);
+          balanced = grown.good;
+        }
 
-    pub IsTree-inserted : s1.capacity ≡ s.capacity → slab_len s1 ≤ s.capacity → IsTree f s1 (Some c)
+    pub IsTree-inserted : s1.capacity ≡ s.capacity → slab_len s1 ≤ s.capacity → IsTree f s1 link
     IsTree-inserted same holds =
         record {
           tree = inserted f s.vacant_key w h.tree;
@@ -114,11 +123,11 @@ module _ {R : Type 0} (f : Functions R) (laws : AreLawful f) where
           fits = omega (arith, h.fits);
         }
 
-    pub rows-IsTree_inserted : (rows_in f s1 (Some c)).rows ≡ with_row f (plain f w) (rows_in f s root).rows
+    pub rows-IsTree_inserted : (rows_in f s1 link).rows ≡ with_row f (plain f w) (rows_in f s root).rows
     rows-IsTree_inserted =
         rows_in-standing inserted_standing ∙ rows-inserted f laws s.vacant_key w 0 (2 ^ 128) h.tree h.standing.ordered ∙ ap (with_row f (plain f w)) (sym (rows_in-standing h.standing))
 
-  module _ {s s1 : Slab R} {root link : Option ℕ} (n : ℕ) {y : Option R} {before after : ℕ} (h : IsTree f s root) (made : HasRemoved f s s1 n h.tree 0 (2 ^ 128) y link before after) where
+  module _ {s s1 : Slab R} {root link : Option ℕ} (n : ℕ) {y : Option R} {c : Change} {before after : ℕ} (h : IsTree f s root) (made : HasRemoved f s s1 n h.tree 0 (2 ^ 128) y c before after) (link_is : link ≡ root_after c root) where
     shrunk : IsShrunk f h.tree (removed f n h.tree)
     shrunk = shrunk-removed f laws n h.tree h.balanced (omega (arith, height-IsTree h))
 
@@ -126,9 +135,10 @@ module _ {R : Type 0} (f : Functions R) (laws : AreLawful f) where
     removed_standing =
         record {
           spelled = made.becomes.spelled;
-          is_at = made.root;
+          is_at = rooted-link f h.tree made.rooted h.standing.is_at ∙ sym link_is;
           ordered = made.becomes.ordered;
           short = omega (arith, shrunk.at_most, height-IsTree h);
+          balanced = shrunk.good;
         }
 
     pub IsTree-removed : s1.capacity ≡ s.capacity → IsTree f s1 link
@@ -149,7 +159,7 @@ module _ {R : Type 0} (f : Functions R) (laws : AreLawful f) where
     pub row_at-removed : row_at f n (rows_in f s root).rows ≡ y
     row_at-removed = sym (made.row ∙ row_in-IsTree n h)
 
-  module _ {s s1 : Slab R} {root : Option ℕ} (n : ℕ) (w : R) {before after : ℕ} (h : IsTree f s root) (made : HasMoved f s s1 n w h.tree 0 (2 ^ 128) before after) where
+  module _ {s s1 : Slab R} {root : Option ℕ} (n : ℕ) (w : R) {c : Change} {before after : ℕ} (h : IsTree f s root) (made : HasMoved f s s1 n w h.tree 0 (2 ^ 128) c before after) where
     moved_standing : IsStanding f s1 root (moved f n w h.tree) 0 (2 ^ 128)
     moved_standing =
         record {
@@ -157,6 +167,7 @@ module _ {R : Type 0} (f : Functions R) (laws : AreLawful f) where
           is_at = place-moved f n w h.tree ∙ h.standing.is_at;
           ordered = made.becomes.ordered;
           short = omega (arith, height-moved f n w h.tree, h.standing.short);
+          balanced = balanced-moved f n w h.tree h.balanced;
         }
 
     pub IsTree-moved : s1.capacity ≡ s.capacity → IsTree f s1 root

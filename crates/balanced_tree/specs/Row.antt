@@ -38,3 +38,11 @@ pub record AreLawful {R : Type 0} (f : Functions R) : Type 0 where
   pub right_set : (x : R) (l r : Option (Child R)) → f.right (f.linked x l r) ≡ link_of r
   pub height_set : (x : R) (l r : Option (Child R)) → f.height (f.linked x l r) ≡ height_over f.height l r
   pub forgets : (x : R) (a b l r : Option (Child R)) → f.linked (f.linked x a b) l r ≡ f.linked x l r
+
+-- Rows are stored over the one row as over the other, where the two stand under the same link.
+pub record AreAlike {R : Type 0} (f : Functions R) (x y : R) : Type 0 where
+  pub height : f.height x ≡ f.height y
+  pub left : (z : R) (p : ℕ) (r : Option (Child R))
+      → f.linked z (Some (record { link = p; row = x })) r ≡ f.linked z (Some (record { link = p; row = y })) r
+  pub right : (z : R) (p : ℕ) (l : Option (Child R))
+      → f.linked z l (Some (record { link = p; row = x })) ≡ f.linked z l (Some (record { link = p; row = y }))

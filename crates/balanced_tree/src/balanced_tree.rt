@@ -6,6 +6,7 @@ ghost use Rattle.balanced_tree.specs.Gaps.{AreApart, HasNoGap, IsFirstGap};
 ghost use Rattle.balanced_tree.specs.Row.{plain};
 ghost use Rattle.balanced_tree.specs.Rows.{if_at, row_at, row_from, row_to, with_row, without_rank, AreAllBeside, IsRising};
 
+use crate::changes::root_after;
 use crate::descent::{find_below, first_below};
 use crate::extent_row::ExtentRow;
 use crate::gaps::gap_below;
@@ -118,8 +119,8 @@ impl<R: TreeRow> BalancedTree<R> {
         ensures cost { 2 ^ (steps.new - steps.old) ≤ (length self.old.rows + 2) ^ 32 }
     {
         let _rank = row.rank();
-        let root = insert_below(&mut self.rows, self.root, &row, steps);
-        self.root = Some(root);
+        let change = insert_below(&mut self.rows, self.root, &row, steps);
+        self.root = root_after(change, self.root);
     }
 
     /// Puts a row in place of the one of its rank, under the place in the slab where that one stood.
@@ -156,7 +157,8 @@ impl<R: TreeRow> BalancedTree<R> {
         ensures cost { 2 ^ (steps.new - steps.old) ≤ (length self.old.rows + 2) ^ 32 }
     {
         let mut taken = None;
-        self.root = remove_below(&mut self.rows, self.root, rank, &mut taken, steps);
+        let change = remove_below(&mut self.rows, self.root, rank, &mut taken, steps);
+        self.root = root_after(change, self.root);
         let Some(row) = taken else { unreachable!() };
         row
     }

@@ -4,20 +4,21 @@ ghost use Rattle.std.specs.Prelude.{◌≡◌, ℕ, ◌<◌, ◌≤◌};
 ghost use Rattle.balanced_tree.specs.inside.Tree.{Tree};
 ghost use Rattle.balanced_tree.specs.inside.Standing.{IsStanding, StandsFor, HasInserted};
 
-use crate::rotation::{balance, put_over};
+use crate::changes::Change;
+use crate::rotation::{put_over, rebalance};
 use crate::row_slab::RowSlab;
 use crate::steps::Steps;
 use crate::tree_row::TreeRow;
 use std::sync::ledger::Ledger;
 
-/// Puts a row into the tree under a link, in place of the row of its rank if there is one, and answers the link to the
-/// root.
+/// Puts a row into the tree under a link, in place of the row of its rank if there is one, and answers what the row above
+/// the tree has to store anew. On the way back up nothing is done above the first row that hides the change.
 pub fn insert_below<R: TreeRow, L: Ledger>(
     rows: &mut RowSlab<R>,
     at: Option<usize>,
     row: &R,
     steps: &mut Steps<L>,
-) -> usize
+) -> Change
     requires { StandsFor R.functions rows.old at (R.functions.rank row.now) }
     ensures inserted { (t : Tree R) (low high : ℕ) → IsStanding R.functions rows.old at t low high
         → low ≤ R.functions.rank row.now → R.functions.rank row.now < high
@@ -25,23 +26,31 @@ pub fn insert_below<R: TreeRow, L: Ledger>(
     ensures capacity { rows.new.capacity ≡ rows.old.capacity }
 {
     let Some(place) = at else {
-        return rows.add(row.linked(None, None), steps);
+        return Change::Root(Some(rows.add(row.linked(None, None), steps)));
     };
     let here = rows.look(place, steps);
     let rank = row.rank();
     let there = here.rank();
     if rank < there {
         let below = here.left();
-        let left = insert_below(rows, below, row, steps);
-        let here = rows.row(place, steps);
-        balance(rows, place, here, Some(left), here.right(), steps)
+        match insert_below(rows, below, row, steps) {
+            Change::Hidden => Change::Hidden,
+            Change::Root(left) => {
+                let here = rows.row(place, steps);
+                rebalance(rows, place, here, left, here.right(), steps)
+            }
+        }
     } else if there < rank {
         let below = here.right();
-        let right = insert_below(rows, below, row, steps);
-        let here = rows.row(place, steps);
-        balance(rows, place, here, here.left(), Some(right), steps)
+        match insert_below(rows, below, row, steps) {
+            Change::Hidden => Change::Hidden,
+            Change::Root(right) => {
+                let here = rows.row(place, steps);
+                rebalance(rows, place, here, here.left(), right, steps)
+            }
+        }
     } else {
         let (left, right) = (here.left(), here.right());
-        put_over(rows, place, *row, left, right, steps)
+        Change::Root(Some(put_over(rows, place, *row, left, right, steps)))
     }
 }

@@ -8,6 +8,7 @@
 #![tactic(auto)]
 
 mod balanced_tree;
+mod changes;
 mod children;
 mod descent;
 mod extent_row;

@@ -4,43 +4,55 @@ ghost use Rattle.std.specs.Prelude.{◌≡◌, ℕ, ◌<◌, ◌≤◌};
 ghost use Rattle.balanced_tree.specs.inside.Tree.{Tree, AreBeside};
 ghost use Rattle.balanced_tree.specs.inside.Standing.{IsStanding, StandsBeside, HasMoved};
 
-use crate::rotation::put_over;
+use crate::changes::Change;
+use crate::rotation::{change_from, put_again, put_over};
 use crate::row_slab::RowSlab;
 use crate::steps::Steps;
 use crate::tree_row::TreeRow;
 use std::sync::ledger::Ledger;
 
 /// Puts a row in place of the one of this rank in the tree under a link, if there is one. No row of the tree has a rank
-/// between the two, so each row keeps its place and its height.
+/// between the two, so each row keeps its place and its height. Answers what the row above the tree has to store anew.
 pub fn move_below<R: TreeRow, L: Ledger>(
     rows: &mut RowSlab<R>,
     at: Option<usize>,
     rank: u128,
     row: &R,
     steps: &mut Steps<L>,
-)
+) -> Change
     requires { StandsBeside R.functions rows.old at rank (R.functions.rank row.now) }
     ensures moved { (t : Tree R) (low high : ℕ) → IsStanding R.functions rows.old at t low high
         → AreBeside R.functions rank (R.functions.rank row.now) t
         → low ≤ R.functions.rank row.now → R.functions.rank row.now < high
-        → HasMoved R.functions rows.old rows.new rank row.now t low high steps.old steps.new }
+        → HasMoved R.functions rows.old rows.new rank row.now t low high result steps.old steps.new }
     ensures capacity { rows.new.capacity ≡ rows.old.capacity }
 {
     let Some(place) = at else {
-        return;
+        return Change::Hidden;
     };
     let here = rows.look(place, steps);
     let there = here.rank();
     let (left, right) = (here.left(), here.right());
     if rank < there {
-        move_below(rows, left, rank, row, steps);
-        let again = rows.row(place, steps);
-        put_over(rows, place, again, left, right, steps);
+        match move_below(rows, left, rank, row, steps) {
+            Change::Hidden => Change::Hidden,
+            Change::Root(_) => {
+                let again = rows.row(place, steps);
+                put_again(rows, place, again, left, right, steps)
+            }
+        }
     } else if there < rank {
-        move_below(rows, right, rank, row, steps);
-        let again = rows.row(place, steps);
-        put_over(rows, place, again, left, right, steps);
+        match move_below(rows, right, rank, row, steps) {
+            Change::Hidden => Change::Hidden,
+            Change::Root(_) => {
+                let again = rows.row(place, steps);
+                put_again(rows, place, again, left, right, steps)
+            }
+        }
     } else {
+        let had = *here;
         put_over(rows, place, *row, left, right, steps);
+        let now = rows.row(place, steps);
+        change_from(place, had, now)
     }
 }

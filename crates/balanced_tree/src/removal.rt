@@ -4,17 +4,18 @@ ghost use Rattle.std.specs.Prelude.{◌≡◌, ℕ, Some};
 ghost use Rattle.balanced_tree.specs.inside.Tree.{Tree};
 ghost use Rattle.balanced_tree.specs.inside.Standing.{IsStanding, Stands, HasRemoved, HasTakenLeast, HasTakenRoot};
 
-use crate::rotation::balance;
+use crate::changes::{Change, root_after};
+use crate::rotation::{balance, rebalance};
 use crate::row_slab::RowSlab;
 use crate::steps::Steps;
 use crate::tree_row::TreeRow;
 use std::sync::ledger::Ledger;
 
-/// A row that was the first of a tree, and the link to the root of the rest.
+/// A row that was the first of a tree, and what the row above the tree has to store anew.
 #[derive(Drop)]
 struct Least<R> {
     row: R,
-    rest: Option<usize>,
+    rest: Change,
 }
 
 /// Takes the first row out of the tree at a place.
@@ -32,14 +33,23 @@ fn take_least<R: TreeRow, L: Ledger>(
     let Some(left) = here.left() else {
         let rest = here.right();
         let row = rows.take(place, steps);
-        return Least { row, rest };
+        return Least {
+            row,
+            rest: Change::Root(rest),
+        };
     };
-    let Least { row, rest } = take_least(rows, left, steps);
-    let here = rows.row(place, steps);
-    let root = balance(rows, place, here, rest, here.right(), steps);
-    Least {
-        row,
-        rest: Some(root),
+    let least = take_least(rows, left, steps);
+    let row = least.row;
+    match least.rest {
+        Change::Hidden => Least {
+            row,
+            rest: Change::Hidden,
+        },
+        Change::Root(left) => {
+            let here = rows.row(place, steps);
+            let rest = rebalance(rows, place, here, left, here.right(), steps);
+            Least { row, rest }
+        }
     }
 }
 
@@ -61,19 +71,20 @@ fn take_root<R: TreeRow, L: Ledger>(
         rows.take(place, steps);
         return left;
     };
-    let Least { row, rest: right } = take_least(rows, next, steps);
-    Some(balance(rows, place, row, left, right, steps))
+    let least = take_least(rows, next, steps);
+    let right = root_after(least.rest, Some(next));
+    Some(balance(rows, place, least.row, left, right, steps))
 }
 
-/// Takes the row of this rank out of the tree under a link, if there is one, and answers the link to the root. The row
-/// goes to `taken`, with no children.
+/// Takes the row of this rank out of the tree under a link, if there is one, and answers what the row above the tree has
+/// to store anew. The row goes to `taken`, with no children.
 pub fn remove_below<R: TreeRow, L: Ledger>(
     rows: &mut RowSlab<R>,
     at: Option<usize>,
     rank: u128,
     taken: &mut Option<R>,
     steps: &mut Steps<L>,
-) -> Option<usize>
+) -> Change
     requires { Stands R.functions rows.old at }
     ensures removed { (t : Tree R) (low high : ℕ) → IsStanding R.functions rows.old at t low high
         → HasRemoved R.functions rows.old rows.new rank t low high taken.new result steps.old steps.new }
@@ -81,22 +92,30 @@ pub fn remove_below<R: TreeRow, L: Ledger>(
 {
     let Some(place) = at else {
         *taken = None;
-        return None;
+        return Change::Hidden;
     };
     let here = rows.look(place, steps);
     let there = here.rank();
     if rank < there {
         let below = here.left();
-        let left = remove_below(rows, below, rank, taken, steps);
-        let here = rows.row(place, steps);
-        Some(balance(rows, place, here, left, here.right(), steps))
+        match remove_below(rows, below, rank, taken, steps) {
+            Change::Hidden => Change::Hidden,
+            Change::Root(left) => {
+                let here = rows.row(place, steps);
+                rebalance(rows, place, here, left, here.right(), steps)
+            }
+        }
     } else if there < rank {
         let below = here.right();
-        let right = remove_below(rows, below, rank, taken, steps);
-        let here = rows.row(place, steps);
-        Some(balance(rows, place, here, here.left(), right, steps))
+        match remove_below(rows, below, rank, taken, steps) {
+            Change::Hidden => Change::Hidden,
+            Change::Root(right) => {
+                let here = rows.row(place, steps);
+                rebalance(rows, place, here, here.left(), right, steps)
+            }
+        }
     } else {
         *taken = Some(here.linked(None, None));
-        take_root(rows, place, steps)
+        Change::Root(take_root(rows, place, steps))
     }
 }

@@ -1,13 +1,15 @@
 //! A row over its two children, with a rotation if their heights differ by two.
 
-ghost use Rattle.std.specs.Prelude.{◌≡◌, ℕ, ◌+◌, ◌^◌, ◌<◌, ◌≤◌, nat_lt, if◌then◌else◌, Some, None};
+ghost use Rattle.std.specs.Prelude.{◌≡◌, ℕ, ◌+◌, ◌^◌, ◌<◌, ◌≤◌, nat_lt, if◌then◌else◌, Option, Some, None};
+ghost use Rattle.balanced_tree.specs.declared.changes.Change.TheVariants.{Hidden, Root};
 ghost use Rattle.std.specs.Option.{ForSome};
 ghost use Rattle.slab.specs.Slab.{slab_len, ContainsKey, Updates};
-ghost use Rattle.balanced_tree.specs.Row.{height_in};
+ghost use Rattle.balanced_tree.specs.Row.{height_in, AreAlike};
 ghost use Rattle.balanced_tree.specs.inside.Tree.{Tree, place_of, leaned_right, leaned_left, balanced};
 ghost use Rattle.balanced_tree.specs.inside.Placing.{PlacesThree};
-ghost use Rattle.balanced_tree.specs.inside.Standing.{child_at, height_at, IsSplit, Splits, Becomes, Same};
+ghost use Rattle.balanced_tree.specs.inside.Standing.{child_at, height_at, IsSplit, Splits, Becomes, Same, IsRooted};
 
+use crate::changes::Change;
 use crate::children::Child;
 use crate::row_slab::RowSlab;
 use crate::steps::Steps;
@@ -89,6 +91,7 @@ fn if_higher<R: TreeRow>(child: Option<Child<R>>, other: Option<Child<R>>) -> Op
 }
 
 /// Puts a row under a place, over these children.
+#[inline(always)]
 fn place_over<R: TreeRow, L: Ledger>(
     rows: &mut RowSlab<R>,
     place: usize,
@@ -136,8 +139,9 @@ fn place_three<R: TreeRow, L: Ledger>(
     place_over(rows, top.link, top.row, Some(left), Some(right), steps).link
 }
 
-/// Puts a row under a place, over the children under these links, and answers the place.
-#[inline(always)]
+/// Puts a row under a place, over the children under these links, and answers the place. The function is not inlined: a
+/// change calls it at most once.
+#[inline(never)]
 pub fn put_over<R: TreeRow, L: Ledger>(
     rows: &mut RowSlab<R>,
     place: usize,
@@ -159,6 +163,48 @@ pub fn put_over<R: TreeRow, L: Ledger>(
     let left = child_under(rows, left, steps);
     let right = child_under(rows, right, steps);
     place_over(rows, place, row, left, right, steps).link
+}
+
+/// What the row above a place has to store anew, if a row stands there in place of another one.
+#[inline(always)]
+pub fn change_from<R: TreeRow>(place: usize, had: R, row: R) -> Change
+    ensures root { (q : Option ℕ) → result ≡ Root q → q ≡ Some place }
+    ensures hidden { result ≡ Hidden → AreAlike R.functions had row }
+{
+    if had.is_alike(row) {
+        Change::Hidden
+    } else {
+        Change::Root(Some(place))
+    }
+}
+
+/// Puts the row of a place there again, over the children under these links, and answers what the row above it has to
+/// store anew.
+#[inline(always)]
+pub fn put_again<R: TreeRow, L: Ledger>(
+    rows: &mut RowSlab<R>,
+    place: usize,
+    row: R,
+    left: Option<usize>,
+    right: Option<usize>,
+    steps: &mut Steps<L>,
+) -> Change
+    requires place { ContainsKey rows.old place }
+    requires left { ForSome left (ContainsKey rows.old) }
+    requires right { ForSome right (ContainsKey rows.old) }
+    ensures root { (q : Option ℕ) → result ≡ Root q → q ≡ Some place }
+    ensures hidden { result ≡ Hidden → AreAlike R.functions row
+        (R.functions.linked row (child_at rows.old left) (child_at rows.old right)) }
+    ensures updates { Updates rows.old rows.new place
+        (Some (R.functions.linked row (child_at rows.old left) (child_at rows.old right))) }
+    ensures len { slab_len rows.new ≡ slab_len rows.old }
+    ensures capacity { rows.new.capacity ≡ rows.old.capacity }
+    ensures steps { steps.new ≤ steps.old + 3 }
+{
+    let left = child_under(rows, left, steps);
+    let right = child_under(rows, right, steps);
+    let child = place_over(rows, place, row, left, right, steps);
+    change_from(place, row, child.row)
 }
 
 /// The row with the left child as its parent: the left child is too high.
@@ -267,4 +313,34 @@ pub fn balance<R: TreeRow, L: Ledger>(
         return lean_left(rows, place, row, left, right, steps);
     }
     put_over(rows, place, row, left, right, steps)
+}
+
+/// The row of a place over two children as `balance` puts it there. Answers what the row above it has to store anew.
+#[inline(always)]
+pub fn rebalance<R: TreeRow, L: Ledger>(
+    rows: &mut RowSlab<R>,
+    place: usize,
+    row: R,
+    left: Option<usize>,
+    right: Option<usize>,
+    steps: &mut Steps<L>,
+) -> Change
+    requires { Splits R.functions rows.old left place row right }
+    ensures tree { (l : Tree R) (x : R) (r : Tree R) (low high : ℕ) → IsSplit R.functions rows.old l place x r low high
+        → Same R.functions x row → place_of l ≡ left → place_of r ≡ right
+        → Becomes R.functions rows.old rows.new (balanced R.functions l place x r) low high
+        × IsRooted R.functions (Some (record { link = place; row = row })) (balanced R.functions l place x r) result }
+    ensures len { slab_len rows.new ≡ slab_len rows.old }
+    ensures capacity { rows.new.capacity ≡ rows.old.capacity }
+    ensures steps { steps.new ≤ steps.old + 11 }
+{
+    let left_height = height_under(rows, left, steps);
+    let right_height = height_under(rows, right, steps);
+    if right_height + 1 < left_height {
+        return Change::Root(Some(lean_right(rows, place, row, left, right, steps)));
+    }
+    if left_height + 1 < right_height {
+        return Change::Root(Some(lean_left(rows, place, row, left, right, steps)));
+    }
+    put_again(rows, place, row, left, right, steps)
 }

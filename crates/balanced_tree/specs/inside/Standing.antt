@@ -1,8 +1,10 @@
 -- How a tree stands in a slab, and what changes with a part of it.
 use Rattle.std.specs.Prelude.{◌≡◌, ◌⊎◌, ℕ, ◌+◌, ◌-◌, ◌*◌, ◌^◌, ◌<◌, ◌≤◌, cond, length, List, [], ◌∷◌, ◌++◌, zero, suc, IsTrue, Option, None, Some}
 use Rattle.slab.specs.Slab.{Slab, get, slab_len, HasRoomFor}
+use Rattle.balanced_tree.specs.declared.changes.Change.{Change}
+use Rattle.balanced_tree.specs.declared.changes.Change.TheVariants.{Hidden, Root}
 use Rattle.balanced_tree.specs.declared.children.Child.{Child}
-use Rattle.balanced_tree.specs.Row.{Functions, height_in, plain}
+use Rattle.balanced_tree.specs.Row.{Functions, link_of, height_in, plain}
 use Rattle.balanced_tree.specs.Rows.{Rows}
 use Rattle.balanced_tree.specs.inside.Tree.{Tree, Leaf, Node, place_of, height, IsBalanced, child_of, rows_of, IsOrdered, has_rank, row_in, inserted, removed, least, without_least, without_root, moved, AreBeside}
 
@@ -21,7 +23,24 @@ module _ {R : Type 0} where
   abbrev pub spare_in : Slab R → ℕ
   spare_in s = s.capacity - slab_len s
 
+-- the link to the root after a change
+abbrev pub root_after : Change → Option ℕ → Option ℕ
+root_after Hidden before = before
+root_after (Root link) before = link
+
 module _ {R : Type 0} (f : Functions R) where
+  -- rows are stored over the one child as over the other
+  pub record IsLike (a b : Option (Child R)) : Type 0 where
+    pub link : link_of a ≡ link_of b
+    pub height : height_in f.height a ≡ height_in f.height b
+    pub left : (z : R) (r : Option (Child R)) → f.linked z a r ≡ f.linked z b r
+    pub right : (z : R) (l : Option (Child R)) → f.linked z l a ≡ f.linked z l b
+
+  -- the change names the link to the root of the tree, or hides that it is another than the child that was there
+  pub record IsRooted (had : Option (Child R)) (t : Tree R) (change : Change) : Type 0 where
+    pub root : (q : Option ℕ) → change ≡ Root q → place_of t ≡ q
+    pub hidden : change ≡ Hidden → IsLike had (child_of f t)
+
   -- under each place of the tree stands its row over its parts
   abbrev pub Spells : Slab R → Tree R → Type 0
   Spells s Leaf = Unit {0}
@@ -32,13 +51,14 @@ module _ {R : Type 0} (f : Functions R) where
     pub linked : (l r : Option (Child R)) → f.linked y l r ≡ f.linked x l r
     pub rank : f.rank y ≡ f.rank x
 
-  -- under this link stands this tree, with ranks from low on and below high; its height is less than a stored height
-  -- can be
+  -- under this link stands this balanced tree, with ranks from low on and below high; its height is less than a stored
+  -- height can be
   pub record IsStanding (s : Slab R) (at : Option ℕ) (t : Tree R) (low high : ℕ) : Type 0 where
     pub spelled : Spells s t
     pub is_at : place_of t ≡ at
     pub ordered : IsOrdered f low high t
     pub short : height t < 2 ^ 32
+    pub balanced : IsBalanced t
 
   -- some tree stands under this link
   pub record Stands (s : Slab R) (at : Option ℕ) : Type 0 where
@@ -103,38 +123,41 @@ module _ {R : Type 0} (f : Functions R) where
     pub left_is : place_of left_tree ≡ left
     pub right_is : place_of right_tree ≡ right
 
-  -- The new slab has the tree with the row w, and c is the link to its root. If no row had the rank of w, it has one
-  -- row more. The count of steps went from `before` to `after`.
-  pub record HasInserted (old new : Slab R) (w : R) (t : Tree R) (low high c : ℕ)
+  -- The new slab has the tree with the row w, and c is what the row above it stores anew. If no row had the rank of w,
+  -- it has one row more. The count of steps went from `before` to `after`.
+  pub record HasInserted (old new : Slab R) (w : R) (t : Tree R) (low high : ℕ) (c : Change)
       (before after : ℕ) : Type 0 where
     pub becomes : Becomes old new (inserted f old.vacant_key w t) low high
-    pub root : place_of (inserted f old.vacant_key w t) ≡ Some c
+    pub rooted : IsRooted (child_of f t) (inserted f old.vacant_key w t) c
     pub len : slab_len new ≡ slab_len old + cond (has_rank f (f.rank w) t) 0 1
     pub steps : after ≤ before + 13 * height t + 1
 
-  -- The new slab has the tree with the row w in place of that of rank n. The count of steps went from `before` to `after`.
-  pub record HasMoved (old new : Slab R) (n : ℕ) (w : R) (t : Tree R) (low high before after : ℕ) : Type 0 where
+  -- The new slab has the tree with the row w in place of that of rank n, and c is what the row above it stores anew. The
+  -- count of steps went from `before` to `after`.
+  pub record HasMoved (old new : Slab R) (n : ℕ) (w : R) (t : Tree R) (low high : ℕ) (c : Change)
+      (before after : ℕ) : Type 0 where
     pub becomes : Becomes old new (moved f n w t) low high
+    pub rooted : IsRooted (child_of f t) (moved f n w t) c
     pub len : slab_len new ≡ slab_len old
     pub steps : after ≤ before + 13 * height t
 
-  -- The new slab has the tree without the row of rank n, which is y with no children, and c is the link to its root. It
-  -- has a row less where a row had this rank.
-  pub record HasRemoved (old new : Slab R) (n : ℕ) (t : Tree R) (low high : ℕ) (y : Option R) (c : Option ℕ)
+  -- The new slab has the tree without the row of rank n, which is y with no children, and c is what the row above it
+  -- stores anew. It has a row less where a row had this rank.
+  pub record HasRemoved (old new : Slab R) (n : ℕ) (t : Tree R) (low high : ℕ) (y : Option R) (c : Change)
       (before after : ℕ) : Type 0 where
     pub becomes : Becomes old new (removed f n t) low high
     pub row : y ≡ row_in f n t
-    pub root : place_of (removed f n t) ≡ c
+    pub rooted : IsRooted (child_of f t) (removed f n t) c
     pub len : slab_len new + cond (has_rank f n t) 1 0 ≡ slab_len old
     pub steps : after ≤ before + 13 * height t
 
-  -- The new slab has the tree without its first row, which is y, and c is the link to the root of what is left.
-  pub record HasTakenLeast (old new : Slab R) (t : Tree R) (low high : ℕ) (y : R) (c : Option ℕ)
+  -- The new slab has the tree without its first row, which is y, and c is what the row above it stores anew.
+  pub record HasTakenLeast (old new : Slab R) (t : Tree R) (low high : ℕ) (y : R) (c : Change)
       (before after : ℕ) : Type 0 where
     pub spelled : Spells new (without_least f t)
     pub ordered : IsOrdered f (f.rank (least f t y) + 1) high (without_least f t)
     pub kept : Keeps low high old new
-    pub root : place_of (without_least f t) ≡ c
+    pub rooted : IsRooted (child_of f t) (without_least f t) c
     pub row : Same (least f t y) y
     pub from_low : low ≤ f.rank (least f t y)
     pub len : slab_len new + 1 ≡ slab_len old

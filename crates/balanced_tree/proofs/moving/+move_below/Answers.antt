@@ -1,7 +1,7 @@
 use Rattle.std.proofs.Common.{◌+◌, is_some, refl, sym, ap, ◌∙◌, arith}
-use Rattle.balanced_tree.proofs.PlainLaws.{less_of, most_of, to_next, to_fourth}
+use Rattle.balanced_tree.proofs.PlainLaws.{less_of, most_of, to_next, to_fifth}
 use Rattle.balanced_tree.proofs.Nodes.{node_of, standing-at, lower-left, lower-right, stays_left, stays_right, readable-left_part, readable-right_part}
-use Rattle.balanced_tree.proofs.Moves.{move-leaf, move-left, move-right, move-here, sub-left, sub-right, StandsBeside-left, StandsBeside-right, left-readable, left-beside, right-readable, right-beside}
+use Rattle.balanced_tree.proofs.Moves.{move-leaf, move-left, move-right, move-left_hidden, move-right_hidden, move-here, sub-left, sub-right, StandsBeside-left, StandsBeside-right, left-readable, left-beside, right-readable, right-beside}
 use Rattle.balanced_tree.proofs.moving.+move_below.Goals as goal
 
 pub returns-in_default-clause-moved : goal.returns-in_default-clause-moved
@@ -33,8 +33,8 @@ row-again-requires g t c =
     let sub = c.move_below.ensures.moved d.left c.requires.low (f.rank d.row) (standing-at f (sym c.left-left.ensures) d.left_standing) side.0 c.requires.from_low side.1 in
     ap is_some (stays_left f d sub.becomes.kept)
 
-pub put_over-requires-clause-left : goal.put_over-requires-clause-left
-put_over-requires-clause-left g t c =
+pub put_again-requires-clause-left : goal.put_again-requires-clause-left
+put_again-requires-clause-left g t c =
     let f = g.R.TreeRow.functions in
     let law = g.met.R.TreeRow.lawful in
     let m = f.rank c.args.row.now in
@@ -43,8 +43,8 @@ put_over-requires-clause-left g t c =
     let sub = c.move_below.ensures.moved d.left c.requires.low (f.rank d.row) (standing-at f (sym c.left-left.ensures) d.left_standing) side.0 c.requires.from_low side.1 in
     λ q e. left-readable f law d c.left-left.ensures c.right-right.ensures sub q e
 
-pub put_over-requires-clause-right : goal.put_over-requires-clause-right
-put_over-requires-clause-right g t c =
+pub put_again-requires-clause-right : goal.put_again-requires-clause-right
+put_again-requires-clause-right g t c =
     let f = g.R.TreeRow.functions in
     let law = g.met.R.TreeRow.lawful in
     let m = f.rank c.args.row.now in
@@ -53,8 +53,8 @@ put_over-requires-clause-right g t c =
     let sub = c.move_below.ensures.moved d.left c.requires.low (f.rank d.row) (standing-at f (sym c.left-left.ensures) d.left_standing) side.0 c.requires.from_low side.1 in
     λ q e. left-beside f law d c.left-left.ensures c.right-right.ensures sub q e
 
-pub row-again-requires-then-there-rank : goal.row-again-requires-then-there-rank
-row-again-requires-then-there-rank g t c =
+pub row-again-requires-in-Root-move_below : goal.row-again-requires-in-Root-move_below
+row-again-requires-in-Root-move_below g t c =
     let f = g.R.TreeRow.functions in
     let law = g.met.R.TreeRow.lawful in
     let m = f.rank c.args.row.now in
@@ -63,8 +63,8 @@ row-again-requires-then-there-rank g t c =
     let sub = c.move_below-then-there-rank.ensures.moved d.right (f.rank d.row + 1) c.requires.high (standing-at f (sym c.right-right.ensures) d.right_standing) side.0 side.1 c.requires.below_high in
     ap is_some (stays_right f d sub.becomes.kept)
 
-pub put_over-requires-then-there-rank-clause-left : goal.put_over-requires-then-there-rank-clause-left
-put_over-requires-then-there-rank-clause-left g t c =
+pub put_again-requires-in-Root-move_below-clause-left : goal.put_again-requires-in-Root-move_below-clause-left
+put_again-requires-in-Root-move_below-clause-left g t c =
     let f = g.R.TreeRow.functions in
     let law = g.met.R.TreeRow.lawful in
     let m = f.rank c.args.row.now in
@@ -73,8 +73,8 @@ put_over-requires-then-there-rank-clause-left g t c =
     let sub = c.move_below-then-there-rank.ensures.moved d.right (f.rank d.row + 1) c.requires.high (standing-at f (sym c.right-right.ensures) d.right_standing) side.0 side.1 c.requires.below_high in
     λ q e. right-beside f law d c.left-left.ensures c.right-right.ensures sub q e
 
-pub put_over-requires-then-there-rank-clause-right : goal.put_over-requires-then-there-rank-clause-right
-put_over-requires-then-there-rank-clause-right g t c =
+pub put_again-requires-in-Root-move_below-clause-right : goal.put_again-requires-in-Root-move_below-clause-right
+put_again-requires-in-Root-move_below-clause-right g t c =
     let f = g.R.TreeRow.functions in
     let law = g.met.R.TreeRow.lawful in
     let m = f.rank c.args.row.now in
@@ -83,42 +83,65 @@ put_over-requires-then-there-rank-clause-right g t c =
     let sub = c.move_below-then-there-rank.ensures.moved d.right (f.rank d.row + 1) c.requires.high (standing-at f (sym c.right-right.ensures) d.right_standing) side.0 side.1 c.requires.below_high in
     λ q e. right-readable f law d c.left-left.ensures c.right-right.ensures sub q e
 
-pub put_over-requires-else-there-rank-clause-left : goal.put_over-requires-else-there-rank-clause-left
-put_over-requires-else-there-rank-clause-left g t c =
+pub put_over-requires-clause-left : goal.put_over-requires-clause-left
+put_over-requires-clause-left g t c =
     let f = g.R.TreeRow.functions in
     let law = g.met.R.TreeRow.lawful in
     let d = node_of f law c.requires.standing c.in-Some.is c.look-here.ensures.row in
     λ q e. readable-left_part f d c.args.rows.now q d.left_standing.spelled (sym c.left-left.ensures ∙ e)
 
-pub put_over-requires-else-there-rank-clause-right : goal.put_over-requires-else-there-rank-clause-right
-put_over-requires-else-there-rank-clause-right g t c =
+pub put_over-requires-clause-right : goal.put_over-requires-clause-right
+put_over-requires-clause-right g t c =
     let f = g.R.TreeRow.functions in
     let law = g.met.R.TreeRow.lawful in
     let d = node_of f law c.requires.standing c.in-Some.is c.look-here.ensures.row in
     λ q e. readable-right_part f d c.args.rows.now q d.right_standing.spelled (sym c.right-right.ensures ∙ e)
 
-pub returns-then-rank-there-clause-moved : goal.returns-then-rank-there-clause-moved
-returns-then-rank-there-clause-moved g t c =
+pub returns-in-Root-clause-moved : goal.returns-in-Root-clause-moved
+returns-in-Root-clause-moved g t c =
     let f = g.R.TreeRow.functions in
     let law = g.met.R.TreeRow.lawful in
     λ tree low high standing beside from below.
     let d = node_of f law standing c.in-Some.is c.look-here.ensures.row in
     let side = sub-left f c.args.rank (f.rank c.args.row.now) d beside c.rank-there.ensures c.if-rank-there.true in
     let sub = c.move_below.ensures.moved d.left low (f.rank d.row) (standing-at f (sym c.left-left.ensures) d.left_standing) side.0 from side.1 in
-    move-left f law d c.left-left.ensures c.right-right.ensures (less_of refl c.rank-there.ensures c.if-rank-there.true) sub c.row-again.ensures.row c.put_over.ensures.updates c.put_over.ensures.len
-    (to_next c.args.steps.now c.look-here.ensures.step) (to_next c.move_below.new.steps c.row-again.ensures.step) c.put_over.ensures.steps
+    move-left f law d c.left-left.ensures c.right-right.ensures (less_of refl c.rank-there.ensures c.if-rank-there.true) sub c.row-again.ensures.row c.put_again.ensures.updates c.put_again.ensures.len
+    (to_next c.args.steps.now c.look-here.ensures.step) (to_next c.move_below.new.steps c.row-again.ensures.step) c.put_again.ensures.steps c.put_again.ensures.root c.put_again.ensures.hidden
 
-pub returns-then-there-rank-clause-moved : goal.returns-then-there-rank-clause-moved
-returns-then-there-rank-clause-moved g t c =
+pub returns-in-Root-move_below-clause-moved : goal.returns-in-Root-move_below-clause-moved
+returns-in-Root-move_below-clause-moved g t c =
     let f = g.R.TreeRow.functions in
     let law = g.met.R.TreeRow.lawful in
     λ tree low high standing beside from below.
     let d = node_of f law standing c.in-Some.is c.look-here.ensures.row in
     let side = sub-right f c.args.rank (f.rank c.args.row.now) d beside c.rank-there.ensures c.if-there-rank.true in
     let sub = c.move_below-then-there-rank.ensures.moved d.right (f.rank d.row + 1) high (standing-at f (sym c.right-right.ensures) d.right_standing) side.0 side.1 below in
-    move-right f law d c.left-left.ensures c.right-right.ensures (less_of c.rank-there.ensures refl c.if-there-rank.true) sub c.row-again-then-there-rank.ensures.row c.put_over-then-there-rank.ensures.updates
-    c.put_over-then-there-rank.ensures.len (to_next c.args.steps.now c.look-here.ensures.step) (to_next c.move_below-then-there-rank.new.steps c.row-again-then-there-rank.ensures.step)
-    c.put_over-then-there-rank.ensures.steps
+    move-right f law d c.left-left.ensures c.right-right.ensures (less_of c.rank-there.ensures refl c.if-there-rank.true) sub c.row-again-in-Root-move_below.ensures.row c.put_again-in-Root-move_below.ensures.updates
+    c.put_again-in-Root-move_below.ensures.len (to_next c.args.steps.now c.look-here.ensures.step) (to_next c.move_below-then-there-rank.new.steps c.row-again-in-Root-move_below.ensures.step)
+    c.put_again-in-Root-move_below.ensures.steps c.put_again-in-Root-move_below.ensures.root c.put_again-in-Root-move_below.ensures.hidden
+
+pub row-now-requires : goal.row-now-requires
+row-now-requires g t c = ap is_some c.put_over.ensures.updates.changed
+
+pub returns-in-Hidden-clause-moved : goal.returns-in-Hidden-clause-moved
+returns-in-Hidden-clause-moved g t c =
+    let f = g.R.TreeRow.functions in
+    let law = g.met.R.TreeRow.lawful in
+    λ tree low high standing beside from below.
+    let d = node_of f law standing c.in-Some.is c.look-here.ensures.row in
+    let side = sub-left f c.args.rank (f.rank c.args.row.now) d beside c.rank-there.ensures c.if-rank-there.true in
+    let sub = c.move_below.ensures.moved d.left low (f.rank d.row) (standing-at f (sym c.left-left.ensures) d.left_standing) side.0 from side.1 in
+    move-left_hidden f law d (less_of refl c.rank-there.ensures c.if-rank-there.true) sub c.in-Hidden.is (to_next c.args.steps.now c.look-here.ensures.step)
+
+pub returns-in-Hidden-move_below-clause-moved : goal.returns-in-Hidden-move_below-clause-moved
+returns-in-Hidden-move_below-clause-moved g t c =
+    let f = g.R.TreeRow.functions in
+    let law = g.met.R.TreeRow.lawful in
+    λ tree low high standing beside from below.
+    let d = node_of f law standing c.in-Some.is c.look-here.ensures.row in
+    let side = sub-right f c.args.rank (f.rank c.args.row.now) d beside c.rank-there.ensures c.if-there-rank.true in
+    let sub = c.move_below-then-there-rank.ensures.moved d.right (f.rank d.row + 1) high (standing-at f (sym c.right-right.ensures) d.right_standing) side.0 side.1 below in
+    move-right_hidden f law d (less_of c.rank-there.ensures refl c.if-there-rank.true) sub c.in-Hidden-move_below.is (to_next c.args.steps.now c.look-here.ensures.step)
 
 pub returns-else-there-rank-clause-moved : goal.returns-else-there-rank-clause-moved
 returns-else-there-rank-clause-moved g t c =
@@ -127,4 +150,5 @@ returns-else-there-rank-clause-moved g t c =
     λ tree low high standing beside from below.
     let d = node_of f law standing c.in-Some.is c.look-here.ensures.row in
     move-here f law d (most_of refl c.rank-there.ensures c.if-rank-there.false) (most_of c.rank-there.ensures refl c.if-there-rank.false) beside from below c.left-left.ensures c.right-right.ensures
-    c.put_over-else-there-rank.ensures.updates c.put_over-else-there-rank.ensures.len (to_fourth c.args.steps.now c.look-here.ensures.step c.put_over-else-there-rank.ensures.steps)
+    c.put_over.ensures.updates c.put_over.ensures.len (to_fifth c.args.steps.now c.look-here.ensures.step c.put_over.ensures.steps c.row-now.ensures.step)
+    c.row-now.ensures.row c.change_from.ensures.root c.change_from.ensures.hidden

@@ -1,7 +1,7 @@
 use Rattle.std.proofs.Common.{is_some, refl, sym, ap, ◌∙◌, arith}
 use Rattle.balanced_tree.proofs.PlainLaws.{to_next, to_second}
 use Rattle.balanced_tree.proofs.Nodes.{node_of, standing-at, lower-left, stays_left, Stands-left}
-use Rattle.balanced_tree.proofs.Removals.{take-first, take-later, Splits-least}
+use Rattle.balanced_tree.proofs.Removals.{take-first, take-later, take-later_hidden, Splits-least}
 use Rattle.balanced_tree.proofs.removal.+take_least.Goals as goal
 
 pub returns-in_default-clause-taken : goal.returns-in_default-clause-taken
@@ -12,8 +12,8 @@ returns-in_default-clause-taken g t c =
     let n = node_of f law h refl c.look-here.ensures.row in
     take-first f law n (sym c.left.ensures ∙ c.in_default.is) c.right-rest.ensures c.take-row.ensures.row c.take-row.ensures.updates c.take-row.ensures.len (to_second c.args.steps.now c.look-here.ensures.step c.take-row.ensures.step)
 
-pub take_least-row-requires : goal.take_least-row-requires
-take_least-row-requires g t c κs within =
+pub take_least-least-requires : goal.take_least-least-requires
+take_least-least-requires g t c κs within =
     let f = g.R.TreeRow.functions in
     let law = g.met.R.TreeRow.lawful in
     let is = sym c.in-Some.is ∙ c.left.ensures in
@@ -25,23 +25,32 @@ row-here-requires g t c =
     let f = g.R.TreeRow.functions in
     let law = g.met.R.TreeRow.lawful in
     let n = node_of f law c.requires.standing refl c.look-here.ensures.row in
-    let sub = c.take_least-row.ensures.taken n.left c.requires.low (f.rank n.row) (standing-at f (sym c.left.ensures ∙ c.in-Some.is) n.left_standing) in
+    let sub = c.take_least-least.ensures.taken n.left c.requires.low (f.rank n.row) (standing-at f (sym c.left.ensures ∙ c.in-Some.is) n.left_standing) in
     ap is_some (stays_left f n sub.kept)
 
-pub balance-root-requires : goal.balance-root-requires
-balance-root-requires g t c =
+pub rebalance-rest-requires : goal.rebalance-rest-requires
+rebalance-rest-requires g t c =
     let f = g.R.TreeRow.functions in
     let law = g.met.R.TreeRow.lawful in
     let n = node_of f law c.requires.standing refl c.look-here.ensures.row in
-    let sub = c.take_least-row.ensures.taken n.left c.requires.low (f.rank n.row) (standing-at f (sym c.left.ensures ∙ c.in-Some.is) n.left_standing) in
-    Splits-least f law n sub c.row-here.ensures.row c.right.ensures
+    let sub = c.take_least-least.ensures.taken n.left c.requires.low (f.rank n.row) (standing-at f (sym c.left.ensures ∙ c.in-Some.is) n.left_standing) in
+    Splits-least f law n sub c.in-Root.is c.row-here.ensures.row c.right.ensures
 
-pub returns-clause-taken : goal.returns-clause-taken
-returns-clause-taken g t c =
+pub returns-in-Root-clause-taken : goal.returns-in-Root-clause-taken
+returns-in-Root-clause-taken g t c =
     let f = g.R.TreeRow.functions in
     let law = g.met.R.TreeRow.lawful in
     λ tree low high h.
     let n = node_of f law h refl c.look-here.ensures.row in
-    let sub = c.take_least-row.ensures.taken n.left low (f.rank n.row) (standing-at f (sym c.left.ensures ∙ c.in-Some.is) n.left_standing) in
-    take-later f law n (sym c.left.ensures ∙ c.in-Some.is) sub c.row-here.ensures.row c.right.ensures c.balance-root.ensures.tree c.balance-root.ensures.len
-    (to_next c.args.steps.now c.look-here.ensures.step) (to_next c.take_least-row.new.steps c.row-here.ensures.step) c.balance-root.ensures.steps
+    let sub = c.take_least-least.ensures.taken n.left low (f.rank n.row) (standing-at f (sym c.left.ensures ∙ c.in-Some.is) n.left_standing) in
+    take-later f law n (sym c.left.ensures ∙ c.in-Some.is) sub c.in-Root.is c.row-here.ensures.row c.right.ensures c.rebalance-rest.ensures.tree c.rebalance-rest.ensures.len
+    (to_next c.args.steps.now c.look-here.ensures.step) (to_next c.take_least-least.new.steps c.row-here.ensures.step) c.rebalance-rest.ensures.steps
+
+pub returns-in-Hidden-clause-taken : goal.returns-in-Hidden-clause-taken
+returns-in-Hidden-clause-taken g t c =
+    let f = g.R.TreeRow.functions in
+    let law = g.met.R.TreeRow.lawful in
+    λ tree low high h.
+    let n = node_of f law h refl c.look-here.ensures.row in
+    let sub = c.take_least-least.ensures.taken n.left low (f.rank n.row) (standing-at f (sym c.left.ensures ∙ c.in-Some.is) n.left_standing) in
+    take-later_hidden f law n (sym c.left.ensures ∙ c.in-Some.is) sub c.in-Hidden.is (to_next c.args.steps.now c.look-here.ensures.step)
