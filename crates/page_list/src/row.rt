@@ -100,6 +100,10 @@ impl TreeRow for Row {
         row
     }
 
+    fn is_alike(self, other: Row) -> bool {
+        self.height == other.height
+    }
+
     ghost lawful = { record {
       rank_kept = λ x l r. refl;
       left_set = λ x l r. refl;

@@ -81,6 +81,10 @@ impl<V: Copy> TreeRow for PairRow<V> {
         }
     }
 
+    fn is_alike(self, other: PairRow<V>) -> bool {
+        self.height == other.height
+    }
+
     ghost lawful = { record {
       rank_kept = λ x l r. refl;
       left_set = λ x l r. refl;

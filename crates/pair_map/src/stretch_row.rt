@@ -1,6 +1,6 @@
 //! A row of a map from lists and the first numbers of extents.
 
-ghost use Rattle.std.specs.Prelude.{◌≡◌};
+ghost use Rattle.std.specs.Prelude.{true, ◌≡◌};
 ghost use Rattle.balanced_tree.specs.Extents.{span_in};
 ghost use Rattle.balanced_tree.specs.Row.{height_in};
 ghost use Rattle.balanced_tree.specs.Pairs.{pair_rank};
@@ -70,6 +70,13 @@ fn span_of<V: Copy>(child: Option<Child<StretchRow<V>>>) -> Option<Span>
     Some(child?.row.span)
 }
 
+/// Reports whether two spans are the same.
+fn is_same_span(span: Span, other: Span) -> bool
+    ensures { result ≡ true → span ≡ other }
+{
+    span.lowest == other.lowest && span.highest == other.highest && span.gap == other.gap
+}
+
 impl<V: Copy> TreeRow for StretchRow<V> {
     ghost use Rattle.std.specs.Prelude.{refl};
     ghost use Rattle.balanced_tree.specs.Row.{link_of, height_over};
@@ -117,6 +124,13 @@ impl<V: Copy> TreeRow for StretchRow<V> {
             span: span_over(rank, end, span_of(left), span_of(right)),
             ..self
         }
+    }
+
+    fn is_alike(self, other: StretchRow<V>) -> bool {
+        if self.height != other.height {
+            return false;
+        }
+        is_same_span(self.span, other.span)
     }
 
     ghost lawful = { record {

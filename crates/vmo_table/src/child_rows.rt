@@ -87,6 +87,10 @@ impl TreeRow for ChildRow {
         }
     }
 
+    fn is_alike(self, other: ChildRow) -> bool {
+        self.height == other.height
+    }
+
     ghost lawful = { record {
       rank_kept = λ x l r. refl;
       left_set = λ x l r. refl;
