@@ -12,4 +12,6 @@ mod actors;
 #[cfg(test)]
 mod calls;
 #[cfg(test)]
+mod held;
+#[cfg(test)]
 mod scripts;

@@ -1,5 +1,5 @@
 -- The sources and sinks that stand in memory, as contracts see them.
-use Rattle.std.specs.Prelude.{ℕ, List}
+use Rattle.std.specs.Prelude.{ℕ, nat_le, List, length, if◌then◌else◌}
 
 -- the calls that are to fail, numbered from 1, and how many calls and how many faults there were
 pub record Tally : Type 0 where
@@ -19,3 +19,13 @@ pub record SinkState : Type 0 where
   pub room : ℕ
   pub piece : ℕ
   pub tally : Tally
+
+-- the most bytes that a sink keeps, those that it took, and how often it failed
+pub record Bounded : Type 0 where
+  pub room : ℕ
+  pub taken : List ℕ
+  pub faults : ℕ
+
+-- how often it failed as clauses of sinks count it: a sink that has room left did not fail
+abbrev pub bounded_faults : Bounded → ℕ
+bounded_faults s = if nat_le s.room (length s.taken) then s.faults else 0

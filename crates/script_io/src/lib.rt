@@ -1,13 +1,14 @@
 //! Where the bytes of a script come from, where replies go, and how a run ends.
 //!
 //! A `Source` gives bytes and a `Sink` takes them. Each counts its faults, so a layer above can promise that it reports
-//! a fault only if one was counted, or if the count stands at its end. `SureSource`, `MemSource` and `MemSink` stand in
-//! memory and tell their bytes to clauses. `CountSink` only counts bytes. `ReadSource` and `WriteSink` stand over a
-//! reader and a writer, such as the system's streams. `Lines` reads a source line by line, and `push_all` pushes all of
-//! some bytes. It stands on `vm_base`, and finds line feeds by the ported crate `memchr`. The layers above may use all
-//! of it.
+//! a fault only if one was counted, or if the count stands at its end. `SureSource`, `MemSource`, `MemSink` and
+//! `BoundedSink`, which is used again, stand in memory and tell their bytes to clauses. `CountSink` only counts bytes.
+//! `ReadSource` and `WriteSink` stand over a reader and a writer, such as the system's streams. `Lines` reads a source line
+//! by line, and `push_all` pushes all of some bytes. It stands on `vm_base`, and finds line feeds by the ported crate
+//! `memchr`. The layers above may use all of it.
 #![tactic(auto)]
 
+mod bounded_sink;
 mod count_sink;
 mod line_buffer;
 mod line_reader;
@@ -21,6 +22,7 @@ mod status;
 mod sure_source;
 mod write_sink;
 
+pub use bounded_sink::BoundedSink;
 pub use count_sink::CountSink;
 pub use line_reader::{Fetch, Lines};
 pub use mem_sink::MemSink;

@@ -1,6 +1,6 @@
 //! Answering one line of a script.
 
-ghost use Rattle.std.specs.Prelude.{◌+◌, ◌≤◌, ◌<◌};
+ghost use Rattle.std.specs.Prelude.{◌≡◌, ◌+◌, ◌≤◌, ◌<◌};
 ghost use Rattle.script_io.specs.Faults.{HasCause};
 ghost use Rattle.vm_model.specs.Machine.Machine.{IsGoodMachine};
 ghost use Rattle.vm_core.specs.Vm.{Agrees, machine_of};
@@ -12,14 +12,40 @@ use page_store::PageStore;
 use script_io::Sink;
 use script_text::read_call;
 use served::{Interpreter, push_answer, push_syntax};
+use std::alloc::Global;
+use std::marker::Model;
 use vm_base::{Failed, KOIDS};
 use vm_core::Vm;
 
-/// A machine, and the room for the data of a line that it answers.
+/// A machine that answers the lines of a script, and the room for the data of a line. Clauses see the parts of the machine.
 #[derive(Drop)]
-pub(crate) struct VmInterpreter {
-    pub(crate) vm: Vm,
-    pub(crate) rooms: Rooms,
+pub struct VmInterpreter {
+    vm: Vm,
+    rooms: Rooms,
+}
+
+impl Model for VmInterpreter {
+    ghost use Rattle.vm_core.specs.Vm.{Parts};
+
+    ghost Value = { Parts };
+
+    ghost view = { λ x. x.vm };
+}
+
+impl VmInterpreter {
+    ghost use Rattle.vm_model.specs.Contents.Content.{Content, HasNoVmo};
+    ghost use Rattle.vm_core.specs.Vm.{Agrees, bare_machine, machine_of};
+
+    /// Returns a machine with no names, pins, regions and translations. It agrees with every store that has no VMO.
+    pub fn new(alloc: Global) -> VmInterpreter
+        ensures bare { (c : Content) → machine_of c result ≡ bare_machine c }
+        ensures agrees { (c : Content) → HasNoVmo c → 1 ≤ c.next → Agrees c result }
+    {
+        VmInterpreter {
+            vm: Vm::new(alloc),
+            rooms: Rooms::new(),
+        }
+    }
 }
 
 impl<P: PageStore> Interpreter<P> for VmInterpreter {
@@ -31,9 +57,9 @@ impl<P: PageStore> Interpreter<P> for VmInterpreter {
 
     ghost rules = { plain };
 
-    ghost state = { λ x c. machine_of c x.vm };
+    ghost state = { λ x c. machine_of c x };
 
-    ghost Agrees = { λ x c. Agrees c x.vm };
+    ghost Agrees = { λ x c. Agrees c x };
 
     fn answer_line<K: Sink>(
         &mut self,

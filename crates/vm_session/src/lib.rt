@@ -3,7 +3,8 @@
 //!
 //! It stands on `vm_core` for the step, on `served` for the loop over lines, on `script_text`, `reply_text` and
 //! `word_text` for lines and replies, and on `script_io` for sources and sinks. `run` is the call that the program makes, and
-//! its contract is the theorem of the whole project.
+//! its contract is the theorem of the whole project. `VmInterpreter` answers a single line, for whoever keeps a machine between
+//! lines.
 #![tactic(auto)]
 
 mod interpreter;
@@ -15,6 +16,7 @@ mod words;
 mod working;
 mod workload;
 
+pub use interpreter::VmInterpreter;
 pub use script_io::{Status, code};
 pub use serving::serve;
 pub use session::run;

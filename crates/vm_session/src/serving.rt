@@ -6,12 +6,10 @@ ghost use Rattle.vm_model.specs.Contents.Content.{nothing};
 ghost use Rattle.vm_session.specs.Outcome.{EndsAs};
 
 use crate::interpreter::VmInterpreter;
-use crate::rooms::Rooms;
 use page_store::PageStore;
 use script_io::{Sink, Source, Status};
 use std::alloc::Global;
 use vm_base::FRAMES;
-use vm_core::Vm;
 
 /// Answers the lines of the script that a source gives, one after another, on a machine with `frames` page frames, from
 /// 1 to 65,536. The replies to a line are pushed whole before the next line is looked at. All bytes that were pulled
@@ -37,10 +35,7 @@ pub fn serve<P: PageStore, S: Source, K: Sink>(
     ensures write_cause { result ≡ Status.WriteFault → HasFailed (K.faults sink.old) (K.faults sink.new) }
     ensures host_memory { result ≡ Status.HostMemory → (source.new ≡ source.old) × (sink.new ≡ sink.old) }
 {
-    let mut interpreter = VmInterpreter {
-        vm: Vm::new(alloc),
-        rooms: Rooms::new(),
-    };
+    let mut interpreter = VmInterpreter::new(alloc);
     let status = served::serve(alloc, frames, limit, store, &mut interpreter, source, sink);
     // By one call: at the end of the body its tables would be let go, and that proved, one by one.
     drop(interpreter);

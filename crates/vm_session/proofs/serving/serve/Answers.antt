@@ -7,11 +7,11 @@ use Rattle.vm_session.proofs.serving.serve.Goals as goal
 pub serve-status-requires-clause-agrees : goal.serve-status-requires-clause-agrees
 serve-status-requires-clause-agrees g c =
     let fresh = filled_fresh c.args.frames _ _ refl refl in
-    c.new.ensures.agrees _ fresh.0 (omega (arith, fresh.1))
+    c.new-interpreter.ensures.agrees _ fresh.0 (omega (arith, fresh.1))
 
 pub serve-status-requires-clause-start : goal.serve-status-requires-clause-start
 serve-status-requires-clause-start g c =
-    machine_of-filled c.args.frames _ _ c.new.result c.new.ensures.bare refl refl
+    machine_of-filled c.args.frames _ _ c.new-interpreter.result c.new-interpreter.ensures.bare refl refl
 
 pub serve-status-requires-clause-good : goal.serve-status-requires-clause-good
 serve-status-requires-clause-good g c = IsGoodMachine-empty c.args.frames

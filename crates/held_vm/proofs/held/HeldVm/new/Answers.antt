@@ -1,0 +1,11 @@
+use Rattle.std.proofs.Common.{arith}
+use Rattle.vm_core.proofs.StartLaws.{filled_fresh, machine_of-filled}
+use Rattle.held_vm.proofs.held.HeldVm.new.Goals as goal
+
+pub invariant_of-result : goal.invariant_of-result
+invariant_of-result g c =
+    let fresh = filled_fresh c.args.frames _ _ c.in_ok-fill.ensures.ok c.requires.empty in
+    c.new.ensures.agrees _ fresh.0 (omega (arith, fresh.1))
+
+pub returns : goal.returns
+returns g c = record { machine = machine_of-filled c.args.frames _ _ c.new.result c.new.ensures.bare c.in_ok-fill.ensures.ok c.requires.empty }

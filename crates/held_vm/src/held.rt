@@ -1,0 +1,94 @@
+//! The machine that is held.
+
+ghost use Rattle.std.specs.Prelude.{◌≡◌, ◌<◌, ◌≤◌, length, IfOk, Err};
+ghost use Rattle.vm_base.specs.declared.limits.TheConstants.{FRAMES, KOIDS};
+ghost use Rattle.vm_model.specs.Contents.Content.{nothing};
+ghost use Rattle.vm_model.specs.Machine.Machine.{empty_machine, IsGoodMachine};
+ghost use Rattle.held_vm.specs.Held.{machine_in, Answers};
+
+use page_store::PageStore;
+use script_io::BoundedSink;
+use served::Interpreter;
+use std::alloc::Global;
+use std::marker::Model;
+use vm_base::{HostMemory, KOIDS};
+use vm_session::VmInterpreter;
+
+/// Why `answer` did not write a whole reply.
+#[derive(Clone, Copy, Debug, PartialEq, Eq)]
+pub enum AnswerError {
+    /// The reply is longer than the bytes of the caller. The line was done.
+    OutOfRoom,
+    /// The host has too little memory to keep a reply of that length. The line was not done.
+    OutOfMemory,
+    /// The machine has given all koids, `KOIDS` of them. The line was not done.
+    OutOfKoids,
+}
+
+/// A machine with its store of pages, held between lines. Clauses see the parts of the machine, the store, and the length of the
+/// longest reply for which there is memory.
+#[derive(Drop)]
+pub struct HeldVm<P: PageStore> {
+    interpreter: VmInterpreter,
+    store: P,
+    /// The reply to the last line.
+    reply: BoundedSink,
+}
+
+impl<P: PageStore> Model for HeldVm<P> {
+    ghost use Rattle.held_vm.specs.Held.{Held};
+    ghost use Rattle.vm_core.specs.Vm.{Agrees};
+
+    ghost Value = { Held P };
+
+    ghost view = { λ h. record { vm = h.interpreter; store = h.store; room = h.reply.room } };
+
+    ghost invariant = { λ h. Agrees (P.content h.store) h.interpreter };
+}
+
+impl<P: PageStore> HeldVm<P> {
+    /// Returns a machine with `frames` page frames, from 1 to `FRAMES`, and nothing else, over a store that has nothing. `HostMemory`
+    /// if the host has too little memory for the frames.
+    pub fn new(alloc: Global, frames: u32, store: P) -> Result<HeldVm<P>, HostMemory>
+        requires frames { 1 ≤ frames × frames ≤ FRAMES }
+        requires empty { P.content store ≡ nothing }
+        ensures machine { IfOk result (λ h. machine_in P.content h ≡ empty_machine frames) }
+    {
+        let mut store = store;
+        store.fill(frames)?;
+        Ok(HeldVm {
+            interpreter: VmInterpreter::new(alloc),
+            store,
+            reply: BoundedSink::new(alloc),
+        })
+    }
+
+    /// Answers a line, without its line feed, and writes the reply to the front of `out`. Returns the length of the reply in bytes.
+    ///
+    /// `OutOfRoom` if and only if the reply is longer than `out`: the line was done, and `out` has the front of the reply.
+    /// `OutOfMemory` if the host has too little memory, which it is asked for only if `out` is longer than it was at every line
+    /// before. `OutOfKoids` if `KOIDS` koids were given. Nothing was done in these two cases, and `out` is as it was.
+    pub fn answer(&mut self, line: &[u8], out: &mut [u8]) -> Result<usize, AnswerError>
+        ensures answers { Answers result line.now (machine_in P.content self.old) (machine_in P.content self.new)
+            out.old out.new }
+        ensures good { IsGoodMachine (machine_in P.content self.new) }
+        ensures memory { result ≡ Err AnswerError.OutOfMemory → self.old.room < length out.old }
+        ensures koids { result ≡ Err AnswerError.OutOfKoids → KOIDS ≤ (P.content self.old.store).next }
+    {
+        if self.store.next_koid().0 >= KOIDS {
+            return Err(AnswerError::OutOfKoids);
+        }
+        let Ok(()) = self.reply.restart(out.len()) else {
+            return Err(AnswerError::OutOfMemory);
+        };
+        let pushed = self
+            .interpreter
+            .answer_line(&mut self.store, &mut self.reply, line);
+        let reply = self.reply.bytes();
+        out[..reply.len()].copy_from_slice(reply);
+        match pushed {
+            Ok(()) => Ok(reply.len()),
+            Err(_) => Err(AnswerError::OutOfRoom),
+        }
+    }
+}
