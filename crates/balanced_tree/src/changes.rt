@@ -12,7 +12,7 @@ pub enum Change {
     Root(Option<usize>),
 }
 
-/// The link to the root of a tree after a change, from the link before it.
+/// Returns the link to the root of a tree after a change, from the link before it.
 pub fn root_after(change: Change, before: Option<usize>) -> Option<usize>
     ensures { result ≡ root_after change before }
 {

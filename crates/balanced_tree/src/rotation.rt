@@ -165,7 +165,7 @@ pub fn put_over<R: TreeRow, L: Ledger>(
     place_over(rows, place, row, left, right, steps).link
 }
 
-/// What the row above a place has to store anew, if a row stands there in place of another one.
+/// Returns what the row above a place has to store anew, if a row stands there in place of another one.
 #[inline(always)]
 pub fn change_from<R: TreeRow>(place: usize, had: R, row: R) -> Change
     ensures root { (q : Option ℕ) → result ≡ Root q → q ≡ Some place }
@@ -315,7 +315,7 @@ pub fn balance<R: TreeRow, L: Ledger>(
     put_over(rows, place, row, left, right, steps)
 }
 
-/// The row of a place over two children as `balance` puts it there. Answers what the row above it has to store anew.
+/// Balances the row of a place over two children, and returns what the row above it has to store anew.
 #[inline(always)]
 pub fn rebalance<R: TreeRow, L: Ledger>(
     rows: &mut RowSlab<R>,

@@ -10,7 +10,7 @@ use Rattle.fault.specs.declared.translation.Kept.{Kept}
 use Rattle.fault.specs.declared.translation.KeptList.{KeptList}
 use Rattle.fault.specs.declared.translation.Place.{Place}
 use Rattle.fault.specs.declared.translation.FrameList.{FrameList}
-use Rattle.fault.specs.inside.Lists.{place_at, frame_list, list_with, lists_in, lacks_first, HasFirst, AreMembers, AreListed, DropsEmpty, Joins, Leaves}
+use Rattle.fault.specs.inside.Lists.{place_at, frame_list, list_with, lists_in, lacks_first, HasFirst, AreMembers, AreListed, DropsEmpty, Joins, LeavesList}
 use Rattle.fault.specs.inside.Walks.{Keeping, HasNoList, HasNoMember, IsListAt, IsNextMember, LacksFirst, StartsWith}
 use Rattle.fault.proofs.PairLaws.{missing, pair-left, pair-other, pair-here, pair-cases, with_pair-kept}
 use Rattle.fault.proofs.FindLaws.{next-member, member-found, list-found, IsListAt-found}
@@ -288,7 +288,7 @@ module _ (rows : ℕ → ℕ → Option KeptList) (others members : ℕ → ℕ 
     -- ---- a translation goes
 
     module _ (root p : ℕ) (k : Kept) (at : places root p ≡ Some k) (now : ℕ → ℕ → Option KeptList) (fewer : ℕ → ℕ → Option Place)
-        (leaves : Leaves rows others k now fewer) where
+        (leaves : LeavesList rows others k now fewer) where
       abbrev v : ℕ
       v = k.translation.entry.koid.0
 

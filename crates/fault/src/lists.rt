@@ -3,7 +3,7 @@
 ghost use Rattle.std.specs.Prelude.{◌≡◌, ◌≢◌, ℕ, ◌+◌, ◌≤◌, Some, IsSome};
 ghost use Rattle.std.specs.Option.{option_map};
 ghost use Rattle.pair_map.specs.Maps.{values_of, spare_of};
-ghost use Rattle.fault.specs.inside.Lists.{Joins, LeavesFirst, LeavesOther, Leaves, frame_list, lists_in, lacks_first};
+ghost use Rattle.fault.specs.inside.Lists.{Joins, LeavesFirst, LeavesOther, LeavesList, frame_list, lists_in, lacks_first};
 
 use crate::translation::{FrameList, Kept, KeptList, Place, Translation};
 use pair_map::PairMap;
@@ -54,7 +54,7 @@ pub(crate) fn join(
 pub(crate) fn leave(lists: &mut PairMap<KeptList>, others: &mut PairMap<Place>, gone: Kept)
     requires list { IsSome (values_of lists.old gone.translation.entry.koid.0 gone.translation.entry.page) }
     requires other { gone.serial ≢ gone.list → IsSome (values_of others.old gone.list gone.serial) }
-    ensures leaves { Leaves (values_of lists.old) (values_of others.old) gone (values_of lists.new) (values_of others.new) }
+    ensures leaves { LeavesList (values_of lists.old) (values_of others.old) gone (values_of lists.new) (values_of others.new) }
     ensures lists_room { spare_of lists.old ≤ spare_of lists.new }
     ensures others_room { spare_of others.old ≤ spare_of others.new }
 {

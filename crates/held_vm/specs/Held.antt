@@ -18,7 +18,7 @@ abbrev pub machine_in : {S : Type 0} → (S → Content) → Held S → Machine
 machine_in content h = machine_of (content h.store) h.vm
 
 -- the line was answered from old to new, and the text of the replies stands at the front of the bytes, which else stay
-pub record Fits (n : ℕ) (line : List ℕ) (old new : Machine) (before after : List ℕ) : Type 0 where
+pub record FitsIn (n : ℕ) (line : List ℕ) (old new : Machine) (before after : List ℕ) : Type 0 where
   pub bound : n ≤ length after
   pub gives : GivesText line old (take n after) new
   pub kept : drop n after ≡ drop n before
@@ -31,7 +31,7 @@ pub record IsLonger (line : List ℕ) (old new : Machine) (after : List ℕ) : T
 
 -- what an answer says of the machine before and after, and of the caller's bytes before and after
 abbrev pub Answers : Result ℕ AnswerError → List ℕ → Machine → Machine → List ℕ → List ℕ → Type 0
-Answers (Ok n) line old new before after = Fits n line old new before after
+Answers (Ok n) line old new before after = FitsIn n line old new before after
 Answers (Err OutOfRoom) line old new before after = IsLonger line old new after × (length after ≡ length before)
 Answers (Err OutOfMemory) line old new before after = (new ≡ old) × (after ≡ before)
 Answers (Err OutOfKoids) line old new before after = (new ≡ old) × (after ≡ before)

@@ -93,7 +93,7 @@ LeavesOther rows others k now =
     ⊎ ((((s : ℕ) × IsSome (others s)) ⊎ (lacks_first (rows k.translation.entry.koid.0 k.translation.entry.page) ≡ false)) × (now ≡ rows))
 
 -- A translation goes out of its list.
-abbrev pub Leaves : (rows : ℕ → ℕ → Option KeptList) (others : ℕ → ℕ → Option Place) → Kept → (now : ℕ → ℕ → Option KeptList) (fewer : ℕ → ℕ → Option Place) → Type 0
-Leaves rows others k now fewer =
+abbrev pub LeavesList : (rows : ℕ → ℕ → Option KeptList) (others : ℕ → ℕ → Option Place) → Kept → (now : ℕ → ℕ → Option KeptList) (fewer : ℕ → ℕ → Option Place) → Type 0
+LeavesList rows others k now fewer =
     ((k.serial ≡ k.list) × (fewer ≡ others) × LeavesFirst rows (others k.list) k now)
     ⊎ ((k.serial ≢ k.list) × (fewer ≡ with_pair others k.list k.serial None) × LeavesOther rows (fewer k.list) k now)
