@@ -12,7 +12,7 @@ mod accesses;
 mod closing;
 mod interpreter;
 mod lifetimes;
-mod pages;
+mod page_bytes;
 mod ranges;
 mod reading;
 mod serving;

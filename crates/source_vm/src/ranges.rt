@@ -11,7 +11,7 @@ ghost use Rattle.source_model.specs.State.{is_absent, text_in};
 ghost use Rattle.source_vm.specs.Pages.{FillsPages, IsReadable, IsSource, FillsPage, IsSupplied, LacksFrames, absent_ends, absent_touched, cleared, end_of, end_piece, is_clean_at, is_end_absent};
 ghost use Rattle.source_vm.specs.Table.{backings_of, links_of, state_of};
 
-use crate::pages::{fill_page, is_clean, read_shown};
+use crate::page_bytes::{fill_page, is_clean, read_shown};
 use crate::source_fn::SourceFn;
 use crate::table::SourceTable;
 use crate::walk::{Place, find_end, is_absent};

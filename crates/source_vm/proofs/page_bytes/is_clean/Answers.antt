@@ -3,7 +3,7 @@ use Rattle.std.specs.Prelude.{nat_eq}
 use Rattle.std.specs.Cmp.Lexicographic.{pointwise}
 use Rattle.pages.proofs.LookLaws.{zero_frame, held_frame}
 use Rattle.source_vm.proofs.FillingLaws.{clean-zero, clean-held, read_whole}
-use Rattle.source_vm.proofs.pages.is_clean.Goals as goal
+use Rattle.source_vm.proofs.page_bytes.is_clean.Goals as goal
 
 pub returns-in-None : goal.returns-in-None
 returns-in-None g c = sym (clean-zero c.args.backing.now _ c.args.page (zero_frame _ c.in-None.ensures))

@@ -4,7 +4,7 @@ use Rattle.vm_base.specs.declared.limits.TheConstants.{PAGE}
 use Rattle.vm_base.specs.Pages.{zeros}
 use Rattle.source_model.specs.Sources.{source_byte}
 use Rattle.source_model.proofs.FillingLaws.{backing-seen, backing-behind}
-use Rattle.source_vm.proofs.pages.load_page.Goals as goal
+use Rattle.source_vm.proofs.page_bytes.load_page.Goals as goal
 
 pub returns-then-page-backing : goal.returns-then-page-backing
 returns-then-page-backing g c =

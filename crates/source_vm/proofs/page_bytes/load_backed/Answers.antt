@@ -2,7 +2,7 @@ use Rattle.std.proofs.Common.{◌∙◌, sym, ap, replicate, ℕ, Option}
 use Rattle.vm_base.specs.Pages.{zeros}
 use Rattle.source_model.specs.declared.backing.Backing.{Backing}
 use Rattle.source_model.specs.Sources.{backing_text}
-use Rattle.source_vm.proofs.pages.load_backed.Goals as goal
+use Rattle.source_vm.proofs.page_bytes.load_backed.Goals as goal
 
 pub load_page-requires-clause-source : goal.load_page-requires-clause-source
 load_page-requires-clause-source g c = c.requires.sources c.in-Some.backing (sym c.find.ensures ∙ c.in-Some.is)

@@ -6,7 +6,7 @@ use Rattle.source_vm.specs.Table.{backings_of, links_of}
 use Rattle.source_model.proofs.FillingLaws.{absent-held}
 use Rattle.source_vm.proofs.FillingLaws.{text-held}
 use Rattle.source_vm.proofs.EndLaws.{walked-from_end, absent-end, absent-unheld, zeros-end}
-use Rattle.source_vm.proofs.pages.read_shown.Goals as goal
+use Rattle.source_vm.proofs.page_bytes.read_shown.Goals as goal
 
 pub returns-then-is_sourced-clause-absent : goal.returns-then-is_sourced-clause-absent
 returns-then-is_sourced-clause-absent g c =

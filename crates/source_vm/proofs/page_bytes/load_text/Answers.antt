@@ -2,7 +2,7 @@ use Rattle.std.proofs.Common.{◌∙◌}
 use Rattle.source_vm.specs.Pages.{page_at}
 use Rattle.source_vm.specs.Table.{backings_of, links_of}
 use Rattle.source_vm.proofs.EndLaws.{walked-from_end}
-use Rattle.source_vm.proofs.pages.load_text.Goals as goal
+use Rattle.source_vm.proofs.page_bytes.load_text.Goals as goal
 
 pub returns : goal.returns
 returns g c =

@@ -1,7 +1,7 @@
 use Rattle.pages.proofs.LookLaws.{held_frame}
 use Rattle.source_vm.specs.Table.{backings_of, links_of}
 use Rattle.source_vm.proofs.FillingLaws.{FillsPage-held, FillsPage-from}
-use Rattle.source_vm.proofs.pages.fill_page.Goals as goal
+use Rattle.source_vm.proofs.page_bytes.fill_page.Goals as goal
 
 pub returns-in-Some-clause-fills : goal.returns-in-Some-clause-fills
 returns-in-Some-clause-fills g c =

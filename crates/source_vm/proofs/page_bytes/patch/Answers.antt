@@ -2,7 +2,7 @@ use Rattle.std.proofs.Common.{◌∙◌, ◌+◌, ◌++◌, ℕ, take, drop, len
 use Rattle.std.proofs.lemmas.List.{take_all}
 use Rattle.std.proofs.lemmas.Slice.{put_mid-paste}
 use Rattle.vm_base.specs.Pages.{replaced}
-use Rattle.source_vm.proofs.pages.patch.Goals as goal
+use Rattle.source_vm.proofs.page_bytes.patch.Goals as goal
 
 pub returns : goal.returns
 unfolding replaced

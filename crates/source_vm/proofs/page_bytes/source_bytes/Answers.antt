@@ -3,7 +3,7 @@ use Rattle.std.proofs.lemmas.List.{take_more_set}
 use Rattle.std.proofs.lemmas.List.FromFn.{map-range_with_len_more}
 use Rattle.std.specs.List.{range_with_len}
 use Rattle.source_model.specs.Sources.{source_byte}
-use Rattle.source_vm.proofs.pages.source_bytes.Goals as goal
+use Rattle.source_vm.proofs.page_bytes.source_bytes.Goals as goal
 
 pub loop-i-preserved : goal.loop-i-preserved
 loop-i-preserved g c =
