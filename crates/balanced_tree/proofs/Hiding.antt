@@ -1,5 +1,5 @@
 -- What hides a change of a tree from the rows above it.
-use Rattle.std.proofs.Common.{◌≡◌, ℕ, ◌+◌, ◌≤◌, ltb, Option, Some, refl, sym, ap, ◌∙◌, subst, arith}
+use Rattle.std.proofs.Common.{◌≡◌, ℕ, ◌+◌, ◌≤◌, ltb, Option, None, Some, refl, sym, ap, ◌∙◌, subst, arith}
 use Rattle.std.proofs.lemmas.Bool.{le-ltb, cond-false}
 use Rattle.slab.specs.Slab.{Slab}
 use Rattle.balanced_tree.specs.declared.changes.Change.{Change}
@@ -7,7 +7,7 @@ use Rattle.balanced_tree.specs.declared.changes.Change.TheVariants.{Hidden, Root
 use Rattle.balanced_tree.specs.declared.children.Child.{Child}
 use Rattle.balanced_tree.specs.Row.{Functions, AreLawful, AreAlike, link_of}
 use Rattle.balanced_tree.specs.inside.Tree.{Tree, Node, place_of, child_of, stored, IsOrdered, balanced}
-use Rattle.balanced_tree.specs.inside.Standing.{child_under, root_after, IsLike, IsRooted, Spells, Keeps, Becomes}
+use Rattle.balanced_tree.specs.inside.Standing.{child_under, root_after, change_to, IsLike, IsRooted, Spells, Keeps, Becomes}
 use Rattle.balanced_tree.proofs.Spelling.{link_of-child_of}
 use Rattle.balanced_tree.proofs.Nodes.{IsNode, stored-short, stays_left, stays_right, right_kept, left_kept, kept_wider_left, kept_wider_right}
 
@@ -18,24 +18,27 @@ module _ {R : Type 0} (f : Functions R) where
   pub like-alike : {x y : R} (p : ℕ) → AreAlike f x y → IsLike f (child_under p (Some x)) (child_under p (Some y))
   like-alike p a = record { link = refl; height = a.height; left = λ z r. a.left z p r; right = λ z l. a.right z p l }
 
-  pub rooted-at : {had : Option (Child R)} {t : Tree R} {q : Option ℕ} → place_of t ≡ q → IsRooted f had t (Root q)
-  rooted-at h = record { root = λ p e. cc; hidden = λ e. cc }
+  pub rooted-at : {had : Option (Child R)} {t : Tree R} {q : ℕ} → place_of t ≡ Some q → IsRooted f had t (Root q)
+  rooted-at h = record { root = h; hidden = λ e. cc }
+
+  pub rooted-to : {had : Option (Child R)} {t : Tree R} (at : Option ℕ) → place_of t ≡ at → IsRooted f had t (change_to at)
+  rooted-to None h = record { root = h; hidden = λ e. cc }
+  rooted-to (Some q) h = rooted-at h
 
   pub rooted-hidden : {had : Option (Child R)} {t : Tree R} → IsLike f had (child_of f t) → IsRooted f had t Hidden
-  rooted-hidden like = record { root = λ p e. cc; hidden = λ e. like }
+  rooted-hidden {t = t} like = record { root = sym (link_of-child_of f t) ∙ sym like.link; hidden = λ e. like }
 
   -- what a row over its parts answers of the one that stood in its place
-  pub rooted-put : {change : Change} {had now : R} {u : Tree R} {p : ℕ} → child_under p (Some now) ≡ child_of f u → ((q : Option ℕ) → change ≡ Root q → q ≡ Some p) → (change ≡ Hidden → AreAlike f had now) → IsRooted f (child_under p (Some had)) u change
+  pub rooted-put : {change : Change} {had now : R} {u : Tree R} {p : ℕ} → child_under p (Some now) ≡ child_of f u → root_after change (Some p) ≡ Some p → (change ≡ Hidden → AreAlike f had now) → IsRooted f (child_under p (Some had)) u change
   rooted-put {had = had} {u = u} {p} child root hidden =
       record {
-        root = λ q e. sym (link_of-child_of f u) ∙ ap link_of (sym child) ∙ sym (root q e);
+        root = sym (link_of-child_of f u) ∙ ap link_of (sym child) ∙ sym root;
         hidden = λ e. subst (IsLike f (child_under p (Some had))) child (like-alike p (hidden e));
       }
 
   -- the link to the root after the change
   pub rooted-link : (t : Tree R) {u : Tree R} {c : Change} {at : Option ℕ} → IsRooted f (child_of f t) u c → place_of t ≡ at → place_of u ≡ root_after c at
-  rooted-link t {u} {c = Hidden} h e = sym (link_of-child_of f u) ∙ sym (h.hidden refl).link ∙ link_of-child_of f t ∙ e
-  rooted-link t {u} {c = Root q} h e = h.root q refl
+  rooted-link t {c = c} h e = h.root ∙ ap (root_after c) (link_of-child_of f t ∙ e)
 
   -- parts whose stored heights differ by at most one stay where they are
   balanced-even : (l : Tree R) (p : ℕ) (x : R) (r : Tree R) → stored f l ≤ stored f r + 1 → stored f r ≤ stored f l + 1 → balanced f l p x r ≡ Node l p x r

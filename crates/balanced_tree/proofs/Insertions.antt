@@ -6,10 +6,10 @@ use Rattle.balanced_tree.specs.declared.changes.Change.{Change}
 use Rattle.balanced_tree.specs.declared.changes.Change.TheVariants.{Hidden, Root}
 use Rattle.balanced_tree.specs.Row.{Functions, AreLawful}
 use Rattle.balanced_tree.specs.inside.Tree.{Tree, Leaf, Node, place_of, child_of, balanced, inserted}
-use Rattle.balanced_tree.specs.inside.Standing.{child_under, child_at, IsRooted, Same, IsStanding, Becomes, IsSplit, HasInserted}
+use Rattle.balanced_tree.specs.inside.Standing.{child_under, child_at, root_after, IsRooted, Same, IsStanding, Becomes, IsSplit, HasInserted}
 use Rattle.balanced_tree.proofs.Spelling.{Keeps-trans, Same-refl, split_over, split_with, place_over-tree}
 use Rattle.balanced_tree.proofs.Nodes.{IsNode, rank_here, height-left, height-right, right_is, left_is, same_again, left_again, right_again, again_left, again_right, split_left, split_right, kept_wider_left, kept_wider_right, has_rank-left, has_rank-right, has_rank-here}
-use Rattle.balanced_tree.proofs.Hiding.{rooted-at, rooted-hidden, rooted-again, still-left, still-right, becomes-still, even-left, even-right}
+use Rattle.balanced_tree.proofs.Hiding.{rooted-at, rooted-hidden, rooted-link, rooted-again, still-left, still-right, becomes-still, even-left, even-right}
 
 module _ {R : Type 0} (f : Functions R) where
   pub inserted-left : (q : ℕ) (w : R) (l : Tree R) (p : ℕ) (x : R) (r : Tree R) → f.rank w < f.rank x → inserted f q w (Node l p x r) ≡ balanced f (inserted f q w l) p x r
@@ -46,15 +46,15 @@ module _ {R : Type 0} (f : Functions R) where
   pub insert-left :
       {s s1 s2 : Slab R} {p : ℕ} {here again w : R} {t : Tree R} {low high before b1 b2 b3 after : ℕ} {left right : Option ℕ} {part change : Change}
       → AreLawful f → (n : IsNode f s p here t low high) → f.rank w < f.rank here
-      → HasInserted f s s1 w n.left low (f.rank n.row) part b1 b2 → part ≡ Root left
+      → HasInserted f s s1 w n.left low (f.rank n.row) part b1 b2 → left ≡ root_after part (f.left here)
       → get s1 p ≡ Some again → right ≡ f.right again
       → Rebalances s1 s2 p again left right change
       → slab_len s2 ≡ slab_len s1 → b1 ≤ before + 1 → b3 ≤ b2 + 1 → after ≤ b3 + 11
       → HasInserted f s s2 w t low high change before after
-  insert-left {s} {s1} {s2} {p} {here} {w = w} {low = low} {high} {left = left} laws n less sub is_root e on_right balance len g1 g2 g3 =
+  insert-left {s} {s1} {s2} {p} {here} {w = w} {low = low} {high} laws n less sub link_is e on_right balance len g1 g2 g3 =
       let q = s.vacant_key in
       let again_is = again_left f n sub.becomes.kept e in
-      let made = balance _ n.row n.right low high (split_left f n laws sub.becomes) (same_again f n again_is) (sub.rooted.root left is_root) (right_again f n again_is on_right) in
+      let made = balance _ n.row n.right low high (split_left f n laws sub.becomes) (same_again f n again_is) (rooted-link f n.left sub.rooted n.left_standing.is_at ∙ sym link_is) (right_again f n again_is on_right) in
       let is = ap (inserted f q w) n.is ∙ inserted-left q w n.left p n.row n.right (omega (arith, rank_here f n)) in
       record {
         becomes = Becomes-left n sub.becomes (subst (λ u. Becomes f s1 s2 u low high) (sym is) made.0);
@@ -66,15 +66,15 @@ module _ {R : Type 0} (f : Functions R) where
   pub insert-right :
       {s s1 s2 : Slab R} {p : ℕ} {here again w : R} {t : Tree R} {low high before b1 b2 b3 after : ℕ} {left right : Option ℕ} {part change : Change}
       → AreLawful f → (n : IsNode f s p here t low high) → f.rank here < f.rank w
-      → HasInserted f s s1 w n.right (f.rank n.row + 1) high part b1 b2 → part ≡ Root right
+      → HasInserted f s s1 w n.right (f.rank n.row + 1) high part b1 b2 → right ≡ root_after part (f.right here)
       → get s1 p ≡ Some again → left ≡ f.left again
       → Rebalances s1 s2 p again left right change
       → slab_len s2 ≡ slab_len s1 → b1 ≤ before + 1 → b3 ≤ b2 + 1 → after ≤ b3 + 11
       → HasInserted f s s2 w t low high change before after
-  insert-right {s} {s1} {s2} {p} {here} {w = w} {low = low} {high} {right = right} laws n more sub is_root e on_left balance len g1 g2 g3 =
+  insert-right {s} {s1} {s2} {p} {here} {w = w} {low = low} {high} laws n more sub link_is e on_left balance len g1 g2 g3 =
       let q = s.vacant_key in
       let again_is = again_right f n sub.becomes.kept e in
-      let made = balance n.left n.row _ low high (split_right f n laws sub.becomes) (same_again f n again_is) (left_again f n again_is on_left) (sub.rooted.root right is_root) in
+      let made = balance n.left n.row _ low high (split_right f n laws sub.becomes) (same_again f n again_is) (left_again f n again_is on_left) (rooted-link f n.right sub.rooted n.right_standing.is_at ∙ sym link_is) in
       let is = ap (inserted f q w) n.is ∙ inserted-right q w n.left p n.row n.right (omega (arith, rank_here f n)) in
       record {
         becomes = Becomes-right n sub.becomes (subst (λ u. Becomes f s1 s2 u low high) (sym is) made.0);
@@ -124,7 +124,7 @@ module _ {R : Type 0} (f : Functions R) where
       → left ≡ f.left here → right ≡ f.right here
       → Updates s s2 p (Some (f.linked w (child_at s left) (child_at s right))) → root ≡ p
       → slab_len s2 ≡ slab_len s → after ≤ before + 4
-      → HasInserted f s s2 w t low high (Root (Some root)) before after
+      → HasInserted f s s2 w t low high (Root root) before after
   insert-here {s} {s2} {p} {here} {w} {t} {low} {high} {before} {after} {root} laws n g h on_left on_right u root_is len steps =
       let q = s.vacant_key in
       let had : IsSplit f s n.left p n.row n.right low high = split_over f n.at (rank_here f n) n.left_standing.spelled n.right_standing.spelled n.left_standing.ordered n.right_standing.ordered in
@@ -147,7 +147,7 @@ module _ {R : Type 0} (f : Functions R) where
       (t : Tree R) → IsStanding f s None t low high → low ≤ f.rank w → f.rank w < high
       → get s link ≡ None → link ≡ s.vacant_key
       → Updates s s2 link (Some (f.linked w None None)) → slab_len s2 ≡ slab_len s + 1 → after ≤ before + 1
-      → HasInserted f s s2 w t low high (Root (Some link)) before after
+      → HasInserted f s s2 w t low high (Root link) before after
   insert-leaf {s} {s2} {w} {low} {high} {link = link} Leaf h from below vacant is_key u len steps =
       let key_is : inserted f s.vacant_key w Leaf ≡ Node Leaf link w Leaf = insert-leaf_tree s.vacant_key w ∙ ap (λ k. Node Leaf k w Leaf) (sym is_key) in
       record {

@@ -4,10 +4,10 @@ use Rattle.std.proofs.lemmas.Bool.{cases_lt}
 use Rattle.std.proofs.lemmas.Option.{same_Some}
 use Rattle.slab.specs.Slab.{Slab, get, slab_len, ContainsKey, Updates}
 use Rattle.balanced_tree.specs.declared.changes.Change.{Change}
-use Rattle.balanced_tree.specs.declared.changes.Change.TheVariants.{Hidden, Root}
+use Rattle.balanced_tree.specs.declared.changes.Change.TheVariants.{Hidden}
 use Rattle.balanced_tree.specs.Row.{Functions, AreLawful, AreAlike}
 use Rattle.balanced_tree.specs.inside.Tree.{Tree, Leaf, Node, child_of, moved, AreBeside}
-use Rattle.balanced_tree.specs.inside.Standing.{child_under, child_at, IsRooted, IsStanding, StandsBeside, Becomes, IsSplit, HasMoved}
+use Rattle.balanced_tree.specs.inside.Standing.{child_under, child_at, root_after, IsRooted, IsStanding, StandsBeside, Becomes, IsSplit, HasMoved}
 use Rattle.balanced_tree.proofs.Spelling.{Keeps-refl, Same-refl, child_at-link, ContainsKey-place_of, place_over-tree}
 use Rattle.balanced_tree.proofs.Nodes.{IsNode, node_of, standing-at, rank_here, height-left, height-right, right_is, left_is, same_again, again_left, again_right, split_left, split_right, left_kept, right_kept}
 use Rattle.balanced_tree.proofs.Hiding.{like-same, rooted-hidden, rooted-put, rooted-again, still-left, still-right, becomes-still}
@@ -29,7 +29,7 @@ module _ {R : Type 0} (f : Functions R) where
     -- where the way down went to the left
     pub move-left : n < f.rank here → HasMoved f s s1 n w d.left low (f.rank d.row) part b1 b2
         → get s1 p ≡ Some again → Updates s1 s2 p (Some (f.linked again (child_at s1 left) (child_at s1 right))) → slab_len s2 ≡ slab_len s1 → b1 ≤ before + 1 → b3 ≤ b2 + 1 → after ≤ b3 + 3
-        → ((q : Option ℕ) → change ≡ Root q → q ≡ Some p) → (change ≡ Hidden → AreAlike f again (f.linked again (child_at s1 left) (child_at s1 right)))
+        → root_after change (Some p) ≡ Some p → (change ≡ Hidden → AreAlike f again (f.linked again (child_at s1 left) (child_at s1 right)))
         → HasMoved f s s2 n w t low high change before after
     move-left less sub e u len g1 g2 g3 root hidden =
         let again_is = again_left f d sub.becomes.kept e in
@@ -47,7 +47,7 @@ module _ {R : Type 0} (f : Functions R) where
     -- and to the right
     pub move-right : f.rank here < n → HasMoved f s s1 n w d.right (f.rank d.row + 1) high part b1 b2
         → get s1 p ≡ Some again → Updates s1 s2 p (Some (f.linked again (child_at s1 left) (child_at s1 right))) → slab_len s2 ≡ slab_len s1 → b1 ≤ before + 1 → b3 ≤ b2 + 1 → after ≤ b3 + 3
-        → ((q : Option ℕ) → change ≡ Root q → q ≡ Some p) → (change ≡ Hidden → AreAlike f again (f.linked again (child_at s1 left) (child_at s1 right)))
+        → root_after change (Some p) ≡ Some p → (change ≡ Hidden → AreAlike f again (f.linked again (child_at s1 left) (child_at s1 right)))
         → HasMoved f s s2 n w t low high change before after
     move-right more sub e u len g1 g2 g3 root hidden =
         let again_is = again_right f d sub.becomes.kept e in
@@ -102,7 +102,7 @@ module _ {R : Type 0} (f : Functions R) where
       → AreLawful f → (d : IsNode f s p here t low high) → f.rank here ≤ n → n ≤ f.rank here → AreBeside f n (f.rank w) t → low ≤ f.rank w → f.rank w < high
       → left ≡ f.left here → right ≡ f.right here
       → Updates s s2 p (Some (f.linked w (child_at s left) (child_at s right))) → slab_len s2 ≡ slab_len s → after ≤ before + 5
-      → get s2 p ≡ Some now → ((q : Option ℕ) → change ≡ Root q → q ≡ Some p) → (change ≡ Hidden → AreAlike f here now)
+      → get s2 p ≡ Some now → root_after change (Some p) ≡ Some p → (change ≡ Hidden → AreAlike f here now)
       → HasMoved f s s2 n w t low high change before after
   move-here {s} {s2} {p} {here} {w} {now} {t} {low} {high} {n} laws d g h b from below left_link right_link u len steps e root hidden =
       let sides = beside-node n (f.rank w) d b in

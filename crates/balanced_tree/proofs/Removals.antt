@@ -4,13 +4,13 @@ use Rattle.std.proofs.lemmas.Bool.{lt-ltb, le-ltb, cond-true, cond-false}
 use Rattle.std.proofs.lemmas.Option.{same_Some}
 use Rattle.slab.specs.Slab.{Slab, get, slab_len, Updates}
 use Rattle.balanced_tree.specs.declared.changes.Change.{Change}
-use Rattle.balanced_tree.specs.declared.changes.Change.TheVariants.{Hidden, Root}
+use Rattle.balanced_tree.specs.declared.changes.Change.TheVariants.{Hidden}
 use Rattle.balanced_tree.specs.Row.{Functions, AreLawful, plain}
 use Rattle.balanced_tree.specs.inside.Tree.{Tree, Leaf, Node, is_leaf, place_of, child_of, IsOrdered, balanced, least, without_least, without_root, removed}
-use Rattle.balanced_tree.specs.inside.Standing.{root_after, IsRooted, Spells, Same, IsStanding, Keeps, Becomes, IsSplit, Splits, HasRemoved, HasTakenLeast, HasTakenRoot}
+use Rattle.balanced_tree.specs.inside.Standing.{root_after, change_to, IsRooted, Spells, Same, IsStanding, Keeps, Becomes, IsSplit, Splits, HasRemoved, HasTakenLeast, HasTakenRoot}
 use Rattle.balanced_tree.proofs.Spelling.{Keeps-refl, Keeps-trans, Keeps-wider, Keeps-Updates, Spells-kept, split_over}
 use Rattle.balanced_tree.proofs.Nodes.{IsNode, rank_here, height-left, height-right, in_low, in_high, same_again, left_again, right_again, stays_left, stays_right, again_left, again_right, right_kept, left_kept, split_left, split_right, kept_wider_left, has_rank-left, has_rank-right, has_rank-here, row_in-left, row_in-right, row_in-here, IsSplit-Same}
-use Rattle.balanced_tree.proofs.Hiding.{IsStill, like-same, rooted-at, rooted-hidden, rooted-link, rooted-again, still-left, still-right, becomes-still, even-left, even-right}
+use Rattle.balanced_tree.proofs.Hiding.{IsStill, like-same, rooted-to, rooted-hidden, rooted-link, rooted-again, still-left, still-right, becomes-still, even-left, even-right}
 use Rattle.balanced_tree.proofs.Insertions.{Balances, Rebalances, Becomes-left, Becomes-right}
 
 module _ {R : Type 0} where
@@ -58,8 +58,8 @@ module _ {R : Type 0} (f : Functions R) where
       {s s1 : Slab R} {p : ℕ} {here y : R} {t : Tree R} {low high before after : ℕ} {rest : Option ℕ}
       → AreLawful f → (n : IsNode f s p here t low high) → f.left here ≡ None
       → rest ≡ f.right here → get s p ≡ Some y → Updates s s1 p None → slab_len s1 + 1 ≡ slab_len s → after ≤ before + 2
-      → HasTakenLeast f s s1 t low high y (Root rest) before after
-  take-first {s} {s1} {p} {here} {y} {t} {low} {high} laws n none on_right e u len steps =
+      → HasTakenLeast f s s1 t low high y (change_to rest) before after
+  take-first {s} {s1} {p} {here} {y} {t} {low} {high} {rest = rest} laws n none on_right e u len steps =
       let leaf = is_leaf-none n.left (n.left_standing.is_at ∙ none) in
       let is : without_least f t ≡ n.right = ap (without_least f) n.is ∙ without_least-first n.left p n.row n.right leaf in
       let first : least f t y ≡ n.row = ap (λ u. least f u y) n.is ∙ least-leaf n.left n.row leaf in
@@ -69,7 +69,7 @@ module _ {R : Type 0} (f : Functions R) where
         spelled = subst (Spells f s1) (sym is) right;
         ordered = subst (λ z. IsOrdered f (f.rank z + 1) high (without_least f t)) (sym first) (subst (IsOrdered f (f.rank n.row + 1) high) (sym is) n.right_standing.ordered);
         kept = Keeps-wider f low high (in_low f n) (in_high f n) kept;
-        rooted = rooted-at f (ap place_of is ∙ right_again f n refl on_right);
+        rooted = rooted-to f rest (ap place_of is ∙ right_again f n refl on_right);
         row = subst (λ z. Same f z y) (sym first) (same_again f n (same_Some _ _ (sym e ∙ n.at)));
         from_low = subst (λ z. low ≤ f.rank z) (sym first) (in_low f n);
         len = len;
@@ -88,9 +88,9 @@ module _ {R : Type 0} (f : Functions R) where
   pub Splits-least :
       {s s1 : Slab R} {p : ℕ} {here again y : R} {t : Tree R} {low high b1 b2 : ℕ} {rest right : Option ℕ} {part : Change}
       → AreLawful f → (n : IsNode f s p here t low high)
-      → HasTakenLeast f s s1 n.left low (f.rank n.row) y part b1 b2 → part ≡ Root rest
+      → HasTakenLeast f s s1 n.left low (f.rank n.row) y part b1 b2 → rest ≡ root_after part (f.left here)
       → get s1 p ≡ Some again → right ≡ f.right again → Splits f s1 rest p again right
-  Splits-least {y = y} {high = high} {rest = rest} laws n sub is_root e on_right =
+  Splits-least {y = y} {high = high} laws n sub link_is e on_right =
       let is = again_left f n sub.kept e in
       record {
         left_tree = without_least f n.left;
@@ -98,24 +98,24 @@ module _ {R : Type 0} (f : Functions R) where
         low = f.rank (least f n.left y) + 1;
         high = high;
         split = IsSplit-Same f (same_again f n is) (split_least laws n sub);
-        left_is = sub.rooted.root rest is_root;
+        left_is = rooted-link f n.left sub.rooted n.left_standing.is_at ∙ sym link_is;
         right_is = right_again f n is on_right;
       }
 
   pub take-later :
       {s s1 s2 : Slab R} {p q : ℕ} {here again y : R} {t : Tree R} {low high before b1 b2 b3 after : ℕ} {rest right : Option ℕ} {part change : Change}
       → AreLawful f → (n : IsNode f s p here t low high) → f.left here ≡ Some q
-      → HasTakenLeast f s s1 n.left low (f.rank n.row) y part b1 b2 → part ≡ Root rest
+      → HasTakenLeast f s s1 n.left low (f.rank n.row) y part b1 b2 → rest ≡ root_after part (f.left here)
       → get s1 p ≡ Some again → right ≡ f.right again → Rebalances f s1 s2 p again rest right change
       → slab_len s2 ≡ slab_len s1 → b1 ≤ before + 1 → b3 ≤ b2 + 1 → after ≤ b3 + 11
       → HasTakenLeast f s s2 t low high y change before after
-  take-later {s} {s1} {s2} {p} {q} {here} {y = y} {t} {low} {high} {rest = rest} laws n some sub is_root e on_right balance len g1 g2 g3 =
+  take-later {s} {s1} {s2} {p} {q} {here} {y = y} {t} {low} {high} laws n some sub link_is e on_right balance len g1 g2 g3 =
       let node = is_leaf-some n.left q (n.left_standing.is_at ∙ some) in
       let is : without_least f t ≡ balanced f (without_least f n.left) p n.row n.right = ap (without_least f) n.is ∙ without_least-later n.left p n.row n.right node in
       let first : least f t y ≡ least f n.left y = ap (λ u. least f u y) n.is ∙ least-any n.left n.row y node in
       let from = f.rank (least f n.left y) + 1 in
       let again_is = again_left f n sub.kept e in
-      let made = balance _ n.row n.right from high (split_least laws n sub) (same_again f n again_is) (sub.rooted.root rest is_root) (right_again f n again_is on_right) in
+      let made = balance _ n.row n.right from high (split_least laws n sub) (same_again f n again_is) (rooted-link f n.left sub.rooted n.left_standing.is_at ∙ sym link_is) (right_again f n again_is on_right) in
       record {
         spelled = subst (Spells f s2) (sym is) made.0.spelled;
         ordered = subst (λ z. IsOrdered f (f.rank z + 1) high (without_least f t)) (sym first) (subst (IsOrdered f from high) (sym is) made.0.ordered);
@@ -247,13 +247,13 @@ module _ {R : Type 0} (f : Functions R) where
   pub remove-left :
       {s s1 s2 : Slab R} {p m : ℕ} {here again : R} {t : Tree R} {low high before b1 b2 b3 after : ℕ} {y : Option R} {left right : Option ℕ} {part change : Change}
       → AreLawful f → (n : IsNode f s p here t low high) → m < f.rank here
-      → HasRemoved f s s1 m n.left low (f.rank n.row) y part b1 b2 → part ≡ Root left
+      → HasRemoved f s s1 m n.left low (f.rank n.row) y part b1 b2 → left ≡ root_after part (f.left here)
       → get s1 p ≡ Some again → right ≡ f.right again → Rebalances f s1 s2 p again left right change
       → slab_len s2 ≡ slab_len s1 → b1 ≤ before + 1 → b3 ≤ b2 + 1 → after ≤ b3 + 11
       → HasRemoved f s s2 m t low high y change before after
-  remove-left {s1 = s1} {s2} {p} {m} {low = low} {high} {left = left} laws n less sub is_root e on_right balance len g1 g2 g3 =
+  remove-left {s1 = s1} {s2} {p} {m} {low = low} {high} laws n less sub link_is e on_right balance len g1 g2 g3 =
       let again_is = again_left f n sub.becomes.kept e in
-      let made = balance _ n.row n.right low high (split_left f n laws sub.becomes) (same_again f n again_is) (sub.rooted.root left is_root) (right_again f n again_is on_right) in
+      let made = balance _ n.row n.right low high (split_left f n laws sub.becomes) (same_again f n again_is) (rooted-link f n.left sub.rooted n.left_standing.is_at ∙ sym link_is) (right_again f n again_is on_right) in
       let is = ap (removed f m) n.is ∙ removed-left m n.left p n.row n.right (omega (arith, rank_here f n)) in
       record {
         becomes = Becomes-left f n sub.becomes (subst (λ u. Becomes f s1 s2 u low high) (sym is) made.0);
@@ -266,13 +266,13 @@ module _ {R : Type 0} (f : Functions R) where
   pub remove-right :
       {s s1 s2 : Slab R} {p m : ℕ} {here again : R} {t : Tree R} {low high before b1 b2 b3 after : ℕ} {y : Option R} {left right : Option ℕ} {part change : Change}
       → AreLawful f → (n : IsNode f s p here t low high) → f.rank here < m
-      → HasRemoved f s s1 m n.right (f.rank n.row + 1) high y part b1 b2 → part ≡ Root right
+      → HasRemoved f s s1 m n.right (f.rank n.row + 1) high y part b1 b2 → right ≡ root_after part (f.right here)
       → get s1 p ≡ Some again → left ≡ f.left again → Rebalances f s1 s2 p again left right change
       → slab_len s2 ≡ slab_len s1 → b1 ≤ before + 1 → b3 ≤ b2 + 1 → after ≤ b3 + 11
       → HasRemoved f s s2 m t low high y change before after
-  remove-right {s1 = s1} {s2} {p} {m} {low = low} {high} {right = right} laws n more sub is_root e on_left balance len g1 g2 g3 =
+  remove-right {s1 = s1} {s2} {p} {m} {low = low} {high} laws n more sub link_is e on_left balance len g1 g2 g3 =
       let again_is = again_right f n sub.becomes.kept e in
-      let made = balance n.left n.row _ low high (split_right f n laws sub.becomes) (same_again f n again_is) (left_again f n again_is on_left) (sub.rooted.root right is_root) in
+      let made = balance n.left n.row _ low high (split_right f n laws sub.becomes) (same_again f n again_is) (left_again f n again_is on_left) (rooted-link f n.right sub.rooted n.right_standing.is_at ∙ sym link_is) in
       let is = ap (removed f m) n.is ∙ removed-right m n.left p n.row n.right (omega (arith, rank_here f n)) in
       record {
         becomes = Becomes-right f n sub.becomes (subst (λ u. Becomes f s1 s2 u low high) (sym is) made.0);
@@ -320,13 +320,13 @@ module _ {R : Type 0} (f : Functions R) where
       {s s1 : Slab R} {p m : ℕ} {here : R} {t : Tree R} {low high before b1 after : ℕ} {y : Option R} {root : Option ℕ}
       → (n : IsNode f s p here t low high) → f.rank here ≤ m → m ≤ f.rank here → y ≡ Some (plain f here)
       → HasTakenRoot f s s1 t low high root b1 after → b1 ≤ before + 1
-      → HasRemoved f s s1 m t low high y (Root root) before after
-  remove-here {s} {s1} {p} {m} {here} {t} {low} {high} n g h row_is sub g1 =
+      → HasRemoved f s s1 m t low high y (change_to root) before after
+  remove-here {s} {s1} {p} {m} {here} {t} {low} {high} {root = root} n g h row_is sub g1 =
       let is : removed f m t ≡ without_root f t = ap (removed f m) n.is ∙ removed-here m n.left p n.row n.right (omega (arith, rank_here f n)) ∙ ap (without_root f) (sym n.is) in
       record {
         becomes = subst (λ u. Becomes f s s1 u low high) (sym is) sub.becomes;
         row = row_is ∙ sym (row_in-here f n m g h);
-        rooted = rooted-at f (ap place_of is ∙ sub.root);
+        rooted = rooted-to f root (ap place_of is ∙ sub.root);
         len = omega (arith, sub.len, ap {B = ℕ} (λ b. cond b 1 0) (has_rank-here f n m g h));
         steps = omega (arith, sub.steps);
       }

@@ -4,7 +4,7 @@ ghost use Rattle.std.specs.Prelude.{◌≡◌, ℕ, ◌<◌, ◌≤◌};
 ghost use Rattle.balanced_tree.specs.inside.Tree.{Tree};
 ghost use Rattle.balanced_tree.specs.inside.Standing.{IsStanding, StandsFor, HasInserted};
 
-use crate::changes::Change;
+use crate::changes::{Change, root_after};
 use crate::rotation::{put_over, rebalance};
 use crate::row_slab::RowSlab;
 use crate::steps::Steps;
@@ -26,31 +26,35 @@ pub fn insert_below<R: TreeRow, L: Ledger>(
     ensures capacity { rows.new.capacity ≡ rows.old.capacity }
 {
     let Some(place) = at else {
-        return Change::Root(Some(rows.add(row.linked(None, None), steps)));
+        return Change::Root(rows.add(row.linked(None, None), steps));
     };
     let here = rows.look(place, steps);
     let rank = row.rank();
     let there = here.rank();
     if rank < there {
         let below = here.left();
-        match insert_below(rows, below, row, steps) {
+        let change = insert_below(rows, below, row, steps);
+        match change {
             Change::Hidden => Change::Hidden,
-            Change::Root(left) => {
+            _ => {
+                let left = root_after(change, below);
                 let here = rows.row(place, steps);
                 rebalance(rows, place, here, left, here.right(), steps)
             }
         }
     } else if there < rank {
         let below = here.right();
-        match insert_below(rows, below, row, steps) {
+        let change = insert_below(rows, below, row, steps);
+        match change {
             Change::Hidden => Change::Hidden,
-            Change::Root(right) => {
+            _ => {
+                let right = root_after(change, below);
                 let here = rows.row(place, steps);
                 rebalance(rows, place, here, here.left(), right, steps)
             }
         }
     } else {
         let (left, right) = (here.left(), here.right());
-        Change::Root(Some(put_over(rows, place, *row, left, right, steps)))
+        Change::Root(put_over(rows, place, *row, left, right, steps))
     }
 }

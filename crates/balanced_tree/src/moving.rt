@@ -36,7 +36,7 @@ pub fn move_below<R: TreeRow, L: Ledger>(
     if rank < there {
         match move_below(rows, left, rank, row, steps) {
             Change::Hidden => Change::Hidden,
-            Change::Root(_) => {
+            _ => {
                 let again = rows.row(place, steps);
                 put_again(rows, place, again, left, right, steps)
             }
@@ -44,7 +44,7 @@ pub fn move_below<R: TreeRow, L: Ledger>(
     } else if there < rank {
         match move_below(rows, right, rank, row, steps) {
             Change::Hidden => Change::Hidden,
-            Change::Root(_) => {
+            _ => {
                 let again = rows.row(place, steps);
                 put_again(rows, place, again, left, right, steps)
             }

@@ -4,7 +4,7 @@ ghost use Rattle.std.specs.Prelude.{◌≡◌, ℕ, Some};
 ghost use Rattle.balanced_tree.specs.inside.Tree.{Tree};
 ghost use Rattle.balanced_tree.specs.inside.Standing.{IsStanding, Stands, HasRemoved, HasTakenLeast, HasTakenRoot};
 
-use crate::changes::{Change, root_after};
+use crate::changes::{Change, change_to, root_after};
 use crate::rotation::{balance, rebalance};
 use crate::row_slab::RowSlab;
 use crate::steps::Steps;
@@ -30,22 +30,23 @@ fn take_least<R: TreeRow, L: Ledger>(
     ensures capacity { rows.new.capacity ≡ rows.old.capacity }
 {
     let here = rows.look(place, steps);
-    let Some(left) = here.left() else {
+    let Some(next) = here.left() else {
         let rest = here.right();
         let row = rows.take(place, steps);
         return Least {
             row,
-            rest: Change::Root(rest),
+            rest: change_to(rest),
         };
     };
-    let least = take_least(rows, left, steps);
+    let least = take_least(rows, next, steps);
     let row = least.row;
     match least.rest {
         Change::Hidden => Least {
             row,
             rest: Change::Hidden,
         },
-        Change::Root(left) => {
+        _ => {
+            let left = root_after(least.rest, Some(next));
             let here = rows.row(place, steps);
             let rest = rebalance(rows, place, here, left, here.right(), steps);
             Least { row, rest }
@@ -98,24 +99,28 @@ pub fn remove_below<R: TreeRow, L: Ledger>(
     let there = here.rank();
     if rank < there {
         let below = here.left();
-        match remove_below(rows, below, rank, taken, steps) {
+        let change = remove_below(rows, below, rank, taken, steps);
+        match change {
             Change::Hidden => Change::Hidden,
-            Change::Root(left) => {
+            _ => {
+                let left = root_after(change, below);
                 let here = rows.row(place, steps);
                 rebalance(rows, place, here, left, here.right(), steps)
             }
         }
     } else if there < rank {
         let below = here.right();
-        match remove_below(rows, below, rank, taken, steps) {
+        let change = remove_below(rows, below, rank, taken, steps);
+        match change {
             Change::Hidden => Change::Hidden,
-            Change::Root(right) => {
+            _ => {
+                let right = root_after(change, below);
                 let here = rows.row(place, steps);
                 rebalance(rows, place, here, here.left(), right, steps)
             }
         }
     } else {
         *taken = Some(here.linked(None, None));
-        Change::Root(take_root(rows, place, steps))
+        change_to(take_root(rows, place, steps))
     }
 }

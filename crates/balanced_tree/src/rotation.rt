@@ -1,13 +1,13 @@
 //! A row over its two children, with a rotation if their heights differ by two.
 
 ghost use Rattle.std.specs.Prelude.{◌≡◌, ℕ, ◌+◌, ◌^◌, ◌<◌, ◌≤◌, nat_lt, if◌then◌else◌, Option, Some, None};
-ghost use Rattle.balanced_tree.specs.declared.changes.Change.TheVariants.{Hidden, Root};
+ghost use Rattle.balanced_tree.specs.declared.changes.Change.TheVariants.{Hidden};
 ghost use Rattle.std.specs.Option.{ForSome};
 ghost use Rattle.slab.specs.Slab.{slab_len, ContainsKey, Updates};
 ghost use Rattle.balanced_tree.specs.Row.{height_in, AreAlike};
 ghost use Rattle.balanced_tree.specs.inside.Tree.{Tree, place_of, leaned_right, leaned_left, balanced};
 ghost use Rattle.balanced_tree.specs.inside.Placing.{PlacesThree};
-ghost use Rattle.balanced_tree.specs.inside.Standing.{child_at, height_at, IsSplit, Splits, Becomes, Same, IsRooted};
+ghost use Rattle.balanced_tree.specs.inside.Standing.{child_at, height_at, root_after, IsSplit, Splits, Becomes, Same, IsRooted};
 
 use crate::changes::Change;
 use crate::children::Child;
@@ -168,13 +168,13 @@ pub fn put_over<R: TreeRow, L: Ledger>(
 /// Returns what the row above a place has to store anew, if a row stands there in place of another one.
 #[inline(always)]
 pub fn change_from<R: TreeRow>(place: usize, had: R, row: R) -> Change
-    ensures root { (q : Option ℕ) → result ≡ Root q → q ≡ Some place }
+    ensures root { root_after result (Some place) ≡ Some place }
     ensures hidden { result ≡ Hidden → AreAlike R.functions had row }
 {
     if had.is_alike(row) {
         Change::Hidden
     } else {
-        Change::Root(Some(place))
+        Change::Root(place)
     }
 }
 
@@ -192,7 +192,7 @@ pub fn put_again<R: TreeRow, L: Ledger>(
     requires place { ContainsKey rows.old place }
     requires left { ForSome left (ContainsKey rows.old) }
     requires right { ForSome right (ContainsKey rows.old) }
-    ensures root { (q : Option ℕ) → result ≡ Root q → q ≡ Some place }
+    ensures root { root_after result (Some place) ≡ Some place }
     ensures hidden { result ≡ Hidden → AreAlike R.functions row
         (R.functions.linked row (child_at rows.old left) (child_at rows.old right)) }
     ensures updates { Updates rows.old rows.new place
@@ -337,10 +337,10 @@ pub fn rebalance<R: TreeRow, L: Ledger>(
     let left_height = height_under(rows, left, steps);
     let right_height = height_under(rows, right, steps);
     if right_height + 1 < left_height {
-        return Change::Root(Some(lean_right(rows, place, row, left, right, steps)));
+        return Change::Root(lean_right(rows, place, row, left, right, steps));
     }
     if left_height + 1 < right_height {
-        return Change::Root(Some(lean_left(rows, place, row, left, right, steps)));
+        return Change::Root(lean_left(rows, place, row, left, right, steps));
     }
     put_again(rows, place, row, left, right, steps)
 }

@@ -1,7 +1,7 @@
 -- Who shows a frame: those who see its row, from both sides or its own node, each of them once. So many VMOs view the frame,
 -- and the least of their koids is its least viewer.
 use Rattle.std.proofs.Common.{◌≡◌, ℕ, ◌+◌, ◌<◌, ◌≤◌, Bool, true, false, List, [], ◌∷◌, ◌++◌, length, Option, None, Some, refl, sym, ap, subst, ◌∙◌, inl, inr, arith}
-use Rattle.std.specs.Prelude.{eqb, nat_lt, is_some, IsSome, IsSomeAnd, IfSome, MatchOption, if◌then◌else◌}
+use Rattle.std.specs.Prelude.{eqb, nat_lt, is_some, IsSome, IsSomeAnd, IfSome, IfNone, MatchOption, if◌then◌else◌}
 use Rattle.std.specs.List.{Contains, IsDistinct}
 use Rattle.std.proofs.lemmas.Bool.{cases_Bool, false_from_ne_true}
 use Rattle.std.proofs.lemmas.Bool.Decides.{nat_tests}
@@ -23,7 +23,7 @@ use Rattle.cow_arena.specs.declared.node.Node.{Node}
 use Rattle.cow_arena.specs.declared.node.NodeId.{NodeId}
 use Rattle.cow_arena.specs.declared.node.Side.{Side}
 use Rattle.cow_arena.specs.declared.node.Side.TheVariants as side
-use Rattle.cow_arena.specs.Nodes.{Nodes, nodes_of, link_to, IsVisible}
+use Rattle.cow_arena.specs.Nodes.{Nodes, nodes_of, link_to, other_side, IsVisible}
 use Rattle.cow_arena.specs.Walk.{Tree, Found, walk, frame_at, frame_in, frame_found}
 use Rattle.cow_arena.proofs.WalkLaws.{link_same, walk-own}
 use Rattle.cow_arena.proofs.ReachLaws.{walk-ends, reach-hidden, hidden-apart}
@@ -32,14 +32,14 @@ use Rattle.cow_split.specs.Trees.{holder_of}
 use Rattle.cow_split.specs.Search.{viewers_from}
 use Rattle.cow_split.specs.Sight.{Sees, IsSeenFrom}
 use Rattle.cow_split.specs.Exact.{IsExact, all_in_sight}
-use Rattle.cow_split.specs.Viewers.{HasKoid, IsLeastKoid, lesser_of}
+use Rattle.cow_split.specs.Viewers.{HasKoid, HasLesser, IsBelowAll, IsLeastKoid, lesser_of}
 use Rattle.cow_split.proofs.FoundLaws.{koid-once}
 use Rattle.cow_split.proofs.HolderLaws.{found-above, held-row}
 use Rattle.cow_split.proofs.RowLaws.{frame-shown}
 use Rattle.cow_split.proofs.SearchLaws.{contains-none, contains-one, contains-first}
 use Rattle.cow_split.proofs.ViewersLaws.{distinct-append, distinct-one, viewer-visible, viewer-sees, viewer-side, viewers-distinct}
 use Rattle.cow_fork.proofs.HolderLaws.{held-shown}
-use Rattle.cow_forest.specs.inside.Viewing.{ShowsFrame, AreViewers, IsViewerCount, IsLeastKoidOf, HasFrameRow}
+use Rattle.cow_forest.specs.inside.Viewing.{ShowsFrame, AreViewers, IsViewerCount, IsLeastKoidOf, HasLesserOf, HasFrameRow}
 use Rattle.cow_forest.specs.Tables.{node_in}
 use Rattle.cow_forest.specs.Store.{Forest, tree, content_of, page_showing, HasNode, IsStore}
 use Rattle.cow_forest.proofs.ContentLaws.{ShownBy, frame-showing, page-of, one-node, vmo-shows, shown-views, views-shown, vmo-below}
@@ -272,6 +272,63 @@ module _ (t : Tree) (exact : (in_use : ℕ → Bool) × IsExact t all_in_sight i
       with_answer None nobody = above-some h q tag has its nobody
       with_answer (Some koid) least = record { list = both_sides h q; viewers = above-viewers h q tag has its; least = least }
 
+  -- ---- a koid that is less than another
+
+  -- the answer for a row of a visible node
+  pub lesser-own : (h q : ℕ) (node : Node) (own koid : Koid) → t.nodes h ≡ Some node → node.koid ≡ Some own → (answer : Option Koid) →
+      MatchOption answer (koid.0 ≤ own.0) (λ less. (less ≡ own) × (own.0 < koid.0)) → (tag : ℕ) → HasFrameRow t h q tag → HasLesserOf t tag koid answer
+  lesser-own h q node own koid at named answer is tag has =
+      let it = least-own h q node own at named tag has in
+      record { list = it.list; viewers = it.viewers; answer_is = with_answer it answer is }
+    where
+      with_answer : (it : IsLeastKoidOf t tag own) (o : Option Koid) → MatchOption o (koid.0 ≤ own.0) (λ less. (less ≡ own) × (own.0 < koid.0)) →
+          MatchOption o (IsBelowAll t.nodes it.list koid) (λ less. HasLesser t.nodes it.list koid less)
+      with_answer it None most = λ w other inside its. let above = it.least.least w other inside its in omega (arith, most, above)
+      with_answer it (Some less) found = record {
+        v = it.least.v;
+        inside = it.least.inside;
+        has = subst (λ (k : Koid). HasKoid t.nodes it.least.v k) (sym found.0) it.least.has;
+        below = subst (λ (k : Koid). k.0 < koid.0) (sym found.0) found.1;
+      }
+
+  module _ (h q : ℕ) (node : Node) (at : t.nodes h ≡ Some node) (hidden : node.koid ≡ None) (koid : Koid) (tag : ℕ) (has : HasFrameRow t h q tag) where
+    its-hidden : has.row.node.koid ≡ None
+    its-hidden = ap (λ (n : Node). n.koid) (some_same (sym has.row.at ∙ at)) ∙ hidden
+
+    on-both : (from : Side) (v : ℕ) → Contains (viewers_from t None from h q) v → Contains (both_sides h q) v
+    on-both side.Left v inside = Contains-append_left (viewers_from t None side.Left h q) (viewers_from t None side.Right h q) v inside
+    on-both side.Right v inside = Contains-append_right (viewers_from t None side.Left h q) (viewers_from t None side.Right h q) v inside
+
+    -- it is found on a side
+    pub lesser-above : (from : Side) (less : Koid) → HasLesser t.nodes (viewers_from t None from h q) koid less → HasLesserOf t tag koid (Some less)
+    lesser-above from less found = record {
+      list = both_sides h q;
+      viewers = above-viewers h q tag has its-hidden;
+      answer_is = record { v = found.v; inside = on-both from found.v found.inside; has = found.has; below = found.below };
+    }
+
+    below-both : (from : Side) → IsBelowAll t.nodes (viewers_from t None from h q) koid → IsBelowAll t.nodes (viewers_from t None (other_side from) h q) koid →
+        IsBelowAll t.nodes (both_sides h q) koid
+    below-both side.Left here there w other inside its = elim (Contains-append_cases (viewers_from t None side.Left h q) (viewers_from t None side.Right h q) w inside) [
+      | inl left ↦ here w other left its
+      | inr right ↦ there w other right its
+    ]
+    below-both side.Right here there w other inside its = elim (Contains-append_cases (viewers_from t None side.Left h q) (viewers_from t None side.Right h q) w inside) [
+      | inl left ↦ there w other left its
+      | inr right ↦ here w other right its
+    ]
+
+    -- or on none
+    pub lesser-beside : (from : Side) (answer : Option Koid) → IsBelowAll t.nodes (viewers_from t None from h q) koid →
+        MatchOption answer (IsBelowAll t.nodes (viewers_from t None (other_side from) h q) koid)
+        (λ less. HasLesser t.nodes (viewers_from t None (other_side from) h q) koid less) → HasLesserOf t tag koid answer
+    lesser-beside from None here there = record {
+      list = both_sides h q;
+      viewers = above-viewers h q tag has its-hidden;
+      answer_is = below-both from here there;
+    }
+    lesser-beside from (Some less) here found = lesser-above (other_side from) less found
+
 -- ---- who views a frame
 
 -- the number of the koid of a node, 0 where there is none
@@ -333,6 +390,25 @@ module _ (f : Forest) (s : IsStore f) (tag : ℕ) (list : List ℕ) (are : AreVi
         let number = its.is.number in
         absurd (omega arith));
   }
+
+  -- a koid that is less is that of a VMO which views the frame, and without one there is no such VMO
+  pub lesser-viewer : (koid : Koid) (answer : Option Koid) → MatchOption answer (IsBelowAll (nodes_of f.arena) list koid) (λ less. HasLesser (nodes_of f.arena) list koid less) →
+      IfSome answer (λ less. (less.0 < koid.0) × (views (content_of f) tag less.0 ≡ true)) × IfNone answer ((w : ℕ) → w < koid.0 → views (content_of f) tag w ≡ false)
+  lesser-viewer koid None none = (
+    tt,
+    λ w below. false_from_ne_true (views (content_of f) tag w) (λ e.
+        let it = (views-shown f s w tag).0 e in
+        let its = it.2.page.node in
+        let inside = (are.each it.0).1 (record { p = it.1; page = it.2.page.page; frame = it.2.frame }) in
+        let most = none it.0 its.is.koid inside (record { node = its.node; at = its.is.at; koid_is = its.is.has_koid }) in
+        let number = its.is.number in
+        absurd (omega arith)),
+  )
+  lesser-viewer koid (Some less) found =
+      let shows = (are.each found.v).0 found.inside in
+      let it = vmo-of f s tag found.v shows in
+      let number : it.0 ≡ less.0 = sym (number-of f s it.0 found.v it.1.page.node) ∙ (ap number_in found.has.at ∙ ap koid_number found.has.koid_is) in
+      ((found.below, subst (λ v. views (content_of f) tag v ≡ true) number (shown-views f s it.0 found.v shows.p tag it.1)), tt)
 
 module _ (f : Forest) (s : IsStore f) where
   -- a frame that is taken stands in a row, to which its backlink leads: its list is that of a node

@@ -25,7 +25,7 @@ use crate::node_table::NodeTable;
 use crate::owning::own_page;
 use crate::ranges::zero_pages;
 use crate::tables::{disown, leave_other, make_room, renew_merged};
-use crate::viewing::{least_koid_of, viewer_count_of};
+use crate::viewing::{least_koid_of, lesser_koid_of, viewer_count_of};
 use cow_arena::CowArena;
 use cow_fork::{share, zero_by_jumps};
 use cow_jump::{JumpTable, note_pair, retire_pair};
@@ -394,6 +394,12 @@ impl PageStore for CowForest {
         let link = self.frames.backlink(tag);
         let node = self.owners.get(link.list);
         least_koid_of(&self.arena, &self.lists, node, link.page)
+    }
+
+    fn lesser_viewer(&self, tag: Tag, v: Koid) -> Option<Koid> {
+        let link = self.frames.backlink(tag);
+        let node = self.owners.get(link.list);
+        lesser_koid_of(&self.arena, &self.lists, node, link.page, v)
     }
 
     fn viewers(&self, v: Koid, page: PageNo) -> u64 {

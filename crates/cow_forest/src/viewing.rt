@@ -1,15 +1,16 @@
 //! The VMOs that show a frame.
 
-ghost use Rattle.std.specs.Prelude.{◌≡◌, ℕ, Bool, IsSomeAnd, Some, None};
-ghost use Rattle.cow_arena.specs.Nodes.{nodes_of};
+ghost use Rattle.std.specs.Prelude.{◌≡◌, ℕ, Bool, IsSome, IsSomeAnd, Some, None};
+ghost use Rattle.cow_arena.specs.Nodes.{nodes_of, other_side};
+ghost use Rattle.cow_arena.specs.Forest.{IsForest};
 ghost use Rattle.cow_arena.specs.Walk.{frame_at};
 ghost use Rattle.cow_split.specs.Trees.{tree_of};
 ghost use Rattle.cow_split.specs.Sight.{IsPage};
 ghost use Rattle.cow_split.specs.Exact.{IsExact, all_in_sight};
-ghost use Rattle.cow_forest.specs.inside.Viewing.{HasFrameRow, IsViewerCount, IsLeastKoidOf};
+ghost use Rattle.cow_forest.specs.inside.Viewing.{HasFrameRow, IsViewerCount, IsLeastKoidOf, HasLesserOf};
 
 use cow_arena::{CowArena, NodeId, Side};
-use cow_split::{Holder, holder, least_koid, lesser, viewer_count};
+use cow_split::{Holder, holder, koid_below, least_koid, lesser, viewer_count};
 use page_list::PageLists;
 use vm_base::{Koid, PageNo};
 
@@ -28,6 +29,53 @@ pub(crate) fn least_koid_of(arena: &CowArena, lists: &PageLists, node: NodeId, p
         unreachable!()
     };
     koid
+}
+
+/// Returns a koid below `koid` of a VMO that sees the row of a page of a node: the first that the search finds. `None` if
+/// and only if there is none. The row has a frame.
+///
+/// The search begins on the right, if the child there is visible. Otherwise it begins on the left, where the VMO is of
+/// which the snapshot on the right was made.
+pub(crate) fn lesser_koid_of(
+    arena: &CowArena,
+    lists: &PageLists,
+    node: NodeId,
+    page: PageNo,
+    koid: Koid,
+) -> Option<Koid>
+    requires exact { (in_use : ℕ → Bool) × IsExact (tree_of arena.now lists.now) all_in_sight in_use }
+    requires row { (tag : ℕ) × HasFrameRow (tree_of arena.now lists.now) node.0 page tag }
+    ensures { (tag : ℕ) → HasFrameRow (tree_of arena.now lists.now) node.0 page tag → HasLesserOf (tree_of arena.now lists.now) tag koid result }
+{
+    if let Some(own) = arena.node(node).koid {
+        return if own.0 < koid.0 { Some(own) } else { None };
+    }
+    let first = first_side(arena, node);
+    if let Some(less) = koid_below(arena, lists, first, node, page, koid) {
+        return Some(less);
+    }
+    koid_below(arena, lists, other_side(first), node, page, koid)
+}
+
+/// Returns the side on which a search below a node begins.
+fn first_side(arena: &CowArena, node: NodeId) -> Side
+    requires forest { IsForest (nodes_of arena.now) arena.now.lists }
+    requires node { IsSome (nodes_of arena.now node.0) }
+{
+    match arena.node(node).child_on(Side::Right) {
+        Some(child) if arena.look(child).koid.is_some() => Side::Right,
+        _ => Side::Left,
+    }
+}
+
+/// Returns the side that is not this one.
+fn other_side(side: Side) -> Side
+    ensures { result ≡ other_side side }
+{
+    match side {
+        Side::Left => Side::Right,
+        Side::Right => Side::Left,
+    }
 }
 
 /// How many VMOs show the frame that a page of a VMO's node shows.

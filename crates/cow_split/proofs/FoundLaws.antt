@@ -12,8 +12,8 @@ use Rattle.cow_arena.specs.declared.node.Node.{Node}
 use Rattle.cow_arena.specs.Nodes.{Nodes}
 use Rattle.cow_arena.specs.Walk.{Tree}
 use Rattle.cow_split.specs.declared.viewers.Cursor.{Cursor}
-use Rattle.cow_split.specs.Viewers.{HasKoid, IsBelowAll, IsLeastKoid, lesser_of}
-use Rattle.cow_split.specs.Searching.{Finds, FindsFirst, IsSearch, IsAmid, HasCounted, HasLeast}
+use Rattle.cow_split.specs.Viewers.{HasKoid, HasLesser, IsBelowAll, IsLeastKoid, lesser_of}
+use Rattle.cow_split.specs.Searching.{Finds, FindsFirst, IsSearch, IsAmid, HasCounted, HasLeast, HasNoneLess}
 use Rattle.cow_split.proofs.SearchLaws.{contains-none}
 
 module _ (t : Tree) (except : Option NodeId) (all : List ℕ) where
@@ -127,3 +127,44 @@ module _ (t : Tree) (except : Option NodeId) (all : List ℕ) where
       ((ahead : List ℕ) → Finds t except from ahead → ahead ≡ []) → MatchOption least (all ≡ []) (λ koid. IsLeastKoid t.nodes all koid)
   least-end least from h last = subst (λ list. MatchOption least (list ≡ []) (λ koid. IsLeastKoid t.nodes list koid))
       (sym (amid-end t except all h.found from h.amid last)) h.least_is
+
+  -- ---- a koid that is less than another
+
+  pub none_less-begins : (koid : Koid) (from : Option Cursor) → Finds t except from all → HasNoneLess t except all koid from
+  none_less-begins koid from finds = record { found = []; amid = amid-begins t except all from finds; none = λ w other inside has. absurd (contains-none w inside) }
+
+  pub none_less-search : (koid : Koid) (from : Option Cursor) → HasNoneLess t except all koid from → IsSearch t except from
+  none_less-search koid from h = record { ahead = h.amid.ahead; finds = h.amid.finds }
+
+  pub none_less-has : (koid : Koid) (from next : Option Cursor) (v : ℕ) → HasNoneLess t except all koid from →
+      ((ahead : List ℕ) → Finds t except from ahead → FindsFirst t except v next ahead) → Contains all v
+  none_less-has koid from next v h first = amid-has t except all h.found next v (amid-next t except all h.found from next v h.amid first)
+
+  -- the node that is found next has a koid that is not less, or one that is
+  pub none_less-next : (koid : Koid) (from next : Option Cursor) (v : ℕ) (node : Node) → HasNoneLess t except all koid from →
+      ((ahead : List ℕ) → Finds t except from ahead → FindsFirst t except v next ahead) → t.nodes v ≡ Some node → IsSome node.koid →
+      ((other : Koid) → node.koid ≡ Some other → koid.0 ≤ other.0) → HasNoneLess t except all koid next
+  none_less-next koid from next v node h first at some most = with_koid node.koid refl some
+    where
+      with_koid : (o : Option Koid) → node.koid ≡ o → IsSome o → HasNoneLess t except all koid next
+      with_koid None e s = absurd (cc)
+      with_koid (Some other) e s = record {
+        found = h.found ++ v ∷ [];
+        amid = amid-next t except all h.found from next v h.amid first;
+        none = below-more t.nodes h.found v other (record { node = node; at = at; koid_is = e }) koid h.none (most other e);
+      }
+
+  pub none_less-found : (koid less : Koid) (from next : Option Cursor) (v : ℕ) (node : Node) → HasNoneLess t except all koid from →
+      ((ahead : List ℕ) → Finds t except from ahead → FindsFirst t except v next ahead) → t.nodes v ≡ Some node → node.koid ≡ Some less →
+      less.0 < koid.0 → HasLesser t.nodes all koid less
+  none_less-found koid less from next v node h first at named below = record {
+    v = v;
+    inside = none_less-has koid from next v h first;
+    has = record { node = node; at = at; koid_is = named };
+    below = below;
+  }
+
+  pub none_less-end : (koid : Koid) (from : Option Cursor) → HasNoneLess t except all koid from →
+      ((ahead : List ℕ) → Finds t except from ahead → ahead ≡ []) → IsBelowAll t.nodes all koid
+  none_less-end koid from h last =
+      subst (λ list. IsBelowAll t.nodes list koid) (sym (amid-end t except all h.found from h.amid last)) h.none

@@ -10,7 +10,7 @@ use Rattle.cow_arena.specs.Walk.{Tree, Slots, tree_with}
 use Rattle.cow_arena.specs.Ways.{Arrives}
 use Rattle.cow_split.specs.Cost.{depth}
 use Rattle.cow_split.specs.Search.{viewers_over}
-use Rattle.cow_split.specs.Viewers.{IsLeastKoid}
+use Rattle.cow_split.specs.Viewers.{IsBelowAll, IsLeastKoid}
 use Rattle.cow_split.specs.declared.answers.Holder.{Holder}
 use Rattle.cow_split.specs.declared.answers.Holder.TheVariants as holder
 use Rattle.cow_split.specs.declared.viewers.Cursor.{Cursor}
@@ -106,6 +106,12 @@ pub record HasLeast (t : Tree) (except : Option NodeId) (all : List ℕ) (least 
   pub found : List ℕ
   pub amid : IsAmid t except all found from
   pub least_is : MatchOption least (found ≡ []) (λ koid. IsLeastKoid t.nodes found koid)
+
+-- no node that a search found has a koid that is less than this
+pub record HasNoneLess (t : Tree) (except : Option NodeId) (all : List ℕ) (koid : Koid) (from : Option Cursor) : Type 0 where
+  pub found : List ℕ
+  pub amid : IsAmid t except all found from
+  pub none : IsBelowAll t.nodes found koid
 
 -- what a search meets at node k, at page q of its parent
 abbrev pub IsMet : Tree → (except : Option NodeId) → (k q : ℕ) → Met → Type 0

@@ -20,4 +20,4 @@ pub use climbing::{holder, holder_above};
 pub use cutting::{cut, cut_holder, cut_row, is_last};
 pub use existing::reached_from;
 pub use search::{sees, side_seen};
-pub use viewers::{least_koid, lesser, viewer_count};
+pub use viewers::{koid_below, least_koid, lesser, viewer_count};

@@ -1,7 +1,7 @@
 //! The search downwards for the visible nodes from which a page of a node is reached. It finds them one after another,
 //! from left to right.
 
-ghost use Rattle.std.specs.Prelude.{◌≡◌, ℕ, ◌<◌, List, [], length, Option, None, IsSome, IfSome, MatchOption};
+ghost use Rattle.std.specs.Prelude.{◌≡◌, ℕ, ◌<◌, ◌≤◌, List, Some, [], length, Option, None, IsSome, IfSome, MatchOption};
 ghost use Rattle.cow_arena.specs.Nodes.{nodes_of, leads_to};
 ghost use Rattle.cow_arena.specs.declared.node.NodeId.{NodeId};
 ghost use Rattle.cow_arena.specs.Walk.{Slots, tree_with};
@@ -9,7 +9,7 @@ ghost use Rattle.cow_arena.specs.Forest.{IsForest};
 ghost use Rattle.cow_split.specs.Trees.{tree_of};
 ghost use Rattle.cow_split.specs.Search.{viewers_from};
 ghost use Rattle.cow_split.specs.Searching.{Below, viewer_met, IsAhead, IsPassed, IsPassedBySome, Finds, FindsFirst, IsSearch, IsMet, weight_ahead, weight_from};
-ghost use Rattle.cow_split.specs.Viewers.{IsLeastKoid, lesser_of};
+ghost use Rattle.cow_split.specs.Viewers.{HasLesser, IsBelowAll, IsLeastKoid, lesser_of};
 
 use cow_arena::{CowArena, NodeId, Side};
 use page_list::PageLists;
@@ -58,6 +58,40 @@ pub fn least_koid(
         from = after;
     }
     least
+}
+
+/// Returns a koid below `koid` of a node that `viewer_count` counts: the first that the search finds. `None` if and only
+/// if there is none.
+pub fn koid_below(
+    arena: &CowArena,
+    lists: &PageLists,
+    side: Side,
+    node: NodeId,
+    page: PageNo,
+    koid: Koid,
+) -> Option<Koid>
+    requires forest { IsForest (nodes_of arena.now) arena.now.lists }
+    requires node { IsSome (nodes_of arena.now node.0) }
+    ensures { MatchOption result (IsBelowAll (nodes_of arena.now) (viewers_from (tree_of arena.now lists.now) None side node.0 page) koid)
+        (λ less. HasLesser (nodes_of arena.now) (viewers_from (tree_of arena.now lists.now) None side node.0 page) koid less) }
+{
+    let mut from = search_below(arena, side, node, page);
+    while let Some((viewer, after)) = next_viewer(arena, lists, from) {
+        if let Some(less) = if_below(arena.node(viewer).koid, koid) {
+            return Some(less);
+        }
+        from = after;
+    }
+    None
+}
+
+/// Returns this koid, if it is below another.
+#[inline(always)]
+fn if_below(one: Option<Koid>, other: Koid) -> Option<Koid>
+    ensures { MatchOption result ((koid : Koid) → one ≡ Some koid → other.0 ≤ koid.0) (λ less. (one ≡ Some less) × (less.0 < other.0)) }
+{
+    let koid = one?;
+    if koid.0 < other.0 { Some(koid) } else { None }
 }
 
 /// The lesser of two koids, or the only one, if one of them is `None`.

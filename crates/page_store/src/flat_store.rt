@@ -341,6 +341,11 @@ impl PageStore for FlatStore {
         unreachable!()
     }
 
+    fn lesser_viewer(&self, tag: Tag, v: Koid) -> Option<Koid> {
+        let least = self.least_viewer(tag);
+        if least.0 < v.0 { Some(least) } else { None }
+    }
+
     fn viewers(&self, v: Koid, page: PageNo) -> u64 {
         match self.rows.find(v.0, page) {
             Some(tag) => self.shares[tag.0 as usize],

@@ -1,7 +1,7 @@
 //! The contract of a store of pages.
 
-ghost use Rattle.std.specs.Prelude.{◌≡◌, ℕ, ◌+◌, ◌<◌, ◌≤◌, ◌⊎◌, Bool, true, length, is_ok, IsSome, None, Some, IfSome, IfNone, IfOk, OnOk, OnErr};
-ghost use Rattle.vm_model.specs.Contents.Content.{Content, nothing, used, sole, pages_of, created, vmos_of};
+ghost use Rattle.std.specs.Prelude.{◌≡◌, ℕ, ◌+◌, ◌<◌, ◌≤◌, ◌⊎◌, Bool, true, false, length, is_ok, IsSome, None, Some, IfSome, IfNone, IfOk, OnOk, OnErr};
+ghost use Rattle.vm_model.specs.Contents.Content.{Content, nothing, used, sole, pages_of, created, views, vmos_of};
 ghost use Rattle.vm_model.specs.Contents.Owning.{Owns};
 ghost use Rattle.vm_model.specs.Contents.Sharing.{viewers, IsLeastViewer, snapshotted, without};
 ghost use Rattle.vm_model.specs.Contents.Zeroing.{zeroed, resized};
@@ -160,6 +160,13 @@ pub trait PageStore: Drop {
     fn least_viewer(&self, tag: Tag) -> Koid
         requires { IsShown (content self.now) tag.0 }
         ensures { IsLeastViewer (content self.now) tag.0 result.0 };
+
+    /// Returns the koid of a VMO that shows a frame, of which there is one at least, if such a koid is below `v`. `None`
+    /// if and only if none is. It need not be the least, so a store may end its search at the first.
+    fn lesser_viewer(&self, tag: Tag, v: Koid) -> Option<Koid>
+        requires { IsShown (content self.now) tag.0 }
+        ensures some { IfSome result (λ w. (w.0 < v.0) × (views (content self.now) tag.0 w.0 ≡ true)) }
+        ensures none { IfNone result ((w : ℕ) → w < v.0 → views (content self.now) tag.0 w ≡ false) };
 
     /// Returns how many VMOs show the frame of a page that is held.
     fn viewers(&self, v: Koid, page: PageNo) -> u64

@@ -250,6 +250,10 @@ impl<P: PageStore> PageStore for RefusingStore<P> {
         self.inner.least_viewer(tag)
     }
 
+    fn lesser_viewer(&self, tag: Tag, v: Koid) -> Option<Koid> {
+        self.inner.lesser_viewer(tag, v)
+    }
+
     fn viewers(&self, v: Koid, page: PageNo) -> u64 {
         self.inner.viewers(v, page)
     }

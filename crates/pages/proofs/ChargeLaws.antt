@@ -1,13 +1,12 @@
--- Which VMO is charged for a frame: the one with the least koid that shows it.
-use Rattle.std.proofs.Common.{◌≡◌, ◌≢◌, ℕ, Bool, true, false, not, ◌==◌, Some, refl, sym, ap, subst, ◌∙◌, inl, inr, arith}
-use Rattle.std.proofs.lemmas.Bool.{cases_order, both_ways, not_from_true, not_from_false}
+-- Which VMO is charged for a frame: the one that shows it while no VMO with a lesser koid does.
+use Rattle.std.proofs.Common.{◌≡◌, ℕ, ◌<◌, Bool, true, false, not, Option, None, Some, refl, sym, ap, ◌∙◌}
+use Rattle.std.specs.Prelude.{IfSome, IfNone, is_some}
+use Rattle.vm_base.specs.declared.names.Koid.{Koid}
 use Rattle.vm_base.specs.declared.names.Tag.{Tag}
 use Rattle.vm_base.specs.Search.{any_below}
-use Rattle.vm_base.proofs.SearchLaws.{any_below_at, none_below, eqb_same, eqb_apart}
-use Rattle.vm_model.specs.Contents.Content.{Page, Content, views, IsGood}
-use Rattle.vm_model.specs.Contents.Sharing.{IsLeastViewer}
+use Rattle.vm_base.proofs.SearchLaws.{any_below_at, none_below}
+use Rattle.vm_model.specs.Contents.Content.{Page, Content, views}
 use Rattle.vm_model.specs.Machine.Attribution.{is_charged_page, is_charged}
-use Rattle.vm_model.proofs.SharingLaws.{views_held}
 use Rattle.page_store.specs.Pages.{frame_of}
 use Rattle.pages.proofs.LookLaws.{held_frame}
 
@@ -20,27 +19,22 @@ pub is_charged-at : (c : Content) (v p : ℕ) (held : Page) → c.page v p ≡ S
     → is_charged c v p ≡ is_charged_page c v (Some held)
 is_charged-at c v p held e = ap (is_charged_page c v) e
 
--- a VMO that shows a frame is charged for it exactly where its koid is the least that does
-pub is_charged-least : (c : Content) (v p w : ℕ) (held : Page) → IsGood c → c.page v p ≡ Some held
-    → IsLeastViewer c held.tag w → is_charged c v p ≡ (w == v)
-is_charged-least c v p w held good e least =
-    let shows : ℕ → Bool = views c held.tag in
-    is_charged-at c v p held e ∙ is_charged_page-some c v held
-    ∙ elim (cases_order w v) [
-      | inl same ↦
-          let none : any_below v shows ≡ false = none_below v shows (λ k h. least.least k (omega arith)) in
-          not_from_false (any_below v shows) none ∙ sym (ap (λ (u : ℕ). u == v) same ∙ eqb_same v)
-      | inr other ↦ elim other [
-        | inl less ↦
-            let found : any_below v shows ≡ true = any_below_at v w shows less least.shows in
-            let apart : w ≢ v = λ same. absurd (omega arith) in
-            not_from_true (any_below v shows) found ∙ sym (eqb_apart w v apart)
-        | inr more ↦ absurd (both_ways (shows v) (least.least v more) (views_held c held.tag v p held good e refl))
-      ]
-    ]
+-- the other way round
+pub not_turned : (one other : Bool) → one ≡ not other → other ≡ not one
+not_turned one true e = sym (ap not e)
+not_turned one false e = sym (ap not e)
 
--- the same of a page by its frame
-pub is_charged-frame : (c : Content) (v p w : ℕ) (tag : Tag) → IsGood c → Some tag ≡ frame_of (c.page v p) → IsLeastViewer c tag.0 w → is_charged c v p ≡ (w == v)
-is_charged-frame c v p w tag good frame least =
+-- an answer to whether a test holds of a number below v
+found_below : (v : ℕ) (test : ℕ → Bool) (answer : Option Koid) → IfSome answer (λ w. (w.0 < v) × (test w.0 ≡ true))
+    → IfNone answer ((w : ℕ) → w < v → test w ≡ false) → any_below v test ≡ is_some answer
+found_below v test None some none = none_below v test none
+found_below v test (Some w) some none = any_below_at v w.0 test some.0 some.1
+
+-- a VMO is charged for a frame that it shows where no VMO with a lesser koid shows it
+pub is_charged-lesser : (c : Content) (v p : ℕ) (tag : Tag) → Some tag ≡ frame_of (c.page v p) → (answer : Option Koid)
+    → IfSome answer (λ w. (w.0 < v) × (views c tag.0 w.0 ≡ true)) → IfNone answer ((w : ℕ) → w < v → views c tag.0 w ≡ false)
+    → is_charged c v p ≡ not (is_some answer)
+is_charged-lesser c v p tag frame answer some none =
     let is = held_frame (c.page v p) tag frame in
-    is_charged-least c v p w is.0 good is.1 (subst (λ (t : ℕ). IsLeastViewer c t w) (sym is.2) least)
+    is_charged-at c v p is.0 is.1 ∙ is_charged_page-some c v is.0
+    ∙ ap (λ (t : ℕ). not (any_below v (views c t))) is.2 ∙ ap not (found_below v (views c tag.0) answer some none)

@@ -72,7 +72,7 @@ impl<P: PageStore> crate::pages::Pages for P {
     }
 
     fn is_charged(&self, v: Koid, _page: PageNo, tag: Tag) -> bool {
-        self.least_viewer(tag) == v
+        self.lesser_viewer(tag, v).is_none()
     }
 
     fn frames(&self) -> u32 {

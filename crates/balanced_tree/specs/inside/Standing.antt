@@ -2,7 +2,7 @@
 use Rattle.std.specs.Prelude.{◌≡◌, ◌⊎◌, ℕ, ◌+◌, ◌-◌, ◌*◌, ◌^◌, ◌<◌, ◌≤◌, cond, length, List, [], ◌∷◌, ◌++◌, zero, suc, IsTrue, Option, None, Some}
 use Rattle.slab.specs.Slab.{Slab, get, slab_len, HasRoomFor}
 use Rattle.balanced_tree.specs.declared.changes.Change.{Change}
-use Rattle.balanced_tree.specs.declared.changes.Change.TheVariants.{Hidden, Root}
+use Rattle.balanced_tree.specs.declared.changes.Change.TheVariants.{Hidden, Empty, Root}
 use Rattle.balanced_tree.specs.declared.children.Child.{Child}
 use Rattle.balanced_tree.specs.Row.{Functions, link_of, height_in, plain}
 use Rattle.balanced_tree.specs.Rows.{Rows}
@@ -26,7 +26,13 @@ module _ {R : Type 0} where
 -- the link to the root after a change
 abbrev pub root_after : Change → Option ℕ → Option ℕ
 root_after Hidden before = before
-root_after (Root link) before = link
+root_after Empty before = None
+root_after (Root link) before = Some link
+
+-- the change after which this is the link to the root
+abbrev pub change_to : Option ℕ → Change
+change_to None = Empty
+change_to (Some link) = Root link
 
 module _ {R : Type 0} (f : Functions R) where
   -- rows are stored over the one child as over the other
@@ -36,9 +42,9 @@ module _ {R : Type 0} (f : Functions R) where
     pub left : (z : R) (r : Option (Child R)) → f.linked z a r ≡ f.linked z b r
     pub right : (z : R) (l : Option (Child R)) → f.linked z l a ≡ f.linked z l b
 
-  -- the change names the link to the root of the tree, or hides that it is another than the child that was there
+  -- the change leads from the child that was there to the root of the tree, or hides that it is another one
   pub record IsRooted (had : Option (Child R)) (t : Tree R) (change : Change) : Type 0 where
-    pub root : (q : Option ℕ) → change ≡ Root q → place_of t ≡ q
+    pub root : place_of t ≡ root_after change (link_of had)
     pub hidden : change ≡ Hidden → IsLike had (child_of f t)
 
   -- under each place of the tree stands its row over its parts

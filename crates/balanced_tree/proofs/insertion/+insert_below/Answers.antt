@@ -1,6 +1,8 @@
 use Rattle.std.proofs.Common.{◌+◌, is_some, sym, ap, ◌∙◌, arith}
+use Rattle.balanced_tree.specs.inside.Standing.{root_after}
 use Rattle.balanced_tree.proofs.PlainLaws.{less_of, most_of, less_there, past_there, to_next, to_fourth}
 use Rattle.balanced_tree.proofs.Nodes.{node_of, standing-at, lower-left, lower-right, rank_here, stays_left, stays_right, readable-left_part, readable-right_part, Splits-left, Splits-right, StandsFor-left, StandsFor-right}
+use Rattle.balanced_tree.proofs.Hiding.{rooted-link}
 use Rattle.balanced_tree.proofs.Insertions.{insert-left, insert-right, insert-left_hidden, insert-right_hidden, insert-here, insert-leaf}
 use Rattle.balanced_tree.proofs.insertion.+insert_below.Goals as goal
 
@@ -11,15 +13,15 @@ returns-in_default-clause-inserted g t c =
     insert-leaf f tree (standing-at f c.in_default.is standing) from below c.add.ensures.was_vacant c.add.ensures.place
     (rw (← c.linked.ensures) c.add.ensures.updates) c.add.ensures.len (to_next c.args.steps.now c.add.ensures.step)
 
-pub insert_below-requires : goal.insert_below-requires
-insert_below-requires g t c κs within =
+pub insert_below-change-requires : goal.insert_below-change-requires
+insert_below-change-requires g t c κs within =
     let f = g.R.TreeRow.functions in
     let law = g.met.R.TreeRow.lawful in
     let less = lower-left f law c.requires.standing c.in-Some.is c.look-here.ensures.row c.left-below.ensures in
     (omega (arith, less), (within.0, (within.1, StandsFor-left f law c.requires c.in-Some.is c.look-here.ensures.row c.left-below.ensures (less_of c.rank-rank.ensures c.rank-there.ensures c.if-rank-there.true))))
 
-pub insert_below-requires-then-there-rank : goal.insert_below-requires-then-there-rank
-insert_below-requires-then-there-rank g t c κs within =
+pub insert_below-change-requires-then-there-rank : goal.insert_below-change-requires-then-there-rank
+insert_below-change-requires-then-there-rank g t c κs within =
     let f = g.R.TreeRow.functions in
     let law = g.met.R.TreeRow.lawful in
     let less = lower-right f law c.requires.standing c.in-Some.is c.look-here.ensures.row c.right-below.ensures in
@@ -30,7 +32,7 @@ row-here-requires g t c =
     let f = g.R.TreeRow.functions in
     let law = g.met.R.TreeRow.lawful in
     let n = node_of f law c.requires.standing c.in-Some.is c.look-here.ensures.row in
-    let sub = c.insert_below.ensures.inserted n.left c.requires.low (f.rank n.row) (standing-at f (sym c.left-below.ensures) n.left_standing) c.requires.from_low (less_there c.rank-rank.ensures c.rank-there.ensures (rank_here f n) c.if-rank-there.true) in
+    let sub = c.insert_below-change.ensures.inserted n.left c.requires.low (f.rank n.row) (standing-at f (sym c.left-below.ensures) n.left_standing) c.requires.from_low (less_there c.rank-rank.ensures c.rank-there.ensures (rank_here f n) c.if-rank-there.true) in
     ap is_some (stays_left f n sub.becomes.kept)
 
 pub rebalance-requires : goal.rebalance-requires
@@ -38,24 +40,24 @@ rebalance-requires g t c =
     let f = g.R.TreeRow.functions in
     let law = g.met.R.TreeRow.lawful in
     let n = node_of f law c.requires.standing c.in-Some.is c.look-here.ensures.row in
-    let sub = c.insert_below.ensures.inserted n.left c.requires.low (f.rank n.row) (standing-at f (sym c.left-below.ensures) n.left_standing) c.requires.from_low (less_there c.rank-rank.ensures c.rank-there.ensures (rank_here f n) c.if-rank-there.true) in
-    Splits-left f law n sub.becomes c.row-here.ensures.row (sub.rooted.root _ c.in-Root.is) c.right.ensures
+    let sub = c.insert_below-change.ensures.inserted n.left c.requires.low (f.rank n.row) (standing-at f (sym c.left-below.ensures) n.left_standing) c.requires.from_low (less_there c.rank-rank.ensures c.rank-there.ensures (rank_here f n) c.if-rank-there.true) in
+    Splits-left f law n sub.becomes c.row-here.ensures.row (rooted-link f n.left sub.rooted n.left_standing.is_at ∙ sym (c.root_after-left.ensures ∙ ap (root_after c.insert_below-change.result) c.left-below.ensures)) c.right.ensures
 
-pub row-here-requires-in-Root-insert_below : goal.row-here-requires-in-Root-insert_below
-row-here-requires-in-Root-insert_below g t c =
+pub row-here-requires-in_default-change-2 : goal.row-here-requires-in_default-change-2
+row-here-requires-in_default-change-2 g t c =
     let f = g.R.TreeRow.functions in
     let law = g.met.R.TreeRow.lawful in
     let n = node_of f law c.requires.standing c.in-Some.is c.look-here.ensures.row in
-    let sub = c.insert_below-then-there-rank.ensures.inserted n.right (f.rank n.row + 1) c.requires.high (standing-at f (sym c.right-below.ensures) n.right_standing) (past_there c.rank-there.ensures c.rank-rank.ensures (rank_here f n) c.if-there-rank.true) c.requires.below_high in
+    let sub = c.insert_below-change-then-there-rank.ensures.inserted n.right (f.rank n.row + 1) c.requires.high (standing-at f (sym c.right-below.ensures) n.right_standing) (past_there c.rank-there.ensures c.rank-rank.ensures (rank_here f n) c.if-there-rank.true) c.requires.below_high in
     ap is_some (stays_right f n sub.becomes.kept)
 
-pub rebalance-requires-in-Root-insert_below : goal.rebalance-requires-in-Root-insert_below
-rebalance-requires-in-Root-insert_below g t c =
+pub rebalance-requires-in_default-change-2 : goal.rebalance-requires-in_default-change-2
+rebalance-requires-in_default-change-2 g t c =
     let f = g.R.TreeRow.functions in
     let law = g.met.R.TreeRow.lawful in
     let n = node_of f law c.requires.standing c.in-Some.is c.look-here.ensures.row in
-    let sub = c.insert_below-then-there-rank.ensures.inserted n.right (f.rank n.row + 1) c.requires.high (standing-at f (sym c.right-below.ensures) n.right_standing) (past_there c.rank-there.ensures c.rank-rank.ensures (rank_here f n) c.if-there-rank.true) c.requires.below_high in
-    Splits-right f law n sub.becomes c.row-here-in-Root-insert_below.ensures.row c.left.ensures (sub.rooted.root _ c.in-Root-insert_below.is)
+    let sub = c.insert_below-change-then-there-rank.ensures.inserted n.right (f.rank n.row + 1) c.requires.high (standing-at f (sym c.right-below.ensures) n.right_standing) (past_there c.rank-there.ensures c.rank-rank.ensures (rank_here f n) c.if-there-rank.true) c.requires.below_high in
+    Splits-right f law n sub.becomes c.row-here-in_default-change-2.ensures.row c.left.ensures (rooted-link f n.right sub.rooted n.right_standing.is_at ∙ sym (c.root_after-right.ensures ∙ ap (root_after c.insert_below-change-then-there-rank.result) c.right-below.ensures))
 
 pub put_over-requires-clause-left : goal.put_over-requires-clause-left
 put_over-requires-clause-left g t c =
@@ -71,25 +73,25 @@ put_over-requires-clause-right g t c =
     let n = node_of f law c.requires.standing c.in-Some.is c.look-here.ensures.row in
     λ q e. readable-right_part f n c.args.rows.now q n.right_standing.spelled (sym c.right-right.ensures ∙ e)
 
-pub returns-in-Root-clause-inserted : goal.returns-in-Root-clause-inserted
-returns-in-Root-clause-inserted g t c =
+pub returns-in_default-change-clause-inserted : goal.returns-in_default-change-clause-inserted
+returns-in_default-change-clause-inserted g t c =
     let f = g.R.TreeRow.functions in
     let law = g.met.R.TreeRow.lawful in
     λ tree low high standing from below.
     let n = node_of f law standing c.in-Some.is c.look-here.ensures.row in
-    let sub = c.insert_below.ensures.inserted n.left low (f.rank n.row) (standing-at f (sym c.left-below.ensures) n.left_standing) from (less_there c.rank-rank.ensures c.rank-there.ensures (rank_here f n) c.if-rank-there.true) in
-    insert-left f law n (less_of c.rank-rank.ensures c.rank-there.ensures c.if-rank-there.true) sub c.in-Root.is c.row-here.ensures.row c.right.ensures c.rebalance.ensures.tree c.rebalance.ensures.len
-    (to_next c.args.steps.now c.look-here.ensures.step) (to_next c.insert_below.new.steps c.row-here.ensures.step) c.rebalance.ensures.steps
+    let sub = c.insert_below-change.ensures.inserted n.left low (f.rank n.row) (standing-at f (sym c.left-below.ensures) n.left_standing) from (less_there c.rank-rank.ensures c.rank-there.ensures (rank_here f n) c.if-rank-there.true) in
+    insert-left f law n (less_of c.rank-rank.ensures c.rank-there.ensures c.if-rank-there.true) sub (c.root_after-left.ensures ∙ ap (root_after c.insert_below-change.result) c.left-below.ensures) c.row-here.ensures.row c.right.ensures c.rebalance.ensures.tree c.rebalance.ensures.len
+    (to_next c.args.steps.now c.look-here.ensures.step) (to_next c.insert_below-change.new.steps c.row-here.ensures.step) c.rebalance.ensures.steps
 
-pub returns-in-Root-insert_below-clause-inserted : goal.returns-in-Root-insert_below-clause-inserted
-returns-in-Root-insert_below-clause-inserted g t c =
+pub returns-in_default-change-2-clause-inserted : goal.returns-in_default-change-2-clause-inserted
+returns-in_default-change-2-clause-inserted g t c =
     let f = g.R.TreeRow.functions in
     let law = g.met.R.TreeRow.lawful in
     λ tree low high standing from below.
     let n = node_of f law standing c.in-Some.is c.look-here.ensures.row in
-    let sub = c.insert_below-then-there-rank.ensures.inserted n.right (f.rank n.row + 1) high (standing-at f (sym c.right-below.ensures) n.right_standing) (past_there c.rank-there.ensures c.rank-rank.ensures (rank_here f n) c.if-there-rank.true) below in
-    insert-right f law n (less_of c.rank-there.ensures c.rank-rank.ensures c.if-there-rank.true) sub c.in-Root-insert_below.is c.row-here-in-Root-insert_below.ensures.row c.left.ensures c.rebalance-in-Root-insert_below.ensures.tree c.rebalance-in-Root-insert_below.ensures.len
-    (to_next c.args.steps.now c.look-here.ensures.step) (to_next c.insert_below-then-there-rank.new.steps c.row-here-in-Root-insert_below.ensures.step) c.rebalance-in-Root-insert_below.ensures.steps
+    let sub = c.insert_below-change-then-there-rank.ensures.inserted n.right (f.rank n.row + 1) high (standing-at f (sym c.right-below.ensures) n.right_standing) (past_there c.rank-there.ensures c.rank-rank.ensures (rank_here f n) c.if-there-rank.true) below in
+    insert-right f law n (less_of c.rank-there.ensures c.rank-rank.ensures c.if-there-rank.true) sub (c.root_after-right.ensures ∙ ap (root_after c.insert_below-change-then-there-rank.result) c.right-below.ensures) c.row-here-in_default-change-2.ensures.row c.left.ensures c.rebalance-in_default-change-2.ensures.tree c.rebalance-in_default-change-2.ensures.len
+    (to_next c.args.steps.now c.look-here.ensures.step) (to_next c.insert_below-change-then-there-rank.new.steps c.row-here-in_default-change-2.ensures.step) c.rebalance-in_default-change-2.ensures.steps
 
 pub returns-in-Hidden-clause-inserted : goal.returns-in-Hidden-clause-inserted
 returns-in-Hidden-clause-inserted g t c =
@@ -97,17 +99,17 @@ returns-in-Hidden-clause-inserted g t c =
     let law = g.met.R.TreeRow.lawful in
     λ tree low high standing from below.
     let n = node_of f law standing c.in-Some.is c.look-here.ensures.row in
-    let sub = c.insert_below.ensures.inserted n.left low (f.rank n.row) (standing-at f (sym c.left-below.ensures) n.left_standing) from (less_there c.rank-rank.ensures c.rank-there.ensures (rank_here f n) c.if-rank-there.true) in
+    let sub = c.insert_below-change.ensures.inserted n.left low (f.rank n.row) (standing-at f (sym c.left-below.ensures) n.left_standing) from (less_there c.rank-rank.ensures c.rank-there.ensures (rank_here f n) c.if-rank-there.true) in
     insert-left_hidden f law n (less_of c.rank-rank.ensures c.rank-there.ensures c.if-rank-there.true) sub c.in-Hidden.is (to_next c.args.steps.now c.look-here.ensures.step)
 
-pub returns-in-Hidden-insert_below-clause-inserted : goal.returns-in-Hidden-insert_below-clause-inserted
-returns-in-Hidden-insert_below-clause-inserted g t c =
+pub returns-in-Hidden-change-clause-inserted : goal.returns-in-Hidden-change-clause-inserted
+returns-in-Hidden-change-clause-inserted g t c =
     let f = g.R.TreeRow.functions in
     let law = g.met.R.TreeRow.lawful in
     λ tree low high standing from below.
     let n = node_of f law standing c.in-Some.is c.look-here.ensures.row in
-    let sub = c.insert_below-then-there-rank.ensures.inserted n.right (f.rank n.row + 1) high (standing-at f (sym c.right-below.ensures) n.right_standing) (past_there c.rank-there.ensures c.rank-rank.ensures (rank_here f n) c.if-there-rank.true) below in
-    insert-right_hidden f law n (less_of c.rank-there.ensures c.rank-rank.ensures c.if-there-rank.true) sub c.in-Hidden-insert_below.is (to_next c.args.steps.now c.look-here.ensures.step)
+    let sub = c.insert_below-change-then-there-rank.ensures.inserted n.right (f.rank n.row + 1) high (standing-at f (sym c.right-below.ensures) n.right_standing) (past_there c.rank-there.ensures c.rank-rank.ensures (rank_here f n) c.if-there-rank.true) below in
+    insert-right_hidden f law n (less_of c.rank-there.ensures c.rank-rank.ensures c.if-there-rank.true) sub c.in-Hidden-change.is (to_next c.args.steps.now c.look-here.ensures.step)
 
 pub returns-else-there-rank-clause-inserted : goal.returns-else-there-rank-clause-inserted
 returns-else-there-rank-clause-inserted g t c =

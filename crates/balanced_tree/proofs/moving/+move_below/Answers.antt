@@ -53,8 +53,8 @@ put_again-requires-clause-right g t c =
     let sub = c.move_below.ensures.moved d.left c.requires.low (f.rank d.row) (standing-at f (sym c.left-left.ensures) d.left_standing) side.0 c.requires.from_low side.1 in
     λ q e. left-beside f law d c.left-left.ensures c.right-right.ensures sub q e
 
-pub row-again-requires-in-Root-move_below : goal.row-again-requires-in-Root-move_below
-row-again-requires-in-Root-move_below g t c =
+pub row-again-requires-in_default-move_below-2 : goal.row-again-requires-in_default-move_below-2
+row-again-requires-in_default-move_below-2 g t c =
     let f = g.R.TreeRow.functions in
     let law = g.met.R.TreeRow.lawful in
     let m = f.rank c.args.row.now in
@@ -63,8 +63,8 @@ row-again-requires-in-Root-move_below g t c =
     let sub = c.move_below-then-there-rank.ensures.moved d.right (f.rank d.row + 1) c.requires.high (standing-at f (sym c.right-right.ensures) d.right_standing) side.0 side.1 c.requires.below_high in
     ap is_some (stays_right f d sub.becomes.kept)
 
-pub put_again-requires-in-Root-move_below-clause-left : goal.put_again-requires-in-Root-move_below-clause-left
-put_again-requires-in-Root-move_below-clause-left g t c =
+pub put_again-requires-in_default-move_below-2-clause-left : goal.put_again-requires-in_default-move_below-2-clause-left
+put_again-requires-in_default-move_below-2-clause-left g t c =
     let f = g.R.TreeRow.functions in
     let law = g.met.R.TreeRow.lawful in
     let m = f.rank c.args.row.now in
@@ -73,8 +73,8 @@ put_again-requires-in-Root-move_below-clause-left g t c =
     let sub = c.move_below-then-there-rank.ensures.moved d.right (f.rank d.row + 1) c.requires.high (standing-at f (sym c.right-right.ensures) d.right_standing) side.0 side.1 c.requires.below_high in
     λ q e. right-beside f law d c.left-left.ensures c.right-right.ensures sub q e
 
-pub put_again-requires-in-Root-move_below-clause-right : goal.put_again-requires-in-Root-move_below-clause-right
-put_again-requires-in-Root-move_below-clause-right g t c =
+pub put_again-requires-in_default-move_below-2-clause-right : goal.put_again-requires-in_default-move_below-2-clause-right
+put_again-requires-in_default-move_below-2-clause-right g t c =
     let f = g.R.TreeRow.functions in
     let law = g.met.R.TreeRow.lawful in
     let m = f.rank c.args.row.now in
@@ -97,8 +97,8 @@ put_over-requires-clause-right g t c =
     let d = node_of f law c.requires.standing c.in-Some.is c.look-here.ensures.row in
     λ q e. readable-right_part f d c.args.rows.now q d.right_standing.spelled (sym c.right-right.ensures ∙ e)
 
-pub returns-in-Root-clause-moved : goal.returns-in-Root-clause-moved
-returns-in-Root-clause-moved g t c =
+pub returns-in_default-move_below-clause-moved : goal.returns-in_default-move_below-clause-moved
+returns-in_default-move_below-clause-moved g t c =
     let f = g.R.TreeRow.functions in
     let law = g.met.R.TreeRow.lawful in
     λ tree low high standing beside from below.
@@ -108,17 +108,17 @@ returns-in-Root-clause-moved g t c =
     move-left f law d c.left-left.ensures c.right-right.ensures (less_of refl c.rank-there.ensures c.if-rank-there.true) sub c.row-again.ensures.row c.put_again.ensures.updates c.put_again.ensures.len
     (to_next c.args.steps.now c.look-here.ensures.step) (to_next c.move_below.new.steps c.row-again.ensures.step) c.put_again.ensures.steps c.put_again.ensures.root c.put_again.ensures.hidden
 
-pub returns-in-Root-move_below-clause-moved : goal.returns-in-Root-move_below-clause-moved
-returns-in-Root-move_below-clause-moved g t c =
+pub returns-in_default-move_below-2-clause-moved : goal.returns-in_default-move_below-2-clause-moved
+returns-in_default-move_below-2-clause-moved g t c =
     let f = g.R.TreeRow.functions in
     let law = g.met.R.TreeRow.lawful in
     λ tree low high standing beside from below.
     let d = node_of f law standing c.in-Some.is c.look-here.ensures.row in
     let side = sub-right f c.args.rank (f.rank c.args.row.now) d beside c.rank-there.ensures c.if-there-rank.true in
     let sub = c.move_below-then-there-rank.ensures.moved d.right (f.rank d.row + 1) high (standing-at f (sym c.right-right.ensures) d.right_standing) side.0 side.1 below in
-    move-right f law d c.left-left.ensures c.right-right.ensures (less_of c.rank-there.ensures refl c.if-there-rank.true) sub c.row-again-in-Root-move_below.ensures.row c.put_again-in-Root-move_below.ensures.updates
-    c.put_again-in-Root-move_below.ensures.len (to_next c.args.steps.now c.look-here.ensures.step) (to_next c.move_below-then-there-rank.new.steps c.row-again-in-Root-move_below.ensures.step)
-    c.put_again-in-Root-move_below.ensures.steps c.put_again-in-Root-move_below.ensures.root c.put_again-in-Root-move_below.ensures.hidden
+    move-right f law d c.left-left.ensures c.right-right.ensures (less_of c.rank-there.ensures refl c.if-there-rank.true) sub c.row-again-in_default-move_below-2.ensures.row c.put_again-in_default-move_below-2.ensures.updates
+    c.put_again-in_default-move_below-2.ensures.len (to_next c.args.steps.now c.look-here.ensures.step) (to_next c.move_below-then-there-rank.new.steps c.row-again-in_default-move_below-2.ensures.step)
+    c.put_again-in_default-move_below-2.ensures.steps c.put_again-in_default-move_below-2.ensures.root c.put_again-in_default-move_below-2.ensures.hidden
 
 pub row-now-requires : goal.row-now-requires
 row-now-requires g t c = ap is_some c.put_over.ensures.updates.changed

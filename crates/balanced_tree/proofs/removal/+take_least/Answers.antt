@@ -1,4 +1,5 @@
 use Rattle.std.proofs.Common.{is_some, refl, sym, ap, ◌∙◌, arith}
+use Rattle.balanced_tree.specs.inside.Standing.{root_after}
 use Rattle.balanced_tree.proofs.PlainLaws.{to_next, to_second}
 use Rattle.balanced_tree.proofs.Nodes.{node_of, standing-at, lower-left, stays_left, Stands-left}
 use Rattle.balanced_tree.proofs.Removals.{take-first, take-later, take-later_hidden, Splits-least}
@@ -10,7 +11,7 @@ returns-in_default-clause-taken g t c =
     let law = g.met.R.TreeRow.lawful in
     λ tree low high h.
     let n = node_of f law h refl c.look-here.ensures.row in
-    take-first f law n (sym c.left.ensures ∙ c.in_default.is) c.right-rest.ensures c.take-row.ensures.row c.take-row.ensures.updates c.take-row.ensures.len (to_second c.args.steps.now c.look-here.ensures.step c.take-row.ensures.step)
+    rw c.change_to.ensures (take-first f law n (sym c.left.ensures ∙ c.in_default.is) c.right-rest.ensures c.take-row.ensures.row c.take-row.ensures.updates c.take-row.ensures.len (to_second c.args.steps.now c.look-here.ensures.step c.take-row.ensures.step))
 
 pub take_least-least-requires : goal.take_least-least-requires
 take_least-least-requires g t c κs within =
@@ -34,16 +35,16 @@ rebalance-rest-requires g t c =
     let law = g.met.R.TreeRow.lawful in
     let n = node_of f law c.requires.standing refl c.look-here.ensures.row in
     let sub = c.take_least-least.ensures.taken n.left c.requires.low (f.rank n.row) (standing-at f (sym c.left.ensures ∙ c.in-Some.is) n.left_standing) in
-    Splits-least f law n sub c.in-Root.is c.row-here.ensures.row c.right.ensures
+    Splits-least f law n sub (c.root_after-left.ensures ∙ ap (root_after c.take_least-least.result.rest) (sym c.in-Some.is ∙ c.left.ensures)) c.row-here.ensures.row c.right.ensures
 
-pub returns-in-Root-clause-taken : goal.returns-in-Root-clause-taken
-returns-in-Root-clause-taken g t c =
+pub returns-in_default-rest-clause-taken : goal.returns-in_default-rest-clause-taken
+returns-in_default-rest-clause-taken g t c =
     let f = g.R.TreeRow.functions in
     let law = g.met.R.TreeRow.lawful in
     λ tree low high h.
     let n = node_of f law h refl c.look-here.ensures.row in
     let sub = c.take_least-least.ensures.taken n.left low (f.rank n.row) (standing-at f (sym c.left.ensures ∙ c.in-Some.is) n.left_standing) in
-    take-later f law n (sym c.left.ensures ∙ c.in-Some.is) sub c.in-Root.is c.row-here.ensures.row c.right.ensures c.rebalance-rest.ensures.tree c.rebalance-rest.ensures.len
+    take-later f law n (sym c.left.ensures ∙ c.in-Some.is) sub (c.root_after-left.ensures ∙ ap (root_after c.take_least-least.result.rest) (sym c.in-Some.is ∙ c.left.ensures)) c.row-here.ensures.row c.right.ensures c.rebalance-rest.ensures.tree c.rebalance-rest.ensures.len
     (to_next c.args.steps.now c.look-here.ensures.step) (to_next c.take_least-least.new.steps c.row-here.ensures.step) c.rebalance-rest.ensures.steps
 
 pub returns-in-Hidden-clause-taken : goal.returns-in-Hidden-clause-taken
