@@ -10,7 +10,7 @@ ghost use Rattle.attribution.specs.inside.Counts.{AreCounts};
 use pages::{Look, Pages};
 use vm_base::{Koid, PageNo, Tag};
 
-/// How many pages of a VMO are held, and how many of these are sole, shared with another VMO, and
+/// The number of pages of a VMO that are held, and the numbers of these that are sole, shared with another VMO, and
 /// charged to it.
 #[derive(Clone, Copy)]
 pub(crate) struct Counts {

@@ -6,8 +6,8 @@ ghost use Rattle.vm_model.specs.Machine.Attribution.{stat_of};
 use pages::Pages;
 use vm_model::Stat;
 
-/// How many page frames the machine has, how many of them some VMO shows, how many none shows, and how many VMOs there
-/// are (`ZX_INFO_KMEM_STATS`).
+/// Returns how many page frames the machine has, how many of them some VMO shows, how many none shows, and how many VMOs
+/// there are (`ZX_INFO_KMEM_STATS`).
 pub fn stat<P: Pages>(store: &P) -> Stat
     ensures { result ≡ stat_of (P.content store.now) }
 {

@@ -16,10 +16,10 @@ use std::alloc::Global;
 use vm_base::{HostMemory, PAGE, PageNo, RegionName};
 use vm_model::{Run, Runs};
 
-/// The runs of what is mapped on the pages of a live region (`ZX_INFO_PROCESS_MAPS`), by it or by regions below it, in
-/// address order. A run is the longest row of neighbouring pages that show rising pages of one VMO with one permission
-/// and are mapped by one region. The call costs the pieces of mappings on these pages. `HostMemory` if the host has too
-/// little memory, and only if some page of the region is mapped.
+/// Returns the runs of what is mapped on the pages of a live region (`ZX_INFO_PROCESS_MAPS`), by it or by regions below
+/// it, in address order. A run is the longest row of neighbouring pages that show rising pages of one VMO with one
+/// permission and are mapped by one region. The call costs the pieces of mappings on these pages. `HostMemory` if the
+/// host has too little memory, and only if some page of the region is mapped.
 #[tactic(auto,
 // the region of a name
 unfolding(vm_model::specs::Space::Regions::region_of, vm_base::specs::Entries::passes))]
@@ -41,8 +41,8 @@ pub fn maps(
     runs_in(alloc, maps, above.root, above.first, above.count)
 }
 
-/// The runs of what is mapped on `count` pages of an address space from `first` on, as `maps` lists those of a region that a
-/// caller has found. `HostMemory` only where one of them is mapped.
+/// Returns the runs of what is mapped on `count` pages of an address space from `first` on, as `maps` lists those of a
+/// region that a caller has found. `HostMemory` only where one of them is mapped.
 pub fn runs_in(
     alloc: Global,
     maps: &MappingSet,
@@ -65,8 +65,8 @@ pub fn runs_in(
     close(runs, begun)
 }
 
-/// The first entries on the pages from `from` to below `end`, as far as they belong to one piece. `None` if and only if
-/// there are none.
+/// Returns the first entries on the pages from `from` to below `end`, as far as they belong to one piece. `None` if and
+/// only if there are none.
 fn piece_before(maps: &MappingSet, root: RegionName, from: PageNo, end: PageNo) -> Option<Piece>
     ensures { MatchOption result (IsBare (table_of maps.now root.0) from end)
         (IsFirstPiece (table_of maps.now root.0) from end) }
@@ -81,7 +81,7 @@ fn piece_before(maps: &MappingSet, root: RegionName, from: PageNo, end: PageNo) 
     })
 }
 
-/// The run of a piece.
+/// Returns the run of a piece.
 fn run_of(piece: Piece) -> Run
     requires some { 1 ≤ piece.count }
     requires end { piece.first + piece.count ≤ ROOT_END }
@@ -98,8 +98,8 @@ fn run_of(piece: Piece) -> Run
     }
 }
 
-/// Whether `next` goes on where `run` ends, in the address space and in the VMO, and is like it in all else. A run may
-/// end at byte 2^64 of its VMO. Nothing goes on there.
+/// Returns whether `next` goes on where `run` ends, in the address space and in the VMO, and is like it in all else. A
+/// run may end at byte 2^64 of its VMO. Nothing goes on there.
 fn goes_on(run: Run, next: Run) -> bool
     ensures { result ≡ goes_on run next }
 {

@@ -10,10 +10,10 @@ use pages::{Pages, size_of_name};
 use vm_model::Info;
 use vmo_table::{Target, VmoTable};
 
-/// What a VMO holds (`ZX_INFO_VMO`), told for a name of the table that stands for it: the koid, the size of the name in
-/// bytes, the pages that are held, sole, shared with another VMO, and charged to the VMO, and its children. A VMO is
-/// charged for a frame if no VMO with a lesser koid shows the frame. The call costs the held pages of the VMO, and for
-/// each what the store takes to find the least koid that shows its frame.
+/// Returns what a VMO holds (`ZX_INFO_VMO`), told for a name of the table that stands for it. This is the koid, the size
+/// of the name in bytes, the pages that are held, sole, shared with another VMO, and charged to the VMO, and its
+/// children. A VMO is charged for a frame if no VMO with a lesser koid shows the frame. The call costs the held pages of
+/// the VMO, and for each what the store takes to find the least koid that shows its frame.
 pub fn info<P: Pages>(store: &P, vmos: &VmoTable, t: &Target) -> Info
     requires parts { AreParts (P.content store.now) vmos.now }
     requires named { IsNamed (names_of vmos.now) t.now }

@@ -47,7 +47,7 @@ impl<R: TreeRow> Model for BalancedTree<R> {
 }
 
 impl<R: TreeRow> BalancedTree<R> {
-    /// A tree with no row and no room.
+    /// Makes a tree with no row and no room.
     pub fn new(alloc: Global) -> BalancedTree<R>
         ensures rows { result.rows ≡ [] }
         ensures spare { result.spare ≡ 0 }
@@ -68,7 +68,7 @@ impl<R: TreeRow> BalancedTree<R> {
         self.rows.reserve(n)
     }
 
-    /// How many rows there are. A clause says too that their ranks rise.
+    /// Returns the number of rows. A clause says too that their ranks rise.
     pub fn len(&self) -> usize
         ensures len { result ≡ length self.now.rows }
         ensures rising { IsRising R.functions self.now.rows }
@@ -76,14 +76,14 @@ impl<R: TreeRow> BalancedTree<R> {
         self.rows.len()
     }
 
-    /// How many more rows fit with no memory from the host.
+    /// Returns how many more rows fit with no memory from the host.
     pub fn spare(&self) -> usize
         ensures { result ≡ self.now.spare }
     {
         self.rows.spare()
     }
 
-    /// The row of this rank.
+    /// Returns the row of this rank.
     #[inline(always)]
     pub fn find_counted<L: Ledger>(&self, rank: u128, steps: &mut Steps<L>) -> Option<R>
         ensures row { result ≡ row_at R.functions rank self.now.rows }
@@ -93,7 +93,7 @@ impl<R: TreeRow> BalancedTree<R> {
         if_of_rank(row, rank)
     }
 
-    /// The first row of this rank or a higher one.
+    /// Returns the first row of this rank or a higher one.
     #[inline(always)]
     pub fn next_counted<L: Ledger>(&self, rank: u128, steps: &mut Steps<L>) -> Option<R>
         ensures row { result ≡ row_from R.functions rank self.now.rows }
@@ -102,7 +102,7 @@ impl<R: TreeRow> BalancedTree<R> {
         alone(first_below(&self.rows, self.root, rank, steps))
     }
 
-    /// The last row of this rank or a lower one.
+    /// Returns the last row of this rank or a lower one.
     pub fn last_counted<L: Ledger>(&self, rank: u128, steps: &mut Steps<L>) -> Option<R>
         ensures row { result ≡ row_to R.functions rank self.now.rows }
         ensures cost { 2 ^ (steps.new - steps.old) ≤ (length self.now.rows + 1) ^ 2 }
@@ -163,7 +163,7 @@ impl<R: TreeRow> BalancedTree<R> {
         row
     }
 
-    /// The row of this rank.
+    /// Returns the row of this rank.
     #[inline(always)]
     pub fn find(&self, rank: u128) -> Option<R>
         ensures { result ≡ row_at R.functions rank self.now.rows }
@@ -171,7 +171,7 @@ impl<R: TreeRow> BalancedTree<R> {
         find_with::<R, Brand>(self, rank, Blank::new(1))
     }
 
-    /// The first row of this rank or a higher one.
+    /// Returns the first row of this rank or a higher one.
     #[inline(always)]
     pub fn next(&self, rank: u128) -> Option<R>
         ensures { result ≡ row_from R.functions rank self.now.rows }
@@ -179,7 +179,7 @@ impl<R: TreeRow> BalancedTree<R> {
         next_with::<R, Brand>(self, rank, Blank::new(1))
     }
 
-    /// The last row of this rank or a lower one.
+    /// Returns the last row of this rank or a lower one.
     pub fn last(&self, rank: u128) -> Option<R>
         ensures { result ≡ row_to R.functions rank self.now.rows }
     {
@@ -229,9 +229,9 @@ impl<R: TreeRow> BalancedTree<R> {
 }
 
 impl<R: ExtentRow> BalancedTree<R> {
-    /// The lowest rank from `from` on such that it and the following ranks, `size` in all, lie in no extent and end at
-    /// the limit or before. `None` if and only if there is no such rank. A size of 0 has no place inside an extent
-    /// either.
+    /// Returns the lowest rank from `from` on such that it and the following ranks, `size` in all, lie in no extent and
+    /// end at the limit or before. `None` if and only if there is no such rank. A size of 0 has no place inside an
+    /// extent either.
     pub fn first_gap_counted<L: Ledger>(
         &self,
         from: u128,
@@ -247,9 +247,9 @@ impl<R: ExtentRow> BalancedTree<R> {
         gap_below(&self.rows, self.root, from, size, limit, steps)
     }
 
-    /// The lowest rank from `from` on such that it and the following ranks, `size` in all, lie in no extent and end at
-    /// the limit or before. `None` if and only if there is no such rank. A size of 0 has no place inside an extent
-    /// either.
+    /// Returns the lowest rank from `from` on such that it and the following ranks, `size` in all, lie in no extent and
+    /// end at the limit or before. `None` if and only if there is no such rank. A size of 0 has no place inside an
+    /// extent either.
     pub fn first_gap(&self, from: u128, size: u128, limit: u128) -> Option<u128>
         requires { AreApart R.functions R.extents self.now.rows }
         ensures { MatchOption result (HasNoGap R.functions R.extents self.now.rows from size limit)
@@ -259,7 +259,7 @@ impl<R: ExtentRow> BalancedTree<R> {
     }
 }
 
-/// The row with no children, if there is one.
+/// Returns the row with no children, if there is one.
 #[inline(always)]
 fn alone<R: TreeRow>(row: Option<&R>) -> Option<R>
     ensures { result ≡ option_map (plain R.functions) (option_copied row.entry) }
@@ -267,7 +267,7 @@ fn alone<R: TreeRow>(row: Option<&R>) -> Option<R>
     Some(row?.linked(None, None))
 }
 
-/// The row with no children, if it has this rank.
+/// Returns the row with no children, if it has this rank.
 #[inline(always)]
 fn if_of_rank<R: TreeRow>(row: Option<&R>, rank: u128) -> Option<R>
     ensures { result ≡ if_at R.functions rank (option_map (plain R.functions) (option_copied row.entry)) }

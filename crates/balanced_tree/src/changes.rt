@@ -3,8 +3,8 @@
 ghost use Rattle.std.specs.Prelude.{◌≡◌};
 ghost use Rattle.balanced_tree.specs.inside.Standing.{root_after, change_to};
 
-/// What the row above a changed tree has to store anew. With no enum inside a variant the value takes two words, and a
-/// call returns it in registers.
+/// The change of a tree that the row above it has to store. With no enum inside a variant the value takes two words,
+/// and a call returns it in registers.
 #[derive(Clone, Copy)]
 pub enum Change {
     /// Nothing: the root stands where one stood before, and the row above it is stored as it was.

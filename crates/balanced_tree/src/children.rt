@@ -10,7 +10,7 @@ pub struct Child<R> {
     pub row: R,
 }
 
-/// The link to a child.
+/// Returns the link to a child.
 pub fn link_to<R: Copy>(child: Option<Child<R>>) -> Option<usize>
     ensures { result ≡ link_of child }
 {

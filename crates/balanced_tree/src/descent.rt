@@ -11,8 +11,8 @@ use crate::steps::Steps;
 use crate::tree_row::TreeRow;
 use std::sync::ledger::Ledger;
 
-/// The row of this rank in the tree under a link, where it stands. If there is none, it is the first row of a higher
-/// rank, or with `down` the last row of a lower one.
+/// Returns the row of this rank in the tree under a link, where it stands. If there is none, returns the first row of a
+/// higher rank, or with `down` the last row of a lower one.
 #[inline(always)]
 pub fn find_below<'a, R: TreeRow, L: Ledger>(
     rows: &'a RowSlab<R>,
@@ -46,8 +46,8 @@ pub fn find_below<'a, R: TreeRow, L: Ledger>(
     best
 }
 
-/// The row of this rank, or else the first row of a higher rank. The function is not inlined: a look-up is then a call
-/// that answers where the row stands, and the caller reads no more of the row than it wants.
+/// Returns the row of this rank, or else the first row of a higher rank. The function is not inlined: a look-up is then
+/// a call that answers where the row stands, and the caller reads no more of the row than it wants.
 #[inline(never)]
 pub fn first_below<'a, R: TreeRow, L: Ledger>(
     rows: &'a RowSlab<R>,
@@ -64,7 +64,7 @@ pub fn first_below<'a, R: TreeRow, L: Ledger>(
     find_below(rows, at, rank, false, steps)
 }
 
-/// This row, if it lies on the side that is looked at, and otherwise what was found before.
+/// Returns this row, if it lies on the side that is looked at, and otherwise what was found before.
 #[inline(always)]
 fn nearer<'a, R: TreeRow>(best: Option<&'a R>, here: &'a R, on_side: bool) -> Option<&'a R>
     ensures { option_copied result ≡ cond on_side (Some here.now) (option_copied best.entry) }

@@ -13,14 +13,14 @@ use crate::tree_row::TreeRow;
 pub trait ExtentRow: TreeRow {
     ghost use Rattle.balanced_tree.specs.Extents.{Extents, AreSpanned};
 
-    /// What the methods compute.
+    /// The functions that the methods compute.
     ghost extents: { Extents Self };
 
-    /// The rank just behind the extent.
+    /// Returns the rank just behind the extent.
     fn end(self) -> u128
         ensures { result ≡ extents.end self };
 
-    /// The span of the rows below this one, itself included.
+    /// Returns the span of the rows below this one, itself included.
     fn span(self) -> Span
         ensures { result ≡ extents.span self };
 

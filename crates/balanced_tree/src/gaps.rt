@@ -13,14 +13,14 @@ use crate::spans::Span;
 use crate::steps::Steps;
 use std::sync::ledger::Ledger;
 
-/// Whether `size` ranks from `from` on end at the limit or before.
+/// Returns whether `size` ranks from `from` on end at the limit or before.
 fn fits(from: u128, size: u128, limit: u128) -> bool
     ensures { IsTrue result ↔ (from + size ≤ limit) }
 {
     from <= limit && size <= limit - from
 }
 
-/// `from`, if `size` ranks from there on end at the limit or before.
+/// Returns `from`, if `size` ranks from there on end at the limit or before.
 fn if_fits(from: u128, size: u128, limit: u128) -> Option<u128>
     ensures { result ≡ (if nat_le (from + size) limit then Some from else None) }
 {
@@ -31,15 +31,16 @@ fn if_fits(from: u128, size: u128, limit: u128) -> Option<u128>
     }
 }
 
-/// Whether no gap of this size from `from` on lies before or between extents of this span: they all end before `from`,
-/// or the first begins too early and the gaps between them are too small.
+/// Returns whether no gap of this size from `from` on lies before or between extents of this span. That is so if they
+/// all end before `from`, or if the first begins too early and the gaps between them are too small.
 fn is_passed(span: Span, from: u128, size: u128) -> bool
     ensures { IsTrue result ↔ ((span.highest ≤ from) ⊎ ((span.gap < size) × (span.lowest < from + size))) }
 {
     span.highest <= from || span.gap < size && !fits(from, size, span.lowest)
 }
 
-/// The first gap of `size` ranks from `from` on and below the limit, between the extents of the tree under a link.
+/// Returns the first gap of `size` ranks from `from` on and below the limit, between the extents of the tree under a
+/// link.
 pub fn gap_below<R: ExtentRow, L: Ledger>(
     rows: &RowSlab<R>,
     at: Option<usize>,

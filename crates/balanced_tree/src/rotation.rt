@@ -16,7 +16,7 @@ use crate::steps::Steps;
 use crate::tree_row::TreeRow;
 use std::sync::ledger::Ledger;
 
-/// The child under a link, if there is one.
+/// Returns the child under a link, if there is one.
 #[inline(always)]
 fn child_under<R: TreeRow, L: Ledger>(
     rows: &RowSlab<R>,
@@ -32,7 +32,7 @@ fn child_under<R: TreeRow, L: Ledger>(
     Some(Child { link, row })
 }
 
-/// The left and the right child of a row.
+/// Returns the left and the right child of a row.
 #[inline(always)]
 fn children_of<R: TreeRow, L: Ledger>(
     rows: &RowSlab<R>,
@@ -50,7 +50,7 @@ fn children_of<R: TreeRow, L: Ledger>(
     (left, right)
 }
 
-/// The height that is stored under a link; under no link it is 0.
+/// Returns the height that is stored under a link, and 0 under no link.
 #[inline(always)]
 fn height_under<R: TreeRow, L: Ledger>(
     rows: &RowSlab<R>,
@@ -68,7 +68,7 @@ fn height_under<R: TreeRow, L: Ledger>(
     }
 }
 
-/// The height of a child; no child has the height 0.
+/// Returns the height of a child, and 0 for no child.
 fn height_of<R: TreeRow>(child: Option<Child<R>>) -> u64
     ensures height { result ≡ height_in R.functions.height child }
     ensures fits { result < 2 ^ 32 }
@@ -79,7 +79,7 @@ fn height_of<R: TreeRow>(child: Option<Child<R>>) -> u64
     }
 }
 
-/// The child, if it is higher than the other one.
+/// Returns the child, if it is higher than the other one.
 fn if_higher<R: TreeRow>(child: Option<Child<R>>, other: Option<Child<R>>) -> Option<Child<R>>
     ensures { result ≡
         (if nat_lt (height_in R.functions.height other) (height_in R.functions.height child) then child else None) }
@@ -207,7 +207,7 @@ pub fn put_again<R: TreeRow, L: Ledger>(
     change_from(place, row, child.row)
 }
 
-/// The row with the left child as its parent: the left child is too high.
+/// Puts the row under its left child: the left child is too high.
 #[inline(never)]
 fn lean_right<R: TreeRow, L: Ledger>(
     rows: &mut RowSlab<R>,
@@ -245,7 +245,7 @@ fn lean_right<R: TreeRow, L: Ledger>(
     }
 }
 
-/// The row with the right child as its parent: the right child is too high.
+/// Puts the row under its right child: the right child is too high.
 #[inline(never)]
 fn lean_left<R: TreeRow, L: Ledger>(
     rows: &mut RowSlab<R>,
@@ -283,7 +283,7 @@ fn lean_left<R: TreeRow, L: Ledger>(
     }
 }
 
-/// The row over two children whose heights may differ by two. If they do, one of the children, or a child of it,
+/// Puts the row over two children whose heights may differ by two. If they do, one of the children, or a child of it,
 /// becomes the parent. Answers the link to what then stands there. If the heights differ by at most one, the call looks
 /// only at the stored heights of the two.
 #[inline(always)]

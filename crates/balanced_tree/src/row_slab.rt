@@ -27,7 +27,7 @@ impl<R> Model for RowSlab<R> {
 }
 
 impl<R: Copy> RowSlab<R> {
-    /// A slab with no row and no room.
+    /// Makes a slab with no row and no room.
     pub fn new(alloc: Global) -> RowSlab<R>
         ensures empty { result.slots ≡ [] }
         ensures capacity { result.capacity ≡ 0 }
@@ -51,21 +51,21 @@ impl<R: Copy> RowSlab<R> {
         outcome
     }
 
-    /// How many rows there are.
+    /// Returns the number of rows.
     pub fn len(&self) -> usize
         ensures { result ≡ slab_len self.now }
     {
         self.rows.len()
     }
 
-    /// How many more rows fit with no memory from the host.
+    /// Returns how many more rows fit with no memory from the host.
     pub fn spare(&self) -> usize
         ensures { result ≡ self.now.capacity - slab_len self.now }
     {
         self.rows.capacity() - self.rows.len()
     }
 
-    /// The row under a place.
+    /// Returns the row under a place.
     pub fn row<L: Ledger>(&self, place: usize, steps: &mut Steps<L>) -> R
         requires { ContainsKey self.now place }
         ensures row { get self.now place ≡ Some result }
@@ -75,7 +75,7 @@ impl<R: Copy> RowSlab<R> {
         self.rows[place]
     }
 
-    /// The row under a place, where it stands.
+    /// Returns the row under a place, where it stands.
     pub fn look<L: Ledger>(&self, place: usize, steps: &mut Steps<L>) -> &R
         requires { ContainsKey self.now place }
         ensures row { get self.now place ≡ Some result.now }

@@ -3,7 +3,7 @@
 ghost use Rattle.std.specs.Prelude.{◌≡◌};
 ghost use Rattle.balanced_tree.specs.Extents.{span_over};
 
-/// Where the extents of a subtree lie, in ranks: the rank of the first, the end of the last, and the greatest gap
+/// The span of the extents of a subtree, in ranks: the rank of the first, the end of the last, and the greatest gap
 /// between neighbours, 0 if there is one extent alone.
 #[derive(Clone, Copy)]
 pub struct Span {
@@ -12,7 +12,7 @@ pub struct Span {
     pub gap: u128,
 }
 
-/// The span of an extent over those of its children, if it has children.
+/// Returns the span of an extent over those of its children, if it has children.
 pub fn span_over(rank: u128, end: u128, left: Option<Span>, right: Option<Span>) -> Span
     ensures { result ≡ span_over rank end left right }
 {

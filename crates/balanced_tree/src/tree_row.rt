@@ -9,27 +9,27 @@ use crate::children::Child;
 pub trait TreeRow: Copy {
     ghost use Rattle.balanced_tree.specs.Row.{Functions, AreLawful, AreAlike};
 
-    /// What the methods compute.
+    /// The functions that the methods compute.
     ghost functions: { Functions Self };
 
-    /// The place of the row in the order of the table. No two rows of a tree have the same rank.
+    /// Returns the place of the row in the order of the table. No two rows of a tree have the same rank.
     fn rank(self) -> u128
         ensures { result ≡ functions.rank self };
 
-    /// The link to the child whose rows have lower ranks.
+    /// Returns the link to the child whose rows have lower ranks.
     fn left(self) -> Option<usize>
         ensures { result ≡ functions.left self };
 
-    /// The link to the child whose rows have higher ranks.
+    /// Returns the link to the child whose rows have higher ranks.
     fn right(self) -> Option<usize>
         ensures { result ≡ functions.right self };
 
-    /// The number of rows on the longest way down from this one, itself included.
+    /// Returns the number of rows on the longest way down from this one, itself included.
     fn height(self) -> u32
         ensures { result ≡ functions.height self };
 
-    /// The row over these two children, in place of those that it had: with their links, and one higher than the
-    /// higher of them (at most `u32::MAX`).
+    /// Returns the row over these two children, in place of those that it had: with their links, and one higher than
+    /// the higher of them (at most `u32::MAX`).
     fn linked(self, left: Option<Child<Self>>, right: Option<Child<Self>>) -> Self
         ensures { result ≡ functions.linked self left right };
 

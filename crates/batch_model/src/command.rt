@@ -28,10 +28,10 @@ pub enum BatchCommand {
     },
 }
 
-/// What a machine with jobs answers to a command.
+/// The reply of a machine with jobs to a command.
 #[derive(Drop)]
 pub enum BatchReply {
-    /// What the machine answers.
+    /// The reply of the machine itself.
     Plain(Reply),
     /// It is done, and so many pages of the job are left.
     Left(u64),

@@ -6,7 +6,7 @@ use vm_base::VmoName;
 #[derive(Clone, Copy, Debug, PartialEq, Eq, Hash)]
 pub struct JobName(pub u32);
 
-/// What a job does to its pages.
+/// The kind of work that a job does on its pages.
 #[derive(Clone, Copy, Debug, PartialEq, Eq, Hash)]
 pub enum JobKind {
     /// It gives them frames of their own (`ZX_VMO_OP_COMMIT`).

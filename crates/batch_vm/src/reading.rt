@@ -13,7 +13,7 @@ use batch_model::{BatchCall, BatchCommand};
 use script_text::{SyntaxFault, read_call};
 use vm_base::{DATA_BYTES, LINE_BYTES};
 
-/// What a line says to a machine with jobs.
+/// The meaning of a line to a machine with jobs.
 #[derive(Drop)]
 pub enum BatchLine {
     /// Nothing: it has no word, or it is a comment, whose first word begins with `#`.

@@ -4,7 +4,7 @@ ghost use Rattle.std.specs.Prelude.{◌≡◌, ◌∷◌, []};
 
 use vm_model::Bytes4k;
 
-/// A byte is put behind those that are there.
+/// States that a byte is put behind those that are there.
 pub fn a_byte_comes_behind_the_others(bytes: &mut Bytes4k) -> bool
     requires { bytes.old ≡ 7 ∷ [] }
     ensures { bytes.new ≡ 7 ∷ 255 ∷ [] }

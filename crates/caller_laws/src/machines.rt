@@ -7,7 +7,7 @@ use page_store::PageStore;
 use std::alloc::Global;
 use vm_core::Vm;
 
-/// A new machine agrees with a store of any type that has no VMO, whatever koids it gave before.
+/// States that a new machine agrees with a store of any type that has no VMO, whatever koids it gave before.
 pub fn a_new_machine_agrees_with_any_empty_store<P: PageStore>(alloc: Global, store: &P) -> Vm
     requires { HasNoVmo (P.content store.now) }
     ensures { Agrees (P.content store.now) result }

@@ -7,7 +7,7 @@ ghost use Rattle.pin_table.specs.Table.{pin_of, pins_of, room_of};
 use pin_table::PinTable;
 use vm_base::{Koid, PageNo, PinName};
 
-/// A pin is told as it was added.
+/// States that a pin is told as it was added.
 #[tactic(auto, unfolding(vm_base::specs::Entries::with_key))]
 pub fn a_pin_is_told(table: &mut PinTable) -> Option<(Koid, PageNo, u64)>
     requires pin { pins_of table.old 1 ≡ None }
@@ -18,7 +18,7 @@ pub fn a_pin_is_told(table: &mut PinTable) -> Option<(Koid, PageNo, u64)>
     table.get(PinName(1))
 }
 
-/// A pin that is removed is told, and is there no more.
+/// States that a pin that is removed is told, and is there no more.
 #[tactic(auto, unfolding(vm_base::specs::Entries::with_key, vm_base::specs::Entries::without_key))]
 pub fn a_removed_pin_is_told(table: &mut PinTable) -> (Koid, PageNo, u64)
     requires pin { pins_of table.old 1 ≡ None }

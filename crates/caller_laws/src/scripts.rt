@@ -10,7 +10,7 @@ use script_text::{SyntaxFault, byte_data_into, number, read_call, vmo, write_com
 use vm_base::VmoName;
 use vm_model::{Call, ChildKind, Command, LentBytes};
 
-/// A number of 2^64 is refused.
+/// States that a number of 2^64 is refused.
 #[tactic(auto, unfolding(vm_model::specs::Language::Reading::number, vm_model::specs::Language::Reading::digits_from))]
 pub fn two_to_the_64_is_no_number() -> Option<u64>
     ensures { result ≡ None }
@@ -18,7 +18,7 @@ pub fn two_to_the_64_is_no_number() -> Option<u64>
     number(b"18446744073709551616")
 }
 
-/// The number before it is read.
+/// States that the number before 2^64 is read.
 #[tactic(auto, unfolding(vm_model::specs::Language::Reading::number, vm_model::specs::Language::Reading::digits_from))]
 pub fn the_greatest_number_is_read() -> Option<u64>
     ensures { result ≡ Some (2 ^ 64 - 1) }
@@ -26,7 +26,7 @@ pub fn the_greatest_number_is_read() -> Option<u64>
     number(b"18446744073709551615")
 }
 
-/// A number of a name has no leading zero.
+/// States that a number of a name has no leading zero.
 #[tactic(auto, unfolding(vm_model::specs::Language::Reading::vmo, vm_model::specs::Language::Reading::digits_from))]
 pub fn a_leading_zero_is_no_name() -> Option<VmoName>
     ensures { result ≡ None }
@@ -34,7 +34,7 @@ pub fn a_leading_zero_is_no_name() -> Option<VmoName>
     vmo(b"v01")
 }
 
-/// Byte data is what the digits of this word say, and as long.
+/// States that byte data is what the digits of this word say, and as long.
 #[tactic(auto, unfolding(hex::specs::Hex::decode_pairs, vm_model::specs::Language::Reading::byte_data))]
 pub fn bytes_are_read_from_the_word<'a>(room: &'a mut [u8]) -> Option<LentBytes<'a>>
     requires { DATA_BYTES ≤ length room.old }
@@ -43,7 +43,7 @@ pub fn bytes_are_read_from_the_word<'a>(room: &'a mut [u8]) -> Option<LentBytes<
     byte_data_into(b"0aff", room)
 }
 
-/// A word of two digits more than fit is no data.
+/// States that a word of two digits more than fit is no data.
 #[tactic(auto, unfolding(vm_model::specs::Language::Reading::byte_data))]
 pub fn a_word_of_a_byte_more_is_no_data<'a>(
     word: &[u8],
@@ -56,7 +56,7 @@ pub fn a_word_of_a_byte_more_is_no_data<'a>(
     byte_data_into(word, room)
 }
 
-/// The offset of a range comes before its length.
+/// States that the offset of a range comes before its length.
 #[tactic(auto, unfolding(vm_model::specs::Language::Reading::command, vm_model::specs::Language::Reading::reading, vm_model::specs::Language::Reading::words, vm_model::specs::Language::Reading::number, vm_model::specs::Language::Reading::digits_from, vm_model::specs::Language::Reading::vmo))]
 pub fn offset_comes_before_length<'a>(room: &'a mut [u8]) -> Result<Option<Call<'a>>, SyntaxFault>
     requires { DATA_BYTES ≤ length room.old }
@@ -65,7 +65,7 @@ pub fn offset_comes_before_length<'a>(room: &'a mut [u8]) -> Result<Option<Call<
     read_call(b"vmo_zero v1 4096 8192", room)
 }
 
-/// A tab parts words as a space does.
+/// States that a tab parts words as a space does.
 #[tactic(auto, unfolding(vm_model::specs::Language::Reading::command, vm_model::specs::Language::Reading::reading, vm_model::specs::Language::Reading::words, vm_model::specs::Language::Reading::number, vm_model::specs::Language::Reading::digits_from, vm_model::specs::Language::Reading::vmo))]
 pub fn a_tab_parts_words<'a>(room: &'a mut [u8]) -> Result<Option<Call<'a>>, SyntaxFault>
     requires { DATA_BYTES ≤ length room.old }
@@ -74,7 +74,7 @@ pub fn a_tab_parts_words<'a>(room: &'a mut [u8]) -> Result<Option<Call<'a>>, Syn
     read_call(b"vmo_size\tv1", room)
 }
 
-/// A flag stands once.
+/// States that a flag stands once.
 #[tactic(auto, unfolding(vm_model::specs::Language::Reading::command, vm_model::specs::Language::Reading::reading, vm_model::specs::Language::Reading::words, vm_model::specs::Language::Reading::number, vm_model::specs::Language::Reading::digits_from, vm_model::specs::Language::Reading::vmo))]
 pub fn a_flag_stands_once<'a>(room: &'a mut [u8]) -> Result<Option<Call<'a>>, SyntaxFault>
     requires { DATA_BYTES ≤ length room.old }
@@ -83,7 +83,7 @@ pub fn a_flag_stands_once<'a>(room: &'a mut [u8]) -> Result<Option<Call<'a>>, Sy
     read_call(b"vmo_create v1 0 resizable resizable", room)
 }
 
-/// Data at the end of a line may be followed by a tab.
+/// States that data at the end of a line may be followed by a tab.
 #[tactic(auto, unfolding(hex::specs::Hex::decode_pairs, vm_model::specs::Language::Reading::command, vm_model::specs::Language::Reading::reading, vm_model::specs::Language::Reading::words, vm_model::specs::Language::Reading::number, vm_model::specs::Language::Reading::digits_from, vm_model::specs::Language::Reading::vmo, vm_model::specs::Language::Reading::byte_data))]
 pub fn data_may_end_before_a_tab<'a>(room: &'a mut [u8]) -> Result<Option<Call<'a>>, SyntaxFault>
     requires { DATA_BYTES ≤ length room.old }
@@ -92,7 +92,7 @@ pub fn data_may_end_before_a_tab<'a>(room: &'a mut [u8]) -> Result<Option<Call<'
     read_call(b"vmo_write v1 0 0a\t", room)
 }
 
-/// A word that begins as a command's word does is no command.
+/// States that a word that begins as a command's word does is no command.
 #[tactic(auto, unfolding(vm_model::specs::Language::Reading::command, vm_model::specs::Language::Reading::reading, vm_model::specs::Language::Reading::words))]
 pub fn a_longer_word_is_no_command<'a>(room: &'a mut [u8]) -> Result<Option<Call<'a>>, SyntaxFault>
     requires { DATA_BYTES ≤ length room.old }
@@ -101,7 +101,7 @@ pub fn a_longer_word_is_no_command<'a>(room: &'a mut [u8]) -> Result<Option<Call
     read_call(b"vmo_reads v1 4096 16", room)
 }
 
-/// A read has its offset before its length, too.
+/// States that a read has its offset before its length, too.
 #[tactic(auto, unfolding(vm_model::specs::Language::Reading::command, vm_model::specs::Language::Reading::reading, vm_model::specs::Language::Reading::words, vm_model::specs::Language::Reading::number, vm_model::specs::Language::Reading::digits_from, vm_model::specs::Language::Reading::vmo))]
 pub fn offset_of_a_read_comes_before_its_length<'a>(
     room: &'a mut [u8],
@@ -112,7 +112,7 @@ pub fn offset_of_a_read_comes_before_its_length<'a>(
     read_call(b"vmo_read v1 4096 16", room)
 }
 
-/// A comment has its mark and what follows.
+/// States that a comment has its mark and what follows.
 #[tactic(auto, unfolding(vm_model::specs::Language::Reading::reading, vm_model::specs::Language::Reading::words))]
 pub fn a_comment_has_more_than_its_mark<'a>(
     room: &'a mut [u8],
@@ -123,7 +123,7 @@ pub fn a_comment_has_more_than_its_mark<'a>(
     read_call(b"#note", room)
 }
 
-/// A line may have as many bytes as a line can have.
+/// States that a line may have as many bytes as a line can have.
 #[tactic(auto, unfolding(vm_model::specs::Language::Reading::reading))]
 pub fn a_line_of_the_greatest_length_is_read<'a>(
     line: &[u8],
@@ -136,7 +136,7 @@ pub fn a_line_of_the_greatest_length_is_read<'a>(
     read_call(line, room)
 }
 
-/// Each flag is written by its own word.
+/// States that each flag is written by its own word.
 #[tactic(auto, unfolding(vm_model::specs::Language::Spelling::command_words, vm_model::specs::Language::Spelling::has_spelling, vm_model::specs::Language::Spelling::spelling))]
 pub fn a_flag_is_written_by_its_word(out: &mut [u8]) -> usize
     requires { TEXT_ROOM ≤ length out.old }
@@ -154,7 +154,7 @@ pub fn a_flag_is_written_by_its_word(out: &mut [u8]) -> usize
     write_command(&child, out)
 }
 
-/// A read is written with its offset before its length.
+/// States that a read is written with its offset before its length.
 #[tactic(auto, unfolding(vm_model::specs::Language::Spelling::command_words, vm_model::specs::Language::Spelling::has_spelling, vm_model::specs::Language::Spelling::spelling))]
 pub fn a_read_is_written_with_its_offset_first(out: &mut [u8]) -> usize
     requires { TEXT_ROOM ≤ length out.old }

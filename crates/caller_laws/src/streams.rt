@@ -6,7 +6,7 @@ use script_io::{ReadSource, Source};
 use std::io::Read;
 use vm_base::Failed;
 
-/// A read that failed is counted, and is not taken for the end.
+/// States that a read that failed is counted, and is not taken for the end.
 pub fn a_failed_read_is_counted_and_told<R: Read>(
     source: &mut ReadSource<R>,
     buf: &mut [u8],

@@ -22,7 +22,7 @@ use page_store::Look;
 use std::sync::ledger::Ledger;
 use vm_base::Koid;
 
-/// A row is put beside two others in at most 64 steps.
+/// States that a row is put beside two others in at most 64 steps.
 pub fn a_third_row_comes_in_few_steps<L: Ledger>(lists: &mut PageLists, steps: &mut Steps<L>)
     requires rows { row_count lists.old ≡ 2 }
     requires absent { slots_of lists.old 1 7 ≡ None }
@@ -32,7 +32,7 @@ pub fn a_third_row_comes_in_few_steps<L: Ledger>(lists: &mut PageLists, steps: &
     lists.insert_counted(ListId(1), 7, Slot::Zero, steps);
 }
 
-/// One of two rows is taken out in at most 64 steps.
+/// States that one of two rows is taken out in at most 64 steps.
 pub fn one_of_two_rows_goes_in_few_steps<L: Ledger>(
     lists: &mut PageLists,
     steps: &mut Steps<L>,
@@ -44,7 +44,7 @@ pub fn one_of_two_rows_goes_in_few_steps<L: Ledger>(
     lists.remove_counted(ListId(1), 7, steps)
 }
 
-/// A page of a VMO whose node has no parent is found by one look-up.
+/// States that a page of a VMO whose node has no parent is found by one look-up.
 pub fn a_page_without_a_parent_takes_one_look_up<L: Ledger>(
     forest: &CowForest,
     steps: &mut Steps<L>,
@@ -58,7 +58,7 @@ pub fn a_page_without_a_parent_takes_one_look_up<L: Ledger>(
     forest.look_counted(Koid(1), 0, steps)
 }
 
-/// Eight pages that reach no row are made zero in one step, if the VMO's node has no parent.
+/// States that eight pages that reach no row are made zero in one step, if the VMO's node has no parent.
 pub fn pages_without_rows_are_made_zero_in_one_step<L: Ledger>(
     forest: &mut CowForest,
     steps: &mut Steps<L>,
@@ -74,7 +74,7 @@ pub fn pages_without_rows_are_made_zero_in_one_step<L: Ledger>(
     forest.zero_range(Koid(1), 0, 8, steps);
 }
 
-/// A VMO that is the only one has no hidden node above it.
+/// States that a VMO that is the only one has no hidden node above it.
 pub fn one_vmo_has_no_hidden_node(forest: &CowForest) -> u64
     requires { vmos_of (content_of forest.now) ≡ 1 }
     ensures { result ≡ 0 }
@@ -82,7 +82,7 @@ pub fn one_vmo_has_no_hidden_node(forest: &CowForest) -> u64
     forest.hidden()
 }
 
-/// The hidden node above a VMO that is closed goes with it.
+/// States that the hidden node above a VMO that is closed goes with it.
 pub fn a_close_leaves_no_hidden_node(
     arena: &mut CowArena,
     lists: &mut PageLists,

@@ -23,8 +23,8 @@ const ROOM: usize = 2_097_152;
 /// A call that does not come.
 const NEVER: u64 = 99_999;
 
-/// How the actors are run: under these words of a command line, with this input. The pull and the push with these numbers fail,
-/// both counted from 1.
+/// A run of the actors, under these words of a command line and with this input. The pull and the push with these numbers
+/// fail, both counted from 1.
 #[derive(Clone, Copy)]
 struct Run<'a> {
     words: &'a str,
@@ -34,7 +34,7 @@ struct Run<'a> {
 }
 
 impl<'a> Run<'a> {
-    /// A run in which no call fails.
+    /// Makes a run in which no call fails.
     fn sure(words: &'a str, input: &'a str) -> Run<'a> {
         Run {
             words,
@@ -45,14 +45,14 @@ impl<'a> Run<'a> {
     }
 }
 
-/// How a run of the actors ends, and what is written.
+/// The end of a run of the actors, and what is written.
 #[derive(Drop)]
 struct End {
     status: Status,
     written: String,
 }
 
-/// The words of a command line, parted by single blanks.
+/// Returns the words of a command line, parted by single blanks.
 fn words_of(alloc: Global, line: &str) -> Result<Vec<String>, Fail> {
     let mut words = Vec::new(alloc);
     for word in line.split(' ') {
@@ -103,7 +103,7 @@ fn acted<R: Threads + Wait + Sync, G: Gate>(
     acted_over(rt, alloc, gate, run, CowForest::new(alloc))
 }
 
-/// The lines of an actor, of what was written.
+/// Returns the lines of an actor, of what was written.
 fn lines_of(alloc: Global, written: &str, actor: &str) -> Result<String, Fail> {
     let mut lines = String::new(alloc);
     for line in written.lines() {

@@ -15,7 +15,7 @@ mod replying;
 mod streams;
 mod zeroing;
 
-/// Why a text fails.
+/// The reason why a text fails.
 #[derive(Debug, Drop)]
 enum Fault {
     /// No line has a call.
@@ -40,7 +40,7 @@ impl From<HostMemory> for Fault {
     }
 }
 
-/// The numbers of a text, parted by single blanks.
+/// Returns the numbers of a text, parted by single blanks.
 fn numbers_of(alloc: Global, text: &str) -> Result<Vec<u64>, Fault> {
     let mut numbers = Vec::new(alloc);
     for word in text.split(' ') {
@@ -54,7 +54,7 @@ fn numbers_of(alloc: Global, text: &str) -> Result<Vec<u64>, Fault> {
     Ok(numbers)
 }
 
-/// A number of 32 bits.
+/// Returns a number as one of 32 bits.
 fn small(number: u64) -> Result<u32, Fault> {
     match u32::try_from(number) {
         Ok(number) => Ok(number),
@@ -62,7 +62,7 @@ fn small(number: u64) -> Result<u32, Fault> {
     }
 }
 
-/// A text in bytes.
+/// Returns bytes as a text.
 fn text_of(bytes: &[u8]) -> Result<&str, Fault> {
     match str::from_utf8(bytes) {
         Ok(text) => Ok(text),
@@ -79,7 +79,7 @@ fn add_word(told: &mut String, word: &str) -> Result<(), Fault> {
     Ok(())
 }
 
-/// What is told of a call: its word, and what stands behind it.
+/// Returns what is told of a call, which is given by its word and what stands behind it.
 fn tell(alloc: Global, word: &str, rest: &str) -> Result<String, Fault> {
     match word {
         "read" => reading::line(alloc, rest),

@@ -76,7 +76,7 @@ fn compare_counts(alloc: Global, wanted: &str, counts: Counts) -> Result<(), Fau
     }
 }
 
-/// What a script writes step by step. `None` if its words run none that way.
+/// Returns what a script writes step by step. `None` if its words run none that way.
 fn written_by_steps(alloc: Global, words: &[String], lines: &str) -> Result<Option<String>, Fault> {
     if let Some(written) = stepped(alloc, words, lines)? {
         return Ok(Some(written));

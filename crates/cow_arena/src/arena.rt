@@ -28,7 +28,7 @@ pub struct CowArena {
     nodes: Slab<Node>,
     /// The number of lists that were given to nodes so far, and so the number of the next list.
     lists: u64,
-    /// How many of the nodes are hidden.
+    /// The number of hidden nodes.
     hidden: u64,
 }
 

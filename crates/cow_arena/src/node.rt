@@ -10,7 +10,7 @@ use vm_base::{Koid, PageNo};
 #[derive(Clone, Copy, Debug, PartialEq, Eq)]
 pub struct NodeId(pub usize);
 
-/// Which of the two children of a hidden node a node is.
+/// The side on which one of the two children of a hidden node stands.
 #[derive(Clone, Copy, Debug, PartialEq, Eq)]
 pub enum Side {
     /// The one of which the snapshot was made.
@@ -41,11 +41,11 @@ pub struct Node {
     pub right: Option<NodeId>,
     /// The page list with the node's own rows.
     pub list: ListId,
-    /// How many pages the node has.
+    /// The number of pages of the node.
     pub count: PageNo,
     /// The page of the parent where the node's window over it begins.
     pub first: PageNo,
-    /// How many pages the window has.
+    /// The number of pages of the window.
     pub seen: PageNo,
 }
 

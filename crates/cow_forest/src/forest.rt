@@ -52,7 +52,7 @@ pub struct CowForest {
     owners: NodeTable,
     /// The koid of the next VMO. The first has koid 1, and none is given twice.
     next: u64,
-    /// How many VMOs there are.
+    /// The number of VMOs.
     vmos: u64,
     /// Ways upwards over many nodes. Contracts do not see them.
     jumps: JumpTable,
@@ -71,7 +71,7 @@ impl Model for CowForest {
 }
 
 impl CowForest {
-    /// A store with no frames and no VMO.
+    /// Makes a store with no frames and no VMO.
     pub fn new(alloc: Global) -> CowForest
         ensures content { ⟦<CowForest as PageStore>⟧.content result ≡ nothing }
     {
@@ -87,8 +87,8 @@ impl CowForest {
         }
     }
 
-    /// How many rows have a frame. They are as many as frames are in use, since the tree is exact over the frames that
-    /// are taken.
+    /// Returns how many rows have a frame. They are as many as frames are in use, since the tree is exact over the
+    /// frames that are taken.
     pub fn frame_rows(&self) -> u64
         ensures used { result ≡ used (content_of self.now) }
         ensures rows { result ≡ frame_row_count self.now.rows }
@@ -99,7 +99,7 @@ impl CowForest {
         (self.frames.frames() - self.frames.free()) as u64
     }
 
-    /// How many rows there are, with frames and without. No range of pages reaches more of them.
+    /// Returns the number of rows, with frames and without. No range of pages reaches more of them.
     pub fn rows(&self) -> u64
         ensures count { result ≡ row_count self.now.rows }
         ensures reached { (k from end : ℕ) → rows_reached (tree self.now) k from end ≤ row_count self.now.rows }
@@ -107,8 +107,8 @@ impl CowForest {
         self.lists.rows()
     }
 
-    /// How many nodes are hidden: fewer than there are VMOs, or none. As many nodes are visible as there are VMOs. No
-    /// way up to a root has more nodes than there are VMOs.
+    /// Returns how many nodes are hidden: fewer than there are VMOs, or none. As many nodes are visible as there are
+    /// VMOs. No way up to a root has more nodes than there are VMOs.
     pub fn hidden(&self) -> u64
         ensures count { result ≡ hidden_count self.now.arena }
         ensures visible { visible_count self.now.arena ≡ vmos_of (content_of self.now) }

@@ -20,8 +20,8 @@ use page_store::Look;
 use std::sync::ledger::Ledger;
 use vm_base::{PageNo, Tag};
 
-/// What a page of a VMO's node is. One with a row of its own, or outside the node's window,
-/// costs one look-up in the lists.
+/// Returns what a page of a VMO's node is. One with a row of its own, or outside the node's window, costs one look-up
+/// in the lists.
 #[inline(always)]
 pub(crate) fn look_at(
     arena: &CowArena,
@@ -92,7 +92,7 @@ fn frame_upwards(
     above_by_jumps(arena, lists, jumps, leaf, page).frame()
 }
 
-/// What a page with this row of its own is.
+/// Returns what a page with this row of its own is.
 fn look_in(slot: Slot) -> Look
     ensures { result ≡ look_in slot }
 {
@@ -144,7 +144,7 @@ pub(crate) fn look_at_counted<L: Ledger>(
     look_found(arena, lists, leaf, page, found)
 }
 
-/// What a page of a VMO's node is. `found` is what `holder` answers for it.
+/// Returns what a page of a VMO's node is. `found` is what `holder` answers for it.
 fn look_found(
     arena: &CowArena,
     lists: &PageLists,
@@ -223,8 +223,8 @@ fn next_shown_by_rows(
     None
 }
 
-/// The first page from `from` on of a VMO's node that comes to a row, of the node or of one above it. No page before it
-/// shows a frame. The call costs one look-up for each node on the way upwards.
+/// Returns the first page from `from` on of a VMO's node that comes to a row, of the node or of one above it. No page
+/// before it shows a frame. The call costs one look-up for each node on the way upwards.
 fn next_row(arena: &CowArena, lists: &PageLists, leaf: NodeId, from: PageNo) -> Option<PageNo>
     requires exact { (in_use : ℕ → Bool) × IsExact (tree_of arena.now lists.now) all_in_sight in_use }
     requires leaf { IsSomeAnd (nodes_of arena.now leaf.0) (λ node. IsSome node.koid) }
@@ -255,7 +255,7 @@ fn next_row(arena: &CowArena, lists: &PageLists, leaf: NodeId, from: PageNo) -> 
     }
 }
 
-/// The least page of a list from `from` to below `to` that has a row.
+/// Returns the least page of a list from `from` to below `to` that has a row.
 fn next_below(lists: &PageLists, list: ListId, from: PageNo, to: PageNo) -> Option<PageNo>
     ensures { IsNextBelow (slots_of lists.now list.0) from to result }
 {
@@ -263,7 +263,8 @@ fn next_below(lists: &PageLists, list: ListId, from: PageNo, to: PageNo) -> Opti
     if row < to { Some(row) } else { None }
 }
 
-/// The page that comes to this row, which is `shift` pages further on. If there is no row, the best page so far.
+/// Returns the page that comes to this row, which is `shift` pages further on. If there is no row, returns the best
+/// page so far.
 fn nearer(best: Option<PageNo>, row: Option<PageNo>, shift: PageNo) -> Option<PageNo>
     requires { IfSome row (λ page. shift ≤ page) }
     ensures { result ≡ nearer_page best row shift }

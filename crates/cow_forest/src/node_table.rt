@@ -12,7 +12,7 @@ use std::collections::HashMap;
 use std::marker::Model;
 use vm_base::HostMemory;
 
-/// How many places the array of a table has. The place of a number is the remainder of the number by this.
+/// The number of places in the array of a table. The place of a number is the remainder of the number by this.
 const PLACES: usize = 64;
 
 /// Nodes by number. An entry stands in the array, at the place of its number, until another number with the same place
@@ -40,7 +40,7 @@ impl Model for NodeTable {
 }
 
 impl NodeTable {
-    /// No number has a node.
+    /// Makes a table in which no number has a node.
     pub(crate) fn new(alloc: Global) -> NodeTable
         ensures { (n : ℕ) → node_in result n ≡ None }
     {
@@ -61,7 +61,7 @@ impl NodeTable {
         Ok(())
     }
 
-    /// The node of a number, which has an entry. If the entry stands in the array, this costs one load and a
+    /// Returns the node of a number, which has an entry. If the entry stands in the array, this costs one load and a
     /// comparison. Otherwise it costs a look-up in the map.
     #[inline(always)]
     pub(crate) fn get(&self, number: u64) -> NodeId
@@ -107,14 +107,14 @@ impl NodeTable {
     }
 }
 
-/// No entry at any place.
+/// Returns an array with no entry at any place.
 fn none_recent() -> [Option<(u64, NodeId)>; PLACES]
     ensures { result ≡ replicate PLACES None }
 {
     [None; PLACES]
 }
 
-/// The place of a number in the array, below `PLACES`.
+/// Returns the place of a number in the array, below `PLACES`.
 #[inline(always)]
 fn place_of(number: u64) -> usize
     ensures { result ≡ number % PLACES }
@@ -122,7 +122,7 @@ fn place_of(number: u64) -> usize
     (number % PLACES as u64) as usize
 }
 
-/// The node of a number, if this entry is the number's.
+/// Returns the node of a number, if this entry is the number's.
 #[inline(always)]
 fn own_node(entry: Option<(u64, NodeId)>, number: u64) -> Option<NodeId>
     ensures { result ≡ own_node entry number }
@@ -133,7 +133,7 @@ fn own_node(entry: Option<(u64, NodeId)>, number: u64) -> Option<NodeId>
     }
 }
 
-/// The entry, unless it is the number's own.
+/// Returns the entry, unless it is the number's own.
 #[inline(always)]
 fn unless_own(entry: Option<(u64, NodeId)>, number: u64) -> Option<(u64, NodeId)>
     ensures { result ≡ unless_own entry number }
@@ -195,7 +195,7 @@ fn take_out(displaced: &mut HashMap<u64, NodeId>, number: u64)
     let _left = displaced.remove(&number);
 }
 
-/// The node of a number, by a look-up in the map.
+/// Returns the node of a number, by a look-up in the map.
 #[inline(never)]
 fn find(displaced: &HashMap<u64, NodeId>, number: u64) -> NodeId
     requires { IsSome (displaced_in displaced.now.entries number) }

@@ -22,7 +22,7 @@ use frame_pool::{Backlink, FramePool};
 use page_list::{ListId, PageLists, Slot};
 use vm_base::{PageNo, Tag};
 
-/// The frame of the row that a list has for a page, if it has one with a frame.
+/// Returns the frame of the row that a list has for a page, if it has one with a frame.
 #[inline(always)]
 fn own_tag(lists: &PageLists, list: ListId, page: PageNo) -> Option<Tag>
     ensures { result ≡ tag_there (slots_of lists.now list.0 page) }

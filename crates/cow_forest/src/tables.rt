@@ -90,7 +90,7 @@ pub(crate) fn renew_merged(
     }
 }
 
-/// The one of two numbers that is not `number`.
+/// Returns the one of two numbers that is not `number`.
 fn other_of(number: u64, one: u64, other: u64) -> u64
     ensures { ((number ≡ one) × (result ≡ other)) ⊎ ((number ≢ one) × (result ≡ one)) }
 {

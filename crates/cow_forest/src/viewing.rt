@@ -14,7 +14,7 @@ use cow_split::{Holder, holder, koid_below, least_koid, lesser, viewer_count};
 use page_list::PageLists;
 use vm_base::{Koid, PageNo};
 
-/// The least koid of the VMOs that see the row of a page of a node. The row has a frame.
+/// Returns the least koid of the VMOs that see the row of a page of a node. The row has a frame.
 pub(crate) fn least_koid_of(arena: &CowArena, lists: &PageLists, node: NodeId, page: PageNo) -> Koid
     requires exact { (in_use : ℕ → Bool) × IsExact (tree_of arena.now lists.now) all_in_sight in_use }
     requires row { (tag : ℕ) × HasFrameRow (tree_of arena.now lists.now) node.0 page tag }
@@ -78,7 +78,7 @@ fn other_side(side: Side) -> Side
     }
 }
 
-/// How many VMOs show the frame that a page of a VMO's node shows.
+/// Returns how many VMOs show the frame that a page of a VMO's node shows.
 pub(crate) fn viewer_count_of(
     arena: &CowArena,
     lists: &PageLists,
@@ -97,7 +97,7 @@ pub(crate) fn viewer_count_of(
     }
 }
 
-/// How many VMOs see the row of a page of a hidden node.
+/// Returns how many VMOs see the row of a page of a hidden node.
 fn viewers_of(arena: &CowArena, lists: &PageLists, node: NodeId, page: PageNo) -> u64
     requires exact { (in_use : ℕ → Bool) × IsExact (tree_of arena.now lists.now) all_in_sight in_use }
     requires hidden { IsSomeAnd (nodes_of arena.now node.0) (λ at. at.koid ≡ None) }

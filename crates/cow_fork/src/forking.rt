@@ -77,7 +77,7 @@ pub fn fork_holder(
     tag
 }
 
-/// The row of a page's own frame. Both bits are clear.
+/// Returns the row of a page's own frame. Both bits are clear.
 fn row_of(tag: Tag) -> Slot
     ensures { result ≡ slot.Frame tag false false }
 {
@@ -115,8 +115,8 @@ fn take_copy(frames: &mut FramePool, from: Tag) -> Tag
     }
 }
 
-/// The frame for a page that was cut off from the row `found`. It is the row's frame, if no other VMO shows that.
-/// Otherwise it is a free frame with the bytes that the page showed.
+/// Returns the frame for a page that was cut off from the row `found`. It is the row's frame, if no other VMO shows
+/// that. Otherwise it is a free frame with the bytes that the page showed.
 fn take_after(frames: &mut FramePool, found: Holder, answer: Cut) -> Tag
     requires free { HasFree frames.old ⊎ LeavesFrame answer }
     requires taken { (t : ℕ) → frame_held found ≡ Some t → is_taken frames.old t ≡ true }

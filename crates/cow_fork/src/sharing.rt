@@ -73,7 +73,7 @@ fn hide_rows(lists: &mut PageLists, list: ListId, from: PageNo, end: PageNo)
     }
 }
 
-/// The first page from `from` to below `end` that has a row.
+/// Returns the first page from `from` to below `end` that has a row.
 fn next_below(lists: &PageLists, list: ListId, from: PageNo, end: PageNo) -> Option<PageNo>
     ensures some { IfSome result (λ page. IsFirstIn (slots_of lists.now list.0) from end page) }
     ensures none { IfNone result (HasNoneIn (slots_of lists.now list.0) from end) }

@@ -88,7 +88,7 @@ fn zero_with(
     hide_above(arena, lists, jumps, leaf, page);
 }
 
-/// Whether a page shows a frame.
+/// Returns whether a page shows a frame.
 fn has_frame(found: Holder) -> bool
     ensures { result ≡ is_some (frame_held found) }
 {
@@ -115,7 +115,7 @@ fn let_go(arena: &CowArena, lists: &mut PageLists, leaf: NodeId, page: PageNo, f
     }
 }
 
-/// The frame of a row that has one.
+/// Returns the frame of a row that has one.
 fn tag_in(row: Slot) -> Tag
     requires { IsSome (frame_in row) }
     ensures { frame_in row ≡ Some result.0 }

@@ -16,19 +16,19 @@ pub struct Jump {
     pub to: NodeId,
     /// The side from which a walk comes there.
     pub side: Side,
-    /// How many pages further on a page is there.
+    /// The number of pages by which a page is further on there.
     pub shift: u64,
     /// The page from which on it does not serve.
     pub end: PageNo,
     /// The pages that it does not serve, by their numbers modulo 64: a node between may have a row there.
     pub barred: u64,
-    /// How many nodes further up it leads.
+    /// The number of nodes by which it leads further up.
     pub over: u64,
     /// The serial number of the node to which it leads.
     pub serial: u64,
 }
 
-/// Where a way upwards comes to.
+/// The place that a way upwards comes to.
 #[derive(Clone, Copy)]
 pub(crate) struct Place {
     pub node: NodeId,

@@ -28,8 +28,8 @@ use vm_base::PageNo;
 /// from the rows above one by one, which is slower.
 pub(crate) const MOST_NODES: u64 = 64;
 
-/// How far the way down from the sibling has come. The pages `from` to below `to` of node `at` lie in its window. They
-/// come to the pages of the leaf's parent that are `shift` pages further on, past no row above the node.
+/// The way down from the sibling, as far as it has come. The pages `from` to below `to` of node `at` lie in its window.
+/// They come to the pages of the leaf's parent that are `shift` pages further on, past no row above the node.
 #[derive(Clone, Copy)]
 pub(crate) struct Way {
     pub(crate) at: NodeId,

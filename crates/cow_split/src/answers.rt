@@ -24,7 +24,7 @@ pub enum Holder {
 }
 
 impl Holder {
-    /// The frame of the page. `None` if and only if the page is zero.
+    /// Returns the frame of the page. `None` if and only if the page is zero.
     pub fn frame(self) -> Option<Tag>
         ensures some { IfSome result (λ tag. frame_held self ≡ Some tag.0) }
         ensures none { IfNone result (frame_held self ≡ None) }
@@ -40,7 +40,7 @@ impl Holder {
     }
 }
 
-/// Who sees the frame of a page, once the page is cut off from the row that it saw.
+/// The viewers of the frame of a page, once the page is cut off from the row that it saw.
 #[derive(Clone, Copy, Debug, PartialEq, Eq)]
 pub enum Cut {
     /// Another VMO sees the frame.

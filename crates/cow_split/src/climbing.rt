@@ -12,8 +12,8 @@ use cow_arena::{CowArena, NodeId};
 use page_list::PageLists;
 use vm_base::PageNo;
 
-/// The first row on the walk from a page of a node upwards, within the windows. `Nothing` if and only if there is none.
-/// This function is inlined and the walk upwards is not, so a page with a row of its own costs one look-up.
+/// Returns the first row on the walk from a page of a node upwards, within the windows. `Nothing` if and only if there
+/// is none. This function is inlined and the walk upwards is not, so a page with a row of its own costs one look-up.
 #[inline(always)]
 pub fn holder(arena: &CowArena, lists: &PageLists, leaf: NodeId, page: PageNo) -> Holder
     requires forest { IsForest (nodes_of arena.now) arena.now.lists }

@@ -157,8 +157,8 @@ fn split(
     }
 }
 
-/// Whether `cut` would answer `LastViewer`: a page of a VMO's node sees a frame in a row above the node, and no other
-/// VMO shows the frame. `found` is what `holder` answers for the page. Nothing is changed.
+/// Returns whether `cut` would answer `LastViewer`: a page of a VMO's node sees a frame in a row above the node, and no
+/// other VMO shows the frame. `found` is what `holder` answers for the page. Nothing is changed.
 pub fn is_last(
     arena: &CowArena,
     lists: &PageLists,
@@ -182,7 +182,8 @@ pub fn is_last(
     }
 }
 
-/// Whether the leaf alone sees the frame of this row of a hidden node. Its page `own` comes to the row from this side.
+/// Returns whether the leaf alone sees the frame of this row of a hidden node. Its page `own` comes to the row from
+/// this side.
 fn is_last_from(
     arena: &CowArena,
     lists: &PageLists,
@@ -208,7 +209,7 @@ fn is_last_from(
     !reached_by_others(arena, lists, leaf, own, side, node, page)
 }
 
-/// Whether nobody sees a row with these bits, if nobody on this side does.
+/// Returns whether nobody sees a row with these bits, if nobody on this side does.
 fn is_gone(side: Side, tag: Tag, left: bool, right: bool) -> bool
     ensures { result ≡ leaves_frame (answer_on side tag left right) }
 {

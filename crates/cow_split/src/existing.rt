@@ -15,9 +15,9 @@ use cow_arena::{CowArena, NodeId, Side};
 use page_list::PageLists;
 use vm_base::PageNo;
 
-/// Whether a page of a node is reached from a visible node on this side, other than `except`, through the windows and
-/// past no row. The search takes no memory. It costs one look-up in the lists for each node that it asks: at most all
-/// nodes on this side.
+/// Returns whether a page of a node is reached from a visible node on this side, other than `except`, through the
+/// windows and past no row. The search takes no memory. It costs one look-up in the lists for each node that it asks:
+/// at most all nodes on this side.
 pub fn reached_from(
     arena: &CowArena,
     lists: &PageLists,
@@ -39,7 +39,7 @@ pub fn reached_from(
     any_below(arena, lists, except, start, page)
 }
 
-/// Whether a node is visible and not `except`, and this page of its parent is reached from it.
+/// Returns whether a node is visible and not `except`, and this page of its parent is reached from it.
 pub(crate) fn is_viewer(
     arena: &CowArena,
     lists: &PageLists,
@@ -63,8 +63,8 @@ pub(crate) fn is_viewer(
     }
 }
 
-/// Whether this page of the parent of a hidden node is reached from a visible node below that node. `false` for a
-/// visible node.
+/// Returns whether this page of the parent of a hidden node is reached from a visible node below that node. `false` for
+/// a visible node.
 fn any_below(
     arena: &CowArena,
     lists: &PageLists,
@@ -97,8 +97,8 @@ fn any_below(
     false
 }
 
-/// What the search meets at the children of a node that it enters with this page of the node's parent. If the node is
-/// visible, the search has asked it before, with its sibling.
+/// Returns what the search meets at the children of a node that it enters with this page of the node's parent. If the
+/// node is visible, the search has asked it before, with its sibling.
 pub(crate) fn look_below(
     arena: &CowArena,
     lists: &PageLists,
@@ -126,7 +126,8 @@ pub(crate) fn look_below(
     }
 }
 
-/// Whether one of the two children of a node is visible and not `except`, and this page of the node is reached from it.
+/// Returns whether one of the two children of a node is visible and not `except`, and this page of the node is reached
+/// from it.
 fn either_views(
     arena: &CowArena,
     lists: &PageLists,

@@ -15,9 +15,9 @@ use cow_arena::{CowArena, NodeId, Side};
 use page_list::PageLists;
 use vm_base::PageNo;
 
-/// Whether this page of a node is reached from this side other than from `leaf`, whose page `own` comes to it from
-/// there. If the leaf is itself the child on this side, nobody else is there. Otherwise the leaf's sibling is asked
-/// before the search: it comes to the node as the leaf does, and a young sibling has no rows of its own yet.
+/// Returns whether this page of a node is reached from this side other than from `leaf`, whose page `own` comes to it
+/// from there. If the leaf is itself the child on this side, nobody else is there. Otherwise the leaf's sibling is
+/// asked before the search: it comes to the node as the leaf does, and a young sibling has no rows of its own yet.
 pub(crate) fn reached_by_others(
     arena: &CowArena,
     lists: &PageLists,
@@ -41,7 +41,7 @@ pub(crate) fn reached_by_others(
     reached_from(arena, lists, Some(leaf), side, node, page)
 }
 
-/// Whether the child of a node on this side is `leaf`, and visible.
+/// Returns whether the child of a node on this side is `leaf`, and visible.
 fn is_child_on(arena: &CowArena, leaf: NodeId, side: Side, node: NodeId) -> bool
     requires forest { IsForest (nodes_of arena.now) arena.now.lists }
     requires node { IsSome (nodes_of arena.now node.0) }
@@ -53,9 +53,9 @@ fn is_child_on(arena: &CowArena, leaf: NodeId, side: Side, node: NodeId) -> bool
     }
 }
 
-/// Whether the leaf's sibling, or a child of the sibling, comes to the page of the parent to which page `own` of the
-/// leaf comes. If so, it also comes to each row of `node`, further up, to which the leaf's page comes. `false` if
-/// `node` is the parent.
+/// Returns whether the leaf's sibling, or a child of the sibling, comes to the page of the parent to which page `own`
+/// of the leaf comes. If so, it also comes to each row of `node`, further up, to which the leaf's page comes. `false`
+/// if `node` is the parent.
 fn reached_beside(
     arena: &CowArena,
     lists: &PageLists,
@@ -81,7 +81,8 @@ fn reached_beside(
     reached_near(arena, lists, Some(leaf), sibling, page)
 }
 
-/// Whether a page of a node's parent is reached from the node or from a child of the node, other than from `except`.
+/// Returns whether a page of a node's parent is reached from the node or from a child of the node, other than from
+/// `except`.
 fn reached_near(
     arena: &CowArena,
     lists: &PageLists,

@@ -16,8 +16,8 @@ use cow_arena::{CowArena, NodeId, Side};
 use page_list::PageLists;
 use vm_base::PageNo;
 
-/// Whether some visible node on this side of a hidden node sees the row that the node has at a page. `false` if it has
-/// none.
+/// Returns whether some visible node on this side of a hidden node sees the row that the node has at a page. `false` if
+/// it has none.
 pub fn side_seen(
     arena: &CowArena,
     lists: &PageLists,
@@ -36,8 +36,8 @@ pub fn side_seen(
     reached_from(arena, lists, None, side, node, page)
 }
 
-/// Whether `leaf` is visible and sees the row of `node` at `page`, which is counted in `node`: the walk from a page of
-/// the leaf below its count ends there. A hidden node sees none.
+/// Returns whether `leaf` is visible and sees the row of `node` at `page`, which is counted in `node`: the walk from a
+/// page of the leaf below its count ends there. A hidden node sees none.
 pub fn sees(arena: &CowArena, lists: &PageLists, leaf: NodeId, node: NodeId, page: PageNo) -> bool
     requires forest { IsForest (nodes_of arena.now) arena.now.lists }
     requires leaf { IsSome (nodes_of arena.now leaf.0) }
@@ -58,7 +58,7 @@ pub fn sees(arena: &CowArena, lists: &PageLists, leaf: NodeId, node: NodeId, pag
     is_row(leaf, own, found, node, page)
 }
 
-/// Whether `found`, the answer of `holder` for page `own` of `leaf`, is the row of page `page` of `node`.
+/// Returns whether `found`, the answer of `holder` for page `own` of `leaf`, is the row of page `page` of `node`.
 fn is_row(leaf: NodeId, own: PageNo, found: Holder, node: NodeId, page: PageNo) -> bool
     ensures { result ≡ is_row_of leaf.0 own found node.0 page }
 {
@@ -73,7 +73,7 @@ fn is_row(leaf: NodeId, own: PageNo, found: Holder, node: NodeId, page: PageNo) 
     }
 }
 
-/// The one page of a node from which a walk can come to this page of another node. `None` if no walk can.
+/// Returns the one page of a node from which a walk can come to this page of another node. `None` if no walk can.
 fn page_seen(arena: &CowArena, leaf: NodeId, node: NodeId, page: PageNo) -> Option<PageNo>
     requires forest { IsForest (nodes_of arena.now) arena.now.lists }
     requires leaf { IsSome (nodes_of arena.now leaf.0) }

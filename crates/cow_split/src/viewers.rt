@@ -15,8 +15,8 @@ use cow_arena::{CowArena, NodeId, Side};
 use page_list::PageLists;
 use vm_base::{Koid, PageNo};
 
-/// The number of visible nodes on this side of a node from which its page is reached. If the page has a row in the
-/// node's list, they are the nodes that see this row.
+/// Returns the number of visible nodes on this side of a node from which its page is reached. If the page has a row in
+/// the node's list, they are the nodes that see this row.
 pub fn viewer_count(
     arena: &CowArena,
     lists: &PageLists,
@@ -38,7 +38,7 @@ pub fn viewer_count(
     count
 }
 
-/// The least koid of the nodes that `viewer_count` counts. `None` if and only if there are none.
+/// Returns the least koid of the nodes that `viewer_count` counts. `None` if and only if there are none.
 pub fn least_koid(
     arena: &CowArena,
     lists: &PageLists,
@@ -94,7 +94,7 @@ fn if_below(one: Option<Koid>, other: Koid) -> Option<Koid>
     if koid.0 < other.0 { Some(koid) } else { None }
 }
 
-/// The lesser of two koids, or the only one, if one of them is `None`.
+/// Returns the lesser of two koids, or the only one, if one of them is `None`.
 #[inline(always)]
 pub fn lesser(one: Option<Koid>, other: Option<Koid>) -> Option<Koid>
     ensures { result ≡ lesser_of one other }
@@ -108,7 +108,8 @@ pub fn lesser(one: Option<Koid>, other: Option<Koid>) -> Option<Koid>
     }
 }
 
-/// Where a search goes on: at node `at`, with page `page` of the parent of `at`. The search began at node `start`.
+/// The place where a search goes on: at node `at`, with page `page` of the parent of `at`. The search began at node
+/// `start`.
 #[derive(Clone, Copy)]
 pub(crate) struct Cursor {
     pub(crate) start: NodeId,
@@ -133,8 +134,8 @@ fn search_below(arena: &CowArena, side: Side, node: NodeId, page: PageNo) -> Opt
     })
 }
 
-/// The next visible node that a search finds, and where the search goes on after it. `None` if the search finds no
-/// more.
+/// Returns the next visible node that a search finds, and where the search goes on after it. `None` if the search finds
+/// no more.
 #[inline(always)]
 fn next_viewer(
     arena: &CowArena,
@@ -165,7 +166,7 @@ fn next_viewer(
     None
 }
 
-/// What a search meets at a node.
+/// The result of a search at one node.
 #[derive(Clone, Copy)]
 pub(crate) enum Met {
     /// The node is visible, and not the excepted one.
@@ -176,7 +177,7 @@ pub(crate) enum Met {
     Nobody,
 }
 
-/// What a search meets at a node that it enters with this page of the node's parent.
+/// Returns what a search meets at a node that it enters with this page of the node's parent.
 #[inline(always)]
 pub(crate) fn meet(
     arena: &CowArena,
@@ -205,7 +206,7 @@ pub(crate) fn meet(
     Met::Below(left, here)
 }
 
-/// What a search meets at a visible node: nobody, if the node is the excepted one.
+/// Returns what a search meets at a visible node: nobody, if the node is the excepted one.
 #[inline(always)]
 #[tactic(auto, unfolding(vm_base::specs::Entries::passes))]
 fn viewer(except: Option<NodeId>, at: NodeId) -> Met
@@ -217,8 +218,8 @@ fn viewer(except: Option<NodeId>, at: NodeId) -> Met
     }
 }
 
-/// Where a search goes on once it is done with a node and all below it: at the next node to the right, with the page of
-/// the parent of that node. `None` if the search has entered all nodes at and below the one at which it began.
+/// Returns where a search goes on once it is done with a node and all below it: at the next node to the right, with the
+/// page of the parent of that node. `None` if the search has entered all nodes at and below the one at which it began.
 #[inline(always)]
 pub(crate) fn next_after(arena: &CowArena, passed: Cursor) -> Option<Cursor>
     requires forest { IsForest (nodes_of arena.now) arena.now.lists }

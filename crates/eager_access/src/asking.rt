@@ -27,7 +27,7 @@ use region_tree::Regions;
 use vm_base::{DATA_BYTES, PAGE, PageNo, Perm, Refusal, RegionName, in_page, page_of};
 use vm_model::Readiness;
 
-/// What refuses to read `len` bytes from an address on through the mappings of a root region, in this order:
+/// Returns the refusal to read `len` bytes from an address on through the mappings of a root region, in this order:
 ///
 /// - `BadHandle` if the region's name was never given;
 /// - `BadState` if the region is dead;
@@ -59,8 +59,8 @@ pub fn refusal_to_read(
     denied_read(pages, maps, region, addr, len)
 }
 
-/// What refuses to write bytes, at most `DATA_BYTES`, from an address on through the mappings of a root region, in this
-/// order:
+/// Returns the refusal to write bytes, at most `DATA_BYTES`, from an address on through the mappings of a root region, in
+/// this order:
 ///
 /// - `BadHandle` if the region's name was never given;
 /// - `BadState` if the region is dead;
@@ -94,7 +94,8 @@ pub fn refusal_to_write(
     denied_write(pages, maps, region, addr, bytes.len() as u64)
 }
 
-/// Whether a read of `len` bytes, at most `DATA_BYTES`, may want memory of the host: some page that it touches is not ready.
+/// Returns whether a read of `len` bytes, at most `DATA_BYTES`, may want memory of the host: some page that it touches is
+/// not ready.
 pub fn wants_memory_to_read(ready: &ReadyMap, region: RegionName, addr: u64, len: u64) -> bool
     requires { len ≤ DATA_BYTES }
     ensures { (s : State) → result ≡ may_want_memory (record { state = s; ready = ready_of (rows_of ready.now) })
@@ -103,8 +104,8 @@ pub fn wants_memory_to_read(ready: &ReadyMap, region: RegionName, addr: u64, len
     wants_memory(ready, region, addr, len, Readiness::Read)
 }
 
-/// Whether a write of bytes, at most `DATA_BYTES`, may want memory of the host: some page that it touches is not ready for
-/// writing.
+/// Returns whether a write of bytes, at most `DATA_BYTES`, may want memory of the host: some page that it touches is not
+/// ready for writing.
 pub fn wants_memory_to_write(ready: &ReadyMap, region: RegionName, addr: u64, bytes: &[u8]) -> bool
     requires { length bytes.now ≤ DATA_BYTES }
     ensures { (s : State) → result ≡ may_want_memory (record { state = s; ready = ready_of (rows_of ready.now) })
@@ -113,7 +114,7 @@ pub fn wants_memory_to_write(ready: &ReadyMap, region: RegionName, addr: u64, by
     wants_memory(ready, region, addr, bytes.len() as u64, Readiness::Write)
 }
 
-/// Whether a page of an address space is not ready for this. An access then takes a page fault there.
+/// Returns whether a page of an address space is not ready for this. An access then takes a page fault there.
 pub(crate) fn lacks(ready: &ReadyMap, root: RegionName, page: PageNo, wanted: Readiness) -> bool
     ensures { result ≡ lacks wanted (ready_of (rows_of ready.now) root.0 page) }
 {

@@ -17,7 +17,8 @@ use mapping_set::MappingSet;
 use vm_base::{PAGE, PageNo, RegionName, in_page, page_of};
 use vm_model::Entry;
 
-/// How many frames it takes to own the pages that a write of `len` bytes touches, one after another. No page refuses it.
+/// Returns the number of frames that it takes to own the pages that a write of `len` bytes touches, one after another. No
+/// page refuses it.
 pub(crate) fn frames_to_write(
     pages: &EagerPages,
     maps: &MappingSet,
@@ -44,7 +45,7 @@ pub(crate) fn frames_to_write(
     )
 }
 
-/// The entry of a page that has one.
+/// Returns the entry of a page that has one.
 pub(crate) fn entry_of(maps: &MappingSet, root: RegionName, page: PageNo) -> Entry
     requires { IsSome (table_of maps.now root.0 page) }
     ensures { table_of maps.now root.0 page ≡ Some result }

@@ -26,7 +26,7 @@ use region_tree::Regions;
 use vm_base::{HostMemory, Refusal, RegionName};
 use vm_model::{Answer, Call, LentBytes};
 
-/// What refuses an access.
+/// Returns what refuses an access.
 pub(crate) fn refusal_in_memory(
     vmos: &EagerVmos,
     regions: &Regions,
@@ -51,7 +51,7 @@ pub(crate) fn refusal_in_memory(
     }
 }
 
-/// Whether an access that nothing refuses may want memory of the host.
+/// Returns whether an access that nothing refuses may want memory of the host.
 pub(crate) fn wants_in_memory(ready: &ReadyMap, call: &Call<'_>) -> bool
     requires group { group_of call.now ≡ Group.Memory }
     requires may { (s : State) × (first_of (refusals s (command_of call.now)) ≡ None) }

@@ -25,7 +25,7 @@ use region_tree::Regions;
 use vm_base::{Refusal, VmoName};
 use vm_model::{Call, ChildKind};
 
-/// What refuses a command: the first of its refusals whose condition holds.
+/// Returns what refuses a command: the first of its refusals whose condition holds.
 pub(crate) fn refusal_to(
     vmos: &EagerVmos,
     regions: &Regions,

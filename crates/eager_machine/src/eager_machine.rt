@@ -27,12 +27,12 @@ use vm_model::{Answer, Call};
 /// one command. Contracts see the machine that it stands for (`machine_of`).
 #[derive(Drop)]
 pub struct EagerMachine {
-    /// Where room for a list of mappings comes from.
+    /// The allocator that gives room for a list of mappings.
     alloc: Global,
     vmos: EagerVmos,
     /// The regions of all address spaces.
     regions: Regions,
-    /// What each page of each address space shows.
+    /// The mappings: what each page of each address space shows.
     maps: MappingSet,
     /// The pages that are ready for an access.
     ready: ReadyMap,
@@ -55,7 +55,7 @@ impl EagerMachine {
     ghost use Rattle.vm_model.specs.Machine.MachineStep.{MachineStep, may_want_memory};
     ghost use Rattle.eager_machine.specs.Machine.{machine_of, HasPinnedFrame, pinned_frame};
 
-    /// A machine with nothing, and no page frames yet, which `fill` gives.
+    /// Makes a machine with nothing, and no page frames yet, which `fill` gives.
     pub fn new(alloc: Global) -> EagerMachine
         ensures empty { machine_of result ≡ empty_machine 0 }
         ensures good { IsGoodMachine (machine_of result) }
@@ -82,7 +82,8 @@ impl EagerMachine {
         self.vmos.pages.fill(frames)
     }
 
-    /// Whether want of memory may be the reply to a call (`HostMemory`): nothing refuses it, and it may want memory.
+    /// Returns whether want of memory may be the reply to a call (`HostMemory`): nothing refuses it, and it may want
+    /// memory.
     pub fn may_want_memory(&self, call: &Call<'_>) -> bool
         ensures { result ≡ (not (is_some (first_of (refusals (machine_of self.now).state (command_of call.now))))
             && may_want_memory (machine_of self.now) (command_of call.now)) }
@@ -139,7 +140,8 @@ impl EagerMachine {
         )
     }
 
-    /// The frame of page `at` of a pin, counted from the pin's first. `None` if there is no such pin, or if it has no such page.
+    /// Returns the frame of page `at` of a pin, counted from the pin's first. `None` if there is no such pin, or if it
+    /// has no such page.
     pub fn pinned_frame(&self, pin: PinName, at: u64) -> Option<Tag>
         ensures { option_map (λ (tag : Tag). tag.0) result
             ≡ pinned_frame (machine_of self.now).state ((machine_of self.now).state.pins pin.0) at }
@@ -153,7 +155,7 @@ impl EagerMachine {
         self.vmos.pages.frame(koid, first + at)
     }
 
-    /// Whether a page that is pinned has the frame.
+    /// Returns whether a page that is pinned has the frame.
     pub fn is_pinned_frame(&self, tag: Tag) -> bool
         ensures { IsTrue result ↔ HasPinnedFrame (machine_of self.now) tag.0 }
     {

@@ -24,7 +24,7 @@ pub(crate) enum Group {
     Telling,
 }
 
-/// The group of a command.
+/// Returns the group of a command.
 pub(crate) fn group_of(call: &Call<'_>) -> Group
     ensures { result ≡ group_of call.now }
 {
@@ -55,8 +55,8 @@ pub(crate) fn group_of(call: &Call<'_>) -> Group
     }
 }
 
-/// The name, the pin or the region that a call gives, if it gives one, is one that there is. This hands the ranges of numbers
-/// up that the caller has behind a reference, and does nothing.
+/// States that the name, the pin or the region that a call gives, if it gives one, is one that there is. This hands the
+/// ranges of numbers up that the caller has behind a reference, and does nothing.
 pub(crate) fn know_given(call: &Call<'_>)
     ensures { GivesName (command_of call.now) }
 {

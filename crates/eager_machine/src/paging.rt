@@ -85,7 +85,7 @@ fn change<'a>(
     }
 }
 
-/// The answer to a command that was done or lacked memory.
+/// Returns the answer to a command that was done or lacked memory.
 pub(crate) fn done(outcome: Result<(), HostMemory>) -> Result<Answer<'static>, HostMemory>
     ensures { MatchResult outcome (λ _. result ≡ Ok Answer.Done) (λ lack. result ≡ Err lack) }
 {

@@ -24,7 +24,7 @@ pub(crate) struct Reach {
     pub end: PageNo,
 }
 
-/// The pages whose frames a command on pages may change. Nothing refuses it.
+/// Returns the pages whose frames a command on pages may change. Nothing refuses it.
 pub(crate) fn reach_of(vmos: &EagerVmos, call: &Call<'_>) -> Reach
     requires group { group_of call.now ≡ Group.Pages }
     requires may { MayDo vmos.now (command_of call.now) }
@@ -88,7 +88,7 @@ fn behind(vmos: &EagerVmos, name: VmoName, size: u64) -> Reach
     }
 }
 
-/// The pages that a snapshot of a part of a name sees.
+/// Returns the pages that a snapshot of a part of a name sees.
 pub(crate) fn seen_by(vmos: &EagerVmos, parent: VmoName, offset: u64, size: u64) -> Reach
     requires { HasPart vmos.now parent.0 }
     ensures { (s : State) → result ≡ seen_of (state_with s vmos.now) parent.0 offset size }

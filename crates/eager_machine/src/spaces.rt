@@ -17,7 +17,7 @@ use ready_map::ReadyMap;
 use region_tree::{Region, Regions};
 use vm_base::{HostMemory, MapFlags, Perm, RegionName, in_page, page_of};
 
-/// The live region of a name.
+/// Returns the live region of a name.
 pub(crate) fn live_region(regions: &Regions, name: RegionName) -> Region
     requires { IsLiveAt (regions_of regions.now) name.0 }
     ensures given { regions_of regions.now name.0 ≡ Some result }

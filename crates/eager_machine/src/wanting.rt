@@ -30,7 +30,8 @@ use region_tree::Regions;
 use vm_base::{page_count, page_of};
 use vm_model::Call;
 
-/// Whether a command that nothing refuses may want memory of the host. The call costs the pages of a range that are owned.
+/// Returns whether a command that nothing refuses may want memory of the host. The call costs the pages of a range that
+/// are owned.
 pub(crate) fn wants_memory(
     vmos: &EagerVmos,
     regions: &Regions,

@@ -40,7 +40,7 @@ pub struct EagerPages {
     rows: PairMap<Tag>,
     /// The pages that are held, by the tags of their frames and the koids of their VMOs. No VMO shows a frame twice.
     viewers: PairMap<PageNo>,
-    /// How many pages may be owned with no memory from the host.
+    /// The number of pages that may be owned with no memory from the host.
     room: u64,
 }
 
@@ -55,7 +55,7 @@ impl Model for EagerPages {
 }
 
 impl EagerPages {
-    /// No frames and no VMO.
+    /// Makes a machine with no frames and no VMO.
     pub fn new(alloc: Global) -> EagerPages
         ensures content { content_of result ≡ nothing }
         ensures spare { spare_of result ≡ 0 }
@@ -147,14 +147,14 @@ impl EagerPages {
         self.reserve_rows(pages)
     }
 
-    /// The frame of a page. `None` if and only if the page is zero.
+    /// Returns the frame of a page. `None` if and only if the page is zero.
     pub fn frame(&self, v: Koid, page: PageNo) -> Option<Tag>
         ensures { option_map (λ tag. tag.0) result ≡ frame_at (content_of self.now) v.0 page }
     {
         self.rows.find(v.0, page)
     }
 
-    /// Whether a page is held, and no other VMO shows its frame.
+    /// Returns whether a page is held, and no other VMO shows its frame.
     pub fn is_sole(&self, v: Koid, page: PageNo) -> bool
         ensures { result ≡ sole (content_of self.now) v.0 page }
     {
@@ -166,8 +166,8 @@ impl EagerPages {
         }
     }
 
-    /// Whether a page is held, and a VMO other than its own and another one, `w`, shows its frame. The call costs the
-    /// look-ups of three VMOs, however many show the frame.
+    /// Returns whether a page is held, and a VMO other than its own and another one, `w`, shows its frame. The call costs
+    /// the look-ups of three VMOs, however many show the frame.
     pub fn is_seen_by_third(&self, v: Koid, page: PageNo, w: Koid) -> bool
         requires { w.0 < (content_of self.now).next }
         ensures some { result ≡ true → IsSeenByThird (content_of self.now) v.0 page w.0 }
@@ -181,7 +181,7 @@ impl EagerPages {
         }
     }
 
-    /// Whether a VMO is charged for a page: the page is held, and no VMO with a lesser koid shows its frame.
+    /// Returns whether a VMO is charged for a page: the page is held, and no VMO with a lesser koid shows its frame.
     pub fn is_charged(&self, v: Koid, page: PageNo) -> bool
         ensures { result ≡ is_charged (content_of self.now) v.0 page }
     {
@@ -191,7 +191,7 @@ impl EagerPages {
         }
     }
 
-    /// A VMO that shows a frame, and its page that has the frame. `None` if and only if no page has it.
+    /// Returns a VMO that shows a frame, and its page that has the frame. `None` if and only if no page has it.
     pub fn viewer(&self, tag: Tag) -> Option<(Koid, PageNo)>
         ensures some { IfSome result (λ at. frame_at (content_of self.now) at.0.0 at.1 ≡ Some tag.0) }
         ensures none { IfNone result ((v p : ℕ) → frame_at (content_of self.now) v p ≡ Some tag.0 → ⊥) }
@@ -244,7 +244,7 @@ impl EagerPages {
         }
     }
 
-    /// How many pages a VMO has.
+    /// Returns the number of pages of a VMO.
     pub fn count(&self, v: Koid) -> PageNo
         requires { IsSome ((content_of self.now).count v.0) }
         ensures { (content_of self.now).count v.0 ≡ Some result }
@@ -287,7 +287,7 @@ impl EagerPages {
         }
     }
 
-    /// The first page that is held, from page `from` of a VMO on. `None` if and only if none is.
+    /// Returns the first page that is held, from page `from` of a VMO on. `None` if and only if none is.
     pub fn next_held(&self, v: Koid, from: PageNo) -> Option<PageNo>
         ensures some { IfSome result (λ page. (from ≤ page) × IsSome ((content_of self.now).page v.0 page)
             × ((p : ℕ) → from ≤ p → p < page → (content_of self.now).page v.0 p ≡ None)) }
@@ -299,21 +299,21 @@ impl EagerPages {
         }
     }
 
-    /// How many page frames the machine has.
+    /// Returns the number of page frames of the machine.
     pub fn frames(&self) -> u32
         ensures { result ≡ (content_of self.now).frames }
     {
         self.pool.frames()
     }
 
-    /// How many page frames no page shows.
+    /// Returns the number of page frames that no page shows.
     pub fn free(&self) -> u32
         ensures { result + used (content_of self.now) ≡ (content_of self.now).frames }
     {
         self.pool.free()
     }
 
-    /// How many VMOs there are.
+    /// Returns the number of VMOs.
     pub fn vmos(&self) -> u64
         ensures { result ≡ vmos_of (content_of self.now) }
     {

@@ -11,7 +11,7 @@ use frame_pool::FramePool;
 use pair_map::PairMap;
 use vm_base::{Koid, PageNo, Tag};
 
-/// Whether no VMO but this one has a page under a frame.
+/// Returns whether no VMO but this one has a page under a frame.
 pub(crate) fn is_alone(viewers: &PairMap<PageNo>, tag: Tag, v: Koid) -> bool
     requires { v.0 + 1 < 2 ^ 64 }
     ensures alone { result ≡ true → IsAlone (values_of viewers.now tag.0) v.0 }
@@ -23,7 +23,7 @@ pub(crate) fn is_alone(viewers: &PairMap<PageNo>, tag: Tag, v: Koid) -> bool
     least == v.0 && viewers.next(tag.0 as u64, v.0 + 1).is_none()
 }
 
-/// Whether no VMO with a lesser koid has a page under the frame that this one shows.
+/// Returns whether no VMO with a lesser koid has a page under the frame that this one shows.
 pub(crate) fn is_least(viewers: &PairMap<PageNo>, tag: Tag, v: Koid) -> bool
     requires { IsSome (values_of viewers.now tag.0 v.0) }
     ensures none { result ≡ true → HasNoLess (values_of viewers.now tag.0) v.0 }
@@ -35,7 +35,7 @@ pub(crate) fn is_least(viewers: &PairMap<PageNo>, tag: Tag, v: Koid) -> bool
     }
 }
 
-/// Whether a VMO other than these two has a page under a frame.
+/// Returns whether a VMO other than these two has a page under a frame.
 pub(crate) fn has_third(viewers: &PairMap<PageNo>, tag: Tag, v: Koid, w: Koid) -> bool
     requires first { v.0 + 1 < 2 ^ 64 }
     requires second { w.0 + 1 < 2 ^ 64 }

@@ -28,7 +28,7 @@ use region_tree::{Region, Regions};
 use vm_base::{MapFlags, Perm, Refusal, RegionName, VmoName, page_count, page_of};
 use vmo_table::VmoTable;
 
-/// What refuses to create a root region under a name: `NameInUse` if the name was ever given.
+/// Returns the refusal to create a root region under a name: `NameInUse` if the name was ever given.
 pub fn refusal_to_create_root(regions: &Regions, name: RegionName) -> Option<Refusal>
     ensures { (table : ℕ → ℕ → Option Entry) →
         IsRefusalOf (spaces_of (regions_of regions.now) table) (Command.RootCreate name) result }
@@ -39,8 +39,8 @@ pub fn refusal_to_create_root(regions: &Regions, name: RegionName) -> Option<Ref
     }
 }
 
-/// What refuses a command that asks for nothing but a live region, as `vmar_destroy` and `maps` do: `BadHandle` if the
-/// name was never given, `BadState` if the region is dead.
+/// Returns the refusal of a command that asks for nothing but a live region, as `vmar_destroy` and `maps` do: `BadHandle` if
+/// the name was never given, `BadState` if the region is dead.
 pub fn refusal_by_region(regions: &Regions, name: RegionName) -> Option<Refusal>
     ensures destroy { (table : ℕ → ℕ → Option Entry) →
         IsRefusalOf (spaces_of (regions_of regions.now) table) (Command.VmarDestroy name) result }
@@ -53,7 +53,7 @@ pub fn refusal_by_region(regions: &Regions, name: RegionName) -> Option<Refusal>
     }
 }
 
-/// What refuses to allocate a region in another, in this order:
+/// Returns the refusal to allocate a region in another, in this order:
 ///
 /// - `BadHandle` if the parent's name was never given;
 /// - `NameInUse` if the new name was;
@@ -86,7 +86,7 @@ pub fn refusal_to_allocate(
     denied_allocation(regions, maps, parent, above, wanted, len, caps)
 }
 
-/// What refuses to map a part of a VMO into a region, in this order:
+/// Returns the refusal to map a part of a VMO into a region, in this order:
 ///
 /// - `BadHandle` if the region's name was never given, or that of the VMO is not open;
 /// - `BadState` if the region is dead;
@@ -132,8 +132,8 @@ pub fn refusal_to_map(
     }
 }
 
-/// What refuses to unmap a range of a region, in this order: `BadHandle` if the name was never given, `BadState` if the
-/// region is dead, `InvalidArgs` as for `unmap`.
+/// Returns the refusal to unmap a range of a region, in this order: `BadHandle` if the name was never given, `BadState` if
+/// the region is dead, `InvalidArgs` as for `unmap`.
 pub fn refusal_to_unmap(
     regions: &Regions,
     region: RegionName,
@@ -149,7 +149,7 @@ pub fn refusal_to_unmap(
     }
 }
 
-/// What refuses to change the permissions of a range of a region, in this order: `BadHandle` if the name was never
+/// Returns the refusal to change the permissions of a range of a region, in this order: `BadHandle` if the name was never
 /// given, `BadState` if the region is dead, `AccessDenied`, `InvalidArgs`, `NotFound` and `AccessDenied` as for
 /// `region_ops::protect`. The call costs the pieces of the range.
 pub fn refusal_to_protect(

@@ -14,8 +14,8 @@ use region_ops::{Wanted, find_place};
 use region_tree::{Region, Regions};
 use vm_base::{PageNo, Refusal, RegionName, page_of};
 
-/// The page that is told, if it begins a free place of `count` pages in a live region, which is `above`, that suits the
-/// request. `None` if it does not, though there is such a place. A fixed place ends in the region. Refusals:
+/// Returns the page that is told, if it begins a free place of `count` pages in a live region, which is `above`, that suits
+/// the request. `None` if it does not, though there is such a place. A fixed place ends in the region. Refusals:
 /// `AlreadyExists` if the fixed place is not free, `NoResources` if no free place fits.
 pub(crate) fn told_place(
     regions: &Regions,
@@ -50,9 +50,9 @@ pub(crate) fn told_place(
     Ok(None)
 }
 
-/// The page that is told, if a mapping of `count` pages may begin there in a live region, which is `above`: a mapping that
-/// overwrites begins at the offset, and any other as `told_place` says. `None` if it may not, though there is such a
-/// place. A fixed place ends in the region. Refusals as for `told_place`.
+/// Returns the page that is told, if a mapping of `count` pages may begin there in a live region, which is `above`. A
+/// mapping that overwrites begins at the offset, and any other as `told_place` says. `None` if it may not, though there is
+/// such a place. A fixed place ends in the region. Refusals as for `told_place`.
 pub(crate) fn told_map_place(
     regions: &Regions,
     maps: &MappingSet,

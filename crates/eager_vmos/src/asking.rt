@@ -22,8 +22,8 @@ use vm_base::{
 use vmo_ops::{cost_to_zero, is_pinned_past, need_of, place_in_vmo, touched_pages};
 
 impl EagerVmos {
-    /// What refuses a write, a fill or a commit of a range of `len` bytes from `offset` bytes into the name on, in this
-    /// order:
+    /// Returns what refuses a write, a fill or a commit of a range of `len` bytes from `offset` bytes into the name on,
+    /// in this order:
     ///
     /// - `BadHandle` if the name is not open;
     /// - `AccessDenied` if it may not write;
@@ -44,8 +44,8 @@ impl EagerVmos {
         None
     }
 
-    /// What refuses to make a range zero: as for a write, but `NoMemory` only if the pages that are to be written with
-    /// zeros and are not sole are more than the free frames.
+    /// Returns what refuses to make a range zero. This is as for a write, but `NoMemory` only if the pages that are to be
+    /// written with zeros and are not sole are more than the free frames.
     pub fn refusal_to_zero(&self, name: VmoName, offset: u64, len: u64) -> Option<Refusal>
         requires { AreCounted self.now }
         ensures { IsRefusalOf self.now (Command.VmoZero name offset len) result }
@@ -61,7 +61,7 @@ impl EagerVmos {
         None
     }
 
-    /// What refuses to give the frames of a range back, in this order:
+    /// Returns what refuses to give the frames of a range back, in this order:
     ///
     /// - `BadHandle` if the name is not open;
     /// - `AccessDenied` if it may not write;
@@ -96,7 +96,7 @@ impl EagerVmos {
         None
     }
 
-    /// What refuses to change the size of a VMO to `size` bytes, rounded up to whole pages, in this order:
+    /// Returns what refuses to change the size of a VMO to `size` bytes, rounded up to whole pages, in this order:
     ///
     /// - `BadHandle` if the name is not open;
     /// - `AccessDenied` if it may not write;
@@ -125,8 +125,8 @@ impl EagerVmos {
         None
     }
 
-    /// What refuses to read `len` bytes from `offset` bytes into the name on, in this order: `BadHandle` if the name is
-    /// not open, `InvalidArgs` if `len` is over `DATA_BYTES`, `OutOfRange` if the range passes the name's end.
+    /// Returns what refuses to read `len` bytes from `offset` bytes into the name on. In this order, it is `BadHandle` if
+    /// the name is not open, `InvalidArgs` if `len` is over `DATA_BYTES`, `OutOfRange` if the range passes the name's end.
     pub fn refusal_to_read(&self, name: VmoName, offset: u64, len: u64) -> Option<Refusal>
         requires { AreCounted self.now }
         ensures { IsRefusalOf self.now (Command.VmoRead name offset len) result }
@@ -143,7 +143,7 @@ impl EagerVmos {
         None
     }
 
-    /// What refuses to pin a range under the name of a pin, in this order:
+    /// Returns what refuses to pin a range under the name of a pin, in this order:
     ///
     /// - `BadHandle` if the name is not open;
     /// - `NameInUse` if there is such a pin;
@@ -186,7 +186,7 @@ impl EagerVmos {
         self.pins.get(pin).is_some()
     }
 
-    /// What refuses to remove a pin: `BadHandle` if there is no such pin.
+    /// Returns what refuses to remove a pin: `BadHandle` if there is no such pin.
     pub fn refusal_to_unpin(&self, pin: PinName) -> Option<Refusal>
         ensures { IsRefusalOf self.now (Command.VmoUnpin pin) result }
     {

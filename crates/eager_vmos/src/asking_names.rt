@@ -19,8 +19,8 @@ use vmo_ops::{count_copies, is_contradictory, is_slice, pages_within, seen_part}
 use vmo_table::Target;
 
 impl EagerVmos {
-    /// What refuses a command on a VMO that asks for nothing but a name that is open, as `vmo_close`, `vmo_size` and
-    /// `vmo_info` do: `BadHandle` if it is not open.
+    /// Returns what refuses a command on a VMO that asks for nothing but a name that is open, as `vmo_close`, `vmo_size`
+    /// and `vmo_info` do: `BadHandle` if it is not open.
     pub fn refusal_by_name(&self, name: VmoName) -> Option<Refusal>
         ensures close { IsRefusalOf self.now (Command.VmoClose name) result }
         ensures size { IsRefusalOf self.now (Command.VmoSize name) result }
@@ -39,8 +39,8 @@ impl EagerVmos {
         self.vmos.resolve(name).is_some()
     }
 
-    /// What refuses to make a VMO, in this order: `NameInUse` if the name is open, `OutOfRange` if the size is over 2^48
-    /// bytes.
+    /// Returns what refuses to make a VMO, in this order: `NameInUse` if the name is open, `OutOfRange` if the size is
+    /// over 2^48 bytes.
     pub fn refusal_to_create(&self, name: VmoName, size: u64) -> Option<Refusal>
         ensures { (resizable : Bool) → IsRefusalOf self.now (Command.VmoCreate name size resizable) result }
     {
@@ -53,7 +53,7 @@ impl EagerVmos {
         }
     }
 
-    /// What refuses to make a snapshot, in this order:
+    /// Returns what refuses to make a snapshot, in this order:
     ///
     /// - `BadHandle` if the parent is not open;
     /// - `NameInUse` if the name is open;
@@ -91,7 +91,7 @@ impl EagerVmos {
         None
     }
 
-    /// What refuses to make a slice, in this order:
+    /// Returns what refuses to make a slice, in this order:
     ///
     /// - `BadHandle` if the parent is not open;
     /// - `NameInUse` if the name is open;
@@ -124,7 +124,7 @@ impl EagerVmos {
         None
     }
 
-    /// What refuses to make a reference, in this order:
+    /// Returns what refuses to make a reference, in this order:
     ///
     /// - `BadHandle` if the parent is not open;
     /// - `NameInUse` if the name is open;

@@ -23,7 +23,7 @@ pub struct EagerVmos {
 }
 
 impl EagerVmos {
-    /// No names, no VMOs, no pins and no page frames, which `EagerPages::fill` gives.
+    /// Makes an `EagerVmos` with no names, no VMOs, no pins and no page frames, which `EagerPages::fill` gives.
     pub fn new(alloc: Global) -> EagerVmos
         ensures pages { content_of result.pages ≡ nothing }
         ensures names { (name : ℕ) → names_of result.vmos name ≡ None }

@@ -18,9 +18,9 @@ pub(crate) struct Found {
 }
 
 impl EagerVmos {
-    /// Where a range of a name that may write lies in its VMO. It is refused as any change to a range is, before it is
-    /// known which pages the change owns: `BadHandle` if the name is not open, `AccessDenied` if it may not write,
-    /// `OutOfRange` if the range passes its end.
+    /// Finds where a range of a name that may write lies in its VMO. The range is refused as any change to a range is,
+    /// before it is known which pages the change owns. The refusals are `BadHandle` if the name is not open,
+    /// `AccessDenied` if it may not write, `OutOfRange` if the range passes its end.
     pub(crate) fn find_to_change(
         &self,
         name: VmoName,

@@ -26,7 +26,7 @@ pub(crate) struct TouchedPage {
 }
 
 impl TouchedPage {
-    /// How many translations are missing before the page can be read.
+    /// Returns the number of translations that are missing before the page can be read.
     pub(crate) fn missing(&self) -> usize
         ensures { result ≡ missing_in self.now }
     {

@@ -191,7 +191,7 @@ impl Translations {
     }
 }
 
-/// Whether the translations of a list hold this frame.
+/// Returns whether the translations of a list hold this frame.
 fn have_same_frame(list: FrameList, frame: Option<Tag>) -> bool
     ensures { result ≡ is_same_frame (number_of list.frame) (number_of frame) }
 {

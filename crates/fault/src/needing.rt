@@ -24,8 +24,8 @@ pub(crate) fn frames_for_one<P: PageStore>(store: &P, page: &WritablePage) -> u6
     need_of(look(store, page))
 }
 
-/// How many frames it takes to own two pages, one after another. If both show one page of one VMO, it is one frame at
-/// most. If two pages show one frame, the second needs a frame only if a third shows that frame too.
+/// Returns the number of frames that it takes to own two pages, one after another. If both show one page of one VMO, it
+/// is one frame at most. If two pages show one frame, the second needs a frame only if a third shows that frame too.
 pub(crate) fn frames_needed<P: PageStore>(
     store: &P,
     first: &WritablePage,

@@ -3,14 +3,14 @@
 use vm_base::{PageNo, RegionName, Tag};
 use vm_model::{Entry, Readiness};
 
-/// What the page tables have of a page of an address space.
+/// The page tables' record of a page of an address space.
 #[derive(Clone, Copy, Debug, PartialEq, Eq)]
 pub struct Translation {
-    /// What the page shows.
+    /// The entry of the page: what it shows.
     pub entry: Entry,
     /// The frame of the page of the VMO. `None` if that page is zero and has no frame.
     pub frame: Option<Tag>,
-    /// What an access may do with no page fault.
+    /// The readiness of the page: what an access may do with no page fault.
     pub readiness: Readiness,
 }
 
@@ -47,7 +47,7 @@ pub(crate) struct Place {
     pub(crate) page: PageNo,
 }
 
-/// What becomes of translations.
+/// A change of translations.
 #[derive(Clone, Copy)]
 pub(crate) enum Change {
     /// They are forgotten.

@@ -47,7 +47,7 @@ impl Model for Translations {
 }
 
 impl Translations {
-    /// No page is translated.
+    /// Makes an empty set of translations: no page is translated.
     pub fn new(alloc: Global) -> Translations
         ensures { places_of result ≡ λ root p. None }
     {
@@ -59,14 +59,14 @@ impl Translations {
         }
     }
 
-    /// Whether no page of any address space is translated.
+    /// Returns whether no page of any address space is translated.
     pub fn is_empty(&self) -> bool
         ensures { IsTrue result ↔ ((root p : ℕ) → places_of self.now root p ≡ None) }
     {
         self.places.len() == 0
     }
 
-    /// The translation of a page of an address space. `None` if it has none.
+    /// Returns the translation of a page of an address space. `None` if it has none.
     pub(crate) fn find(&self, root: RegionName, page: PageNo) -> Option<Translation>
         ensures { result ≡ places_of self.now root.0 page }
     {
@@ -130,7 +130,7 @@ impl Translations {
         self.add(root, page, translation, list);
     }
 
-    /// What is kept of a page. `None` if it is not translated.
+    /// Returns what is kept of a page. `None` if it is not translated.
     pub(crate) fn kept(&self, root: RegionName, page: PageNo) -> Option<Kept>
         ensures { result ≡ kept_of self.now root.0 page }
     {
@@ -205,7 +205,7 @@ impl Translations {
         leave(&mut self.lists, &mut self.others, kept);
     }
 
-    /// The first page of an address space from `from` to below `end` that is translated.
+    /// Returns the first page of an address space from `from` to below `end` that is translated.
     pub(crate) fn place_below(&self, root: RegionName, from: PageNo, end: PageNo) -> Option<PageNo>
         ensures { MatchOption result (HasNoPlace (kept_of self.now) root.0 from end)
             (IsNextPlace (kept_of self.now) root.0 from end) }
@@ -216,7 +216,7 @@ impl Translations {
         }
     }
 
-    /// Whether none of `count` pages of a VMO from `first` on has a translation. `first + count` may pass 2^64.
+    /// Returns whether none of `count` pages of a VMO from `first` on has a translation. `first + count` may pass 2^64.
     pub(crate) fn shows_none(&self, v: Koid, first: PageNo, count: u64) -> bool
         ensures { result ≡ true → HasNoList (kept_of self.now) v.0 first (first + count) }
     {
@@ -226,7 +226,7 @@ impl Translations {
         }
     }
 
-    /// The list of the translations of a page of a VMO. `None` if it has none.
+    /// Returns the list of the translations of a page of a VMO. `None` if it has none.
     pub(crate) fn list_at(&self, v: Koid, page: PageNo) -> Option<KeptList>
         ensures { MatchOption result (HasNoList (kept_of self.now) v.0 page (page + 1))
             (λ row. IsListAt (kept_of self.now) v.0 page row.list × StartsWith (kept_of self.now) row) }
@@ -234,7 +234,7 @@ impl Translations {
         self.lists.find(v.0, page)
     }
 
-    /// The first page of a VMO from `from` to below `end` that has translations, and their list.
+    /// Returns the first page of a VMO from `from` to below `end` that has translations, and their list.
     pub(crate) fn list_below(
         &self,
         v: Koid,
@@ -250,8 +250,8 @@ impl Translations {
         }
     }
 
-    /// The first translation of a list with a serial from `from` on: its serial, and the page that it is of. `from` is
-    /// above the list's number, so the translation that came first is not searched for.
+    /// Returns the first translation of a list with a serial from `from` on: its serial, and the page that it is of.
+    /// `from` is above the list's number, so the translation that came first is not searched for.
     pub(crate) fn other_from(&self, list: u64, from: u64) -> Option<(u64, Place)>
         requires { list < from }
         ensures { MatchOption result (HasNoMember (kept_of self.now) list from)
@@ -263,7 +263,7 @@ impl Translations {
     }
 }
 
-/// What is kept of a page, if it holds this frame.
+/// Returns what is kept of a page, if it holds this frame.
 fn with_frame(kept: Option<Kept>, frame: Option<Tag>) -> Option<Kept>
     ensures some { IfSome result (λ found. (kept ≡ Some found) × (frame ≡ found.translation.frame)) }
     ensures none { IfNone result (HoldsOther (number_of frame) kept) }
@@ -274,7 +274,7 @@ fn with_frame(kept: Option<Kept>, frame: Option<Tag>) -> Option<Kept>
     }
 }
 
-/// The translation that is kept.
+/// Returns the translation that is kept.
 fn translation_in(kept: Option<Kept>) -> Option<Translation>
     ensures { result ≡ option_map (λ (kept : Kept). kept.translation) kept }
 {

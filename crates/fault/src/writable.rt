@@ -22,14 +22,14 @@ use vm_model::{Entry, Readiness};
 pub(crate) struct WritablePage {
     /// The entry of the page: what it shows.
     pub(crate) entry: Entry,
-    /// Whether it is translated.
+    /// True if it is translated.
     pub(crate) translated: bool,
     /// The frame, if the page is translated for writing. No other VMO shows this frame.
     pub(crate) frame: Option<Tag>,
 }
 
 impl WritablePage {
-    /// How many page faults a write to the page takes: one, if it is not translated for writing.
+    /// Returns the number of page faults that a write to the page takes: one, if it is not translated for writing.
     pub(crate) fn faults(&self) -> u64
         ensures { result ≡ fault_of self.now }
     {

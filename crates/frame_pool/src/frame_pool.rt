@@ -25,12 +25,12 @@ pub struct Backlink {
 /// number below the number of frames. No call but `fill` asks the host for memory.
 #[derive(Drop)]
 pub struct FramePool {
-    /// How many page frames the machine has.
+    /// The number of page frames of the machine.
     frames: u32,
     /// The bytes of the frames that were taken at some time, by tag.
     buffer: Vec<[u8; PAGE_BYTES]>,
-    /// Which of these are blank: a blank frame shows zeros, whatever its bytes are. So a frame that is taken again is
-    /// only marked, and its bytes are touched no sooner than it is written.
+    /// For each of these, true if it is blank: a blank frame shows zeros, whatever its bytes are. So a frame that is
+    /// taken again is only marked, and its bytes are touched no sooner than it is written.
     blank: Vec<bool>,
     /// The backlink of each frame, by tag.
     links: Vec<Backlink>,

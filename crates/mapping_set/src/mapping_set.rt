@@ -21,17 +21,17 @@ use std::marker::Model;
 use vm_base::{HostMemory, NAMES, PAGES_END, PageNo, Perm, RegionName};
 use vm_model::Entry;
 
-/// What each page of each address space shows. Contracts see the entry of each root region and page (`table_of`), the
-/// pieces that a call takes or answers (`pieces_of`), and `spare_of`, how many more pieces fit with no memory from the
-/// host. No call but `reserve` asks the host for memory.
+/// The entries of all address spaces: what each page shows. Contracts see the entry of each root region and page
+/// (`table_of`), the pieces that a call takes or answers (`pieces_of`), and `spare_of`, how many more pieces fit with
+/// no memory from the host. No call but `reserve` asks the host for memory.
 #[derive(Drop)]
 pub struct MappingSet {
     /// Each piece by its root region and its last page.
     pieces: PairMap<Piece>,
     /// The pages of each piece, in the list of its region.
     lists: ExtentMap<()>,
-    /// What is taken in each region, in the region's list: the pages of each piece, with no name, and the places that
-    /// the callers noted, each with the name of a region.
+    /// The pages that are taken in each region, in the region's list: those of each piece, with no name, and the places
+    /// that the callers noted, each with the name of a region.
     taken: ExtentMap<Option<RegionName>>,
 }
 
@@ -47,7 +47,7 @@ impl Model for MappingSet {
     ghost invariant = { AreMappings };
 }
 
-/// The number of the list of a region's pieces.
+/// Returns the number of the list of a region's pieces.
 fn list_number(region: RegionName, root: RegionName) -> u64
     ensures number { result ≡ list_number region.0 root.0 }
     ensures below { (region.0 < NAMES) × (root.0 < NAMES) }
@@ -56,7 +56,7 @@ fn list_number(region: RegionName, root: RegionName) -> u64
 }
 
 impl MappingSet {
-    /// A set with no entry and no room.
+    /// Makes a set with no entry and no room.
     pub fn new(alloc: Global) -> MappingSet
         ensures table { table_of result ≡ λ root p. None }
         ensures spare { spare_of result ≡ 0 }
@@ -109,8 +109,8 @@ impl MappingSet {
         self.put(root, piece);
     }
 
-    /// What a page of an address space shows. `None` if and only if the page has no entry. Only pages below `PAGES_END`
-    /// have one.
+    /// Returns what a page of an address space shows. `None` if and only if the page has no entry. Only pages below
+    /// `PAGES_END` have one.
     pub fn at(&self, root: RegionName, page: PageNo) -> Option<Entry>
         ensures entry { result ≡ table_of self.now root.0 page }
         ensures below { (r p : ℕ) → IsSome (table_of self.now r p) → p < PAGES_END }
@@ -123,9 +123,9 @@ impl MappingSet {
         }
     }
 
-    /// The entries from the first one at or past the page `from` to the end of its piece. `None` if and only if there
-    /// is none. If each call begins where the last answer ended, there are as many calls as pieces from there on. A
-    /// call costs one look-up.
+    /// Returns the entries from the first one at or past the page `from` to the end of its piece. `None` if and only if
+    /// there is none. If each call begins where the last answer ended, there are as many calls as pieces from there on.
+    /// A call costs one look-up.
     pub fn next_piece(&self, root: RegionName, from: PageNo) -> Option<Piece>
         ensures piece { MatchOption result (IsBareFrom (table_of self.now root.0) from)
             (IsNextPiece (table_of self.now root.0) from) }
@@ -135,8 +135,8 @@ impl MappingSet {
         Some(piece.from(piece.first.max(from)))
     }
 
-    /// The lowest page from `from` on such that it and the next ones, `count` in all, have no entry that belongs to the
-    /// region, and end at the limit or before. `None` if and only if there is none.
+    /// Returns the lowest page from `from` on such that it and the next ones, `count` in all, have no entry that
+    /// belongs to the region, and end at the limit or before. `None` if and only if there is none.
     pub fn first_gap(
         &self,
         root: RegionName,
@@ -192,9 +192,10 @@ impl MappingSet {
         free_place(&mut self.taken, list_number(region, root), first);
     }
 
-    /// The lowest page from `from` on such that it and the next ones, `count` in all, have no entry that belongs to the
-    /// region, are in no place that was noted in it, and end at the limit or before. `None` if and only if there is
-    /// none. It costs one search by gaps, whatever the region holds.
+    /// Returns the lowest page from `from` on such that it and the next ones, `count` in all, are clear and end at the
+    /// limit or before. A page is clear if it has no entry that belongs to the region, and is in no place that was
+    /// noted in the region. `None` if and only if there is no such page. It costs one search by gaps, whatever the
+    /// region holds.
     pub fn first_clear(
         &self,
         root: RegionName,
@@ -214,8 +215,8 @@ impl MappingSet {
             .first_gap(list_number(region, root), from, count, limit)
     }
 
-    /// Whether none of `count` pages from `first` on has an entry that belongs to the region, or is in a place that was
-    /// noted in the region. It costs one look-up.
+    /// Returns whether none of `count` pages from `first` on has an entry that belongs to the region, or is in a place
+    /// that was noted in the region. It costs one look-up.
     pub fn is_clear(&self, root: RegionName, region: RegionName, first: PageNo, count: u64) -> bool
         ensures { IsTrue result ↔
             IsClear (places_of self.now (list_number region.0 root.0)) (table_of self.now) root.0 region.0 first count }
@@ -286,8 +287,8 @@ impl MappingSet {
         self.restrict_pieces(root, first, end, perm);
     }
 
-    /// The first piece of an address space that ends at or behind the page `from`, with its last page. `None` if and
-    /// only if no page from `from` on has an entry.
+    /// Returns the first piece of an address space that ends at or behind the page `from`, with its last page. `None`
+    /// if and only if no page from `from` on has an entry.
     fn held(&self, root: RegionName, from: PageNo) -> Option<(PageNo, Piece)>
         ensures { MatchOption result (HasNoHeld (values_of self.now.pieces) root.0 from)
             (λ pair. IsHeld (values_of self.now.pieces) root.0 from pair.0 pair.1) }
@@ -351,7 +352,8 @@ impl MappingSet {
         piece
     }
 
-    /// The last page of the first piece that belongs to a region. `None` if and only if the region has no entry.
+    /// Returns the last page of the first piece that belongs to a region. `None` if and only if the region has no
+    /// entry.
     fn last_of(&self, root: RegionName, region: RegionName) -> Option<PageNo>
         ensures { MatchOption result (has_entry (table_of self.now) root.0 region.0 0 PAGES_END ≡ false)
             (IsOfRegion (values_of self.now.pieces) root.0 region.0) }

@@ -13,14 +13,14 @@ use vm_model::Entry;
 pub struct Piece {
     /// Its first page, counted from address 0.
     pub first: PageNo,
-    /// How many pages it has.
+    /// The number of its pages.
     pub count: u64,
     /// The entry of its first page.
     pub entry: Entry,
 }
 
 impl Piece {
-    /// What is left of the piece from the page `page` on, which is one of its pages.
+    /// Returns what is left of the piece from the page `page` on, which is one of its pages.
     pub(crate) fn from(self, page: PageNo) -> Piece
         requires page { (self.first ≤ page) × (page < self.first + self.count) }
         requires pages { self.entry.page + self.count ≤ PAGES_END }
@@ -36,7 +36,8 @@ impl Piece {
             },
         }
     }
-    /// The part of the piece before the page `page`, which lies behind its first page and at most behind its last.
+    /// Returns the part of the piece before the page `page`, which lies behind its first page and at most behind its
+    /// last.
     pub(crate) fn until(self, page: PageNo) -> Piece
         requires { self.first < page }
         ensures { result ≡ piece_until self page }
@@ -47,7 +48,7 @@ impl Piece {
         }
     }
 
-    /// The same pages with other permissions.
+    /// Returns the same pages with other permissions.
     pub(crate) fn with_perm(self, perm: Perm) -> Piece
         ensures { result ≡ piece_with_perm self perm }
     {

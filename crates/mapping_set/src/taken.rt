@@ -42,7 +42,7 @@ pub(crate) fn free_place(taken: &mut ExtentMap<Option<RegionName>>, list: u64, f
     }
 }
 
-/// Whether a place of a list begins at the page `first`.
+/// Returns whether a place of a list begins at the page `first`.
 fn is_place(taken: &ExtentMap<Option<RegionName>>, list: u64, first: PageNo) -> bool
     ensures yes { result ≡ true → IsSome (places_in (extents_of taken.now) list first) }
     ensures no { result ≡ false → places_in (extents_of taken.now) list first ≡ None }
@@ -74,7 +74,8 @@ pub(crate) fn clear_places(
     }
 }
 
-/// The first page of an extent of a list that has one of `count` pages from `first` on. `None` if and only if none has.
+/// Returns the first page of an extent of a list that has one of `count` pages from `first` on. `None` if and only if
+/// none has.
 fn meeting(
     taken: &ExtentMap<Option<RegionName>>,
     list: u64,

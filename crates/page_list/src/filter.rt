@@ -24,14 +24,14 @@ pub(crate) struct Filter {
     words: Vec<u64>,
     /// The bits of a list's number that say where the list's word stands.
     mask: u64,
-    /// How many rows went since the filter was made.
+    /// The number of rows that went since the filter was made.
     gone: u64,
-    /// How many rows may come or go before the filter has to be tested again.
+    /// The number of rows that may come or go before the filter has to be tested again.
     left: u64,
 }
 
 impl Filter {
-    /// A filter with no words. It takes no memory.
+    /// Makes a filter with no words. It takes no memory.
     pub(crate) fn new(alloc: Global) -> Filter {
         Filter {
             words: Vec::new(alloc),
@@ -41,7 +41,7 @@ impl Filter {
         }
     }
 
-    /// The word of a list: 0 only if no page of it has a row. It costs one load.
+    /// Returns the word of a list: 0 only if no page of it has a row. It costs one load.
     #[inline(always)]
     pub(crate) fn word(&self, list: u64) -> u64
         ensures { result ≡ word_in self.now list }
@@ -54,7 +54,7 @@ impl Filter {
         }
     }
 
-    /// Whether the bit of a page of a list is set: false only if the page has no row. It costs one load.
+    /// Returns whether the bit of a page of a list is set: false only if the page has no row. It costs one load.
     #[inline(always)]
     pub(crate) fn may_have(&self, list: u64, page: PageNo) -> bool
         ensures { result ≡ has_bit self.now list page }
@@ -82,7 +82,7 @@ impl Filter {
         self.left = self.left.saturating_sub(1);
     }
 
-    /// Whether `more` rows may come before the filter has to be tested again. It costs one comparison.
+    /// Returns whether `more` rows may come before the filter has to be tested again. It costs one comparison.
     #[inline(always)]
     pub(crate) fn suits(&self, more: u64) -> bool {
         more <= self.left
@@ -115,8 +115,8 @@ impl Filter {
         Ok(())
     }
 
-    /// How many words the filter is to have, if it is to be made anew: at least two for each row and each of `more`. No
-    /// clause says when it is made anew, since a filter with more bits set is right too.
+    /// Returns how many words the filter is to have, if it is to be made anew: at least two for each row and each of
+    /// `more`. No clause says when it is made anew, since a filter with more bits set is right too.
     fn wanted(&self, rows: u64, more: u64) -> Option<u64> {
         let len = self.words.len() as u64;
         let least = rows.saturating_add(more).saturating_mul(2);

@@ -27,7 +27,7 @@ use vm_base::{HostMemory, PageNo};
 #[derive(Drop)]
 pub struct PageLists {
     tree: BalancedTree<Row>,
-    /// Which pages of which lists may have a row. Contracts do not see it.
+    /// The filter that says which pages of which lists may have a row. Contracts do not see it.
     filter: Filter,
 }
 
@@ -45,7 +45,7 @@ impl Model for PageLists {
 }
 
 impl PageLists {
-    /// No rows, and no room.
+    /// Makes page lists with no rows and no room.
     pub fn new(alloc: Global) -> PageLists
         ensures slots { slots_of result ≡ λ l p. None }
         ensures count { row_count result ≡ 0 }
@@ -77,7 +77,7 @@ impl PageLists {
         self.make_room(n)
     }
 
-    /// Whether there is room for `n` rows more, and the filter stays as it is with as many.
+    /// Returns whether there is room for `n` rows more, and the filter stays as it is with as many.
     #[inline(always)]
     fn is_ready(&self, n: u64) -> bool
         ensures { IsTrue result → n ≤ self.now.spare }
@@ -98,7 +98,7 @@ impl PageLists {
         }
     }
 
-    /// How many rows there are. They rise by list and page.
+    /// Returns the number of rows. They rise by list and page.
     pub fn rows(&self) -> u64
         ensures count { result ≡ row_count self.now }
         ensures rising { IsRising row_functions self.now.rows }
@@ -106,15 +106,15 @@ impl PageLists {
         self.tree.len() as u64
     }
 
-    /// How many more rows fit with no memory from the host.
+    /// Returns how many more rows fit with no memory from the host.
     pub fn spare(&self) -> u64
         ensures { result ≡ self.now.spare }
     {
         self.tree.spare() as u64
     }
 
-    /// The slot of a page of a list. `None` if and only if the page has no row. It costs one test if the filter says
-    /// so, and otherwise a look-up in the tree, O(log n).
+    /// Returns the slot of a page of a list. `None` if and only if the page has no row. It costs one test if the filter
+    /// says so, and otherwise a look-up in the tree, O(log n).
     pub fn find(&self, list: ListId, page: PageNo) -> Option<Slot>
         ensures { result ≡ slots_of self.now list.0 page }
     {
@@ -124,8 +124,8 @@ impl PageLists {
         slot_in(self.tree.find(pair_rank(list.0, page)))
     }
 
-    /// Which pages of a list may have a row, by the page's number modulo 64: bit b is clear only where no page p with
-    /// p % 64 = b has one. It costs one load.
+    /// Returns which pages of a list may have a row, by the page's number modulo 64: bit b is clear only where no page
+    /// p with p % 64 = b has one. It costs one load.
     pub fn pages(&self, list: ListId) -> u64
         ensures { (page : ℕ) → bit_at result (page % 64) ≡ 0 → slots_of self.now list.0 page ≡ None }
     {
@@ -183,8 +183,8 @@ impl PageLists {
         self.tree.replace(Row::new(list, page, slot));
     }
 
-    /// The least page of a list from `from` on that has a row. `None` if and only if there is none. It costs one test
-    /// if the filter says that the list is empty, and otherwise a look-up in the tree, O(log n).
+    /// Returns the least page of a list from `from` on that has a row. `None` if and only if there is none. It costs
+    /// one test if the filter says that the list is empty, and otherwise a look-up in the tree, O(log n).
     pub fn next(&self, list: ListId, from: PageNo) -> Option<PageNo>
         ensures { IsNext (slots_of self.now list.0) from result }
     {
@@ -296,14 +296,14 @@ impl PageLists {
     }
 }
 
-/// The slot of a row, if there is one.
+/// Returns the slot of a row, if there is one.
 fn slot_in(row: Option<Row>) -> Option<Slot>
     ensures { result ≡ option_map slot_of row }
 {
     Some(row?.slot)
 }
 
-/// The page of the row that follows, if it is of this list.
+/// Returns the page of the row that follows, if it is of this list.
 fn page_in(list: ListId, next: Option<Row>) -> Option<PageNo>
     ensures page { result ≡ page_in list.0 next }
     ensures fits { IfSome next (λ row. row.page < 2 ^ 64) }

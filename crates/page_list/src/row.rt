@@ -11,7 +11,7 @@ use vm_base::{PageNo, Tag};
 #[derive(Clone, Copy, Debug, PartialEq, Eq, Hash)]
 pub struct ListId(pub u64);
 
-/// What a row says of its page.
+/// The state of a page, as its row says it.
 #[derive(Clone, Copy, Debug, PartialEq, Eq)]
 pub enum Slot {
     /// The page has this frame. In the list of a hidden node, `left` and `right` are the split bits: a set bit says
@@ -37,7 +37,7 @@ pub struct Row {
 pub type RowSlab = balanced_tree::RowSlab<Row>;
 
 impl Row {
-    /// The row of a page with no children.
+    /// Returns the row of a page with no children.
     pub(crate) fn new(list: ListId, page: PageNo, slot: Slot) -> Row
         ensures { result ≡ row_of list.0 page slot }
     {

@@ -31,7 +31,7 @@ pub struct FlatStore {
     vmos: PairMap<PageNo>,
     /// The frames of the pages that are held, by koid and page number.
     rows: PairMap<Tag>,
-    /// How many VMOs show each frame, by tag.
+    /// The number of VMOs that show each frame, by tag.
     shares: Vec<u64>,
     /// The greatest number of entries for which room was asked. The store has no more to spare than this. A snapshot
     /// keeps what is to spare, so it asks for room for the entries that it shows, and not for all that the map has ever

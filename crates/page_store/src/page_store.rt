@@ -10,7 +10,7 @@ ghost use Rattle.page_store.specs.Requests.{Request, Fill, Create, Snapshot, Res
 
 use vm_base::{FRAMES, HostMemory, KOIDS, Koid, PAGE, PageNo, Tag, VMO_PAGES};
 
-/// What a page of a VMO is.
+/// The state of a page of a VMO.
 #[derive(Clone, Copy, Debug, PartialEq, Eq)]
 pub enum Look {
     /// It is zero and uses no frame.
@@ -29,14 +29,14 @@ pub trait PageStore: Drop {
     /// The frames and VMOs that it contains.
     ghost content: { Self → Content };
 
-    /// How many pages may be owned or made zero without asking the host for memory. `reserve` raises it, `own` and
-    /// `zero` lower it by at most 1, `write` leaves it as it was, and `snapshot` does not lower it. The other calls
-    /// that change the store promise nothing of it if they succeed.
+    /// The number of pages that may be owned or made zero without asking the host for memory. `reserve` raises it,
+    /// `own` and `zero` lower it by at most 1, `write` leaves it as it was, and `snapshot` does not lower it. The other
+    /// calls that change the store promise nothing of it if they succeed.
     ghost spare: { Self → ℕ };
 
-    /// What may come of a call that asks the host for memory: the store before it, the call, whether it succeeds, and
-    /// the store afterwards. A store that leaves this as it stands here may refuse such a call at any time. A store
-    /// over another one says by it that an answer is the inner store's.
+    /// The possible outcomes of a call that asks the host for memory: the store before it, the call, whether it
+    /// succeeds, and the store afterwards. A store that leaves this as it stands here may refuse such a call at any
+    /// time. A store over another one says by it that an answer is the inner store's.
     ghost answers: { Self → Request → Bool → Self → Type 0 } = { λ store request ok after. Unit {0} };
 
     /// Gives a store that has nothing its page frames, from 1 to `FRAMES` of them. All are free. `HostMemory` if the

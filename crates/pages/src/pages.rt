@@ -22,8 +22,8 @@ pub trait Pages: Drop {
     /// The frames and VMOs that there are.
     ghost content: { Self → Content };
 
-    /// How many pages may be owned or made zero without asking the host for memory. `reserve` raises it, `own`, `write`
-    /// and `zero` lower it by at most 1, and `snapshot` does not lower it.
+    /// The number of pages that may be owned or made zero without asking the host for memory. `reserve` raises it,
+    /// `own`, `write` and `zero` lower it by at most 1, and `snapshot` does not lower it.
     ghost spare: { Self → ℕ };
 
     /// Creates a VMO of `count` zero pages under the next koid, and returns the koid. `HostMemory` if the host has too

@@ -26,18 +26,22 @@ impl<P: PageStore> crate::pages::Pages for P {
         self.reserve(n)
     }
 
+    #[inline(always)]
     fn look(&self, v: Koid, page: PageNo) -> Look {
         self.look(v, page)
     }
 
+    #[inline(always)]
     fn frame(&self, v: Koid, page: PageNo) -> Option<Tag> {
         self.frame(v, page)
     }
 
+    #[inline(always)]
     fn own(&mut self, v: Koid, page: PageNo) -> Tag {
         self.own(v, page)
     }
 
+    #[inline(always)]
     fn write(&mut self, v: Koid, page: PageNo, at: u64, bytes: &[u8]) {
         let tag = self.own(v, page);
         self.write(tag, at, bytes);
@@ -47,6 +51,7 @@ impl<P: PageStore> crate::pages::Pages for P {
         self.zero(v, page);
     }
 
+    #[inline(always)]
     fn count(&self, v: Koid) -> PageNo {
         self.count(v)
     }
@@ -59,6 +64,7 @@ impl<P: PageStore> crate::pages::Pages for P {
         self.drop_vmo(v);
     }
 
+    #[inline(always)]
     #[tactic(auto, using(crate::proofs::LookLaws::look_laws))]
     fn read(&self, v: Koid, page: PageNo, at: u64, out: &mut [u8]) {
         match self.frame(v, page) {
@@ -67,10 +73,12 @@ impl<P: PageStore> crate::pages::Pages for P {
         }
     }
 
+    #[inline(always)]
     fn next_held(&self, v: Koid, from: PageNo) -> Option<PageNo> {
         self.next_held(v, from)
     }
 
+    #[inline(always)]
     fn is_charged(&self, v: Koid, _page: PageNo, tag: Tag) -> bool {
         self.lesser_viewer(tag, v).is_none()
     }

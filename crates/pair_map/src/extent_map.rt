@@ -35,7 +35,7 @@ impl<V: Copy> Model for ExtentMap<V> {
 }
 
 impl<V: Copy> ExtentMap<V> {
-    /// A map with no extent and no room.
+    /// Makes a map with no extent and no room.
     pub fn new(alloc: Global) -> ExtentMap<V>
         ensures extents { extents_of result ≡ λ l p. None }
         ensures count { count_of result ≡ 0 }
@@ -57,7 +57,7 @@ impl<V: Copy> ExtentMap<V> {
         self.tree.reserve(n)
     }
 
-    /// How many extents there are. A clause says too that they stand apart.
+    /// Returns the number of extents. A clause says too that they stand apart.
     pub fn len(&self) -> usize
         ensures len { result ≡ count_of self.now }
         ensures apart { StandApart (extents_of self.now) }
@@ -65,21 +65,21 @@ impl<V: Copy> ExtentMap<V> {
         self.tree.len()
     }
 
-    /// How many more extents fit with no memory from the host.
+    /// Returns the number of further extents that fit with no memory from the host.
     pub fn spare(&self) -> usize
         ensures { result ≡ spare_of self.now }
     {
         self.tree.spare()
     }
 
-    /// The extent of a list that begins at this number. `None` if and only if there is none.
+    /// Returns the extent of a list that begins at this number. `None` if and only if there is none.
     pub fn find(&self, list: u64, first: u64) -> Option<Extent<V>>
         ensures { result ≡ extents_of self.now list first }
     {
         extent_in(self.tree.find(pair_rank(list, first)))
     }
 
-    /// The extent of a list that has this number, with its first number. `None` if and only if there is none.
+    /// Returns the extent of a list that has this number, with its first number. `None` if and only if there is none.
     pub fn at(&self, list: u64, number: u64) -> Option<(u64, Extent<V>)>
         ensures { MatchOption result
             ((p : ℕ) (e : Extent V) → Covers (extents_of self.now list) number p e → ⊥)
@@ -92,8 +92,8 @@ impl<V: Copy> ExtentMap<V> {
         }
     }
 
-    /// The extent of a list with the least first number from `from` on, with that number. `None` if and only if there
-    /// is none.
+    /// Returns the extent of a list with the least first number from `from` on, with that number. `None` if and only if
+    /// there is none.
     pub fn next(&self, list: u64, from: u64) -> Option<(u64, Extent<V>)>
         ensures next { IsNext (extents_of self.now list) from (option_map (λ pair. pair.0) result) }
         ensures extent { IfSome result (λ pair. extents_of self.now list pair.0 ≡ Some pair.1) }
@@ -102,7 +102,8 @@ impl<V: Copy> ExtentMap<V> {
         stretch_in(list, self.tree.next(pair_rank(list, from)))
     }
 
-    /// Whether no extent of the list has one of the numbers from `first` to below `first + count`, which may pass 2^64.
+    /// Returns whether no extent of the list has one of the numbers from `first` to below `first + count`, which may pass
+    /// 2^64.
     pub fn is_open(&self, list: u64, first: u64, count: u64) -> bool
         ensures { IsTrue result ↔ IsOpen (extents_of self.now list) first count }
     {
@@ -202,8 +203,8 @@ impl<V: Copy> ExtentMap<V> {
         );
     }
 
-    /// The lowest number from `from` on at which `count` numbers of the list are in no extent and end at the limit or
-    /// before. `None` exactly where there is none.
+    /// Returns the lowest number from `from` on at which `count` numbers of the list are in no extent and end at the limit
+    /// or before. `None` if and only if there is none.
     pub fn first_gap(&self, list: u64, from: u64, count: u64, limit: u64) -> Option<u64>
         requires some { 1 ≤ count }
         requires limit { limit ≤ 2 ^ 63 }
@@ -219,7 +220,7 @@ impl<V: Copy> ExtentMap<V> {
         Some((gap - pair_rank(list, 0)) as u64)
     }
 
-    /// The extent of a list with the greatest first number up to `to`, with that number.
+    /// Returns the extent of a list with the greatest first number up to `to`, with that number.
     fn last(&self, list: u64, to: u64) -> Option<(u64, Extent<V>)>
         ensures { MatchOption result ((p : ℕ) → p ≤ to → extents_of self.now list p ≡ None)
             (IsLast (extents_of self.now list) to) }
@@ -229,14 +230,14 @@ impl<V: Copy> ExtentMap<V> {
     }
 }
 
-/// The extent of a row, if there is one.
+/// Returns the extent of a row, if there is one.
 fn extent_in<V: Copy>(row: Option<StretchRow<V>>) -> Option<Extent<V>>
     ensures { result ≡ option_map extent_of row }
 {
     Some(row?.extent)
 }
 
-/// The first number and the extent of a row, if it is of this list.
+/// Returns the first number and the extent of a row, if it is of this list.
 fn stretch_in<V: Copy>(list: u64, row: Option<StretchRow<V>>) -> Option<(u64, Extent<V>)>
     ensures extent { result ≡ stretch_in list row }
     ensures fits { IfSome row (λ row. row.first < 2 ^ 64) }

@@ -29,7 +29,7 @@ impl<V: Copy> Model for PairMap<V> {
 }
 
 impl<V: Copy> PairMap<V> {
-    /// A map with no pair and no room.
+    /// Makes a map with no pair and no room.
     pub fn new(alloc: Global) -> PairMap<V>
         ensures values { values_of result ≡ λ a b. None }
         ensures count { count_of result ≡ 0 }
@@ -51,28 +51,28 @@ impl<V: Copy> PairMap<V> {
         self.tree.reserve(n)
     }
 
-    /// How many pairs have a value.
+    /// Returns the number of pairs that have a value.
     pub fn len(&self) -> usize
         ensures { result ≡ count_of self.now }
     {
         self.tree.len()
     }
 
-    /// How many more pairs fit with no memory from the host.
+    /// Returns the number of further pairs that fit with no memory from the host.
     pub fn spare(&self) -> usize
         ensures { result ≡ spare_of self.now }
     {
         self.tree.spare()
     }
 
-    /// The value of a pair. `None` if and only if it has none.
+    /// Returns the value of a pair. `None` if and only if it has none.
     pub fn find(&self, first: u64, second: u64) -> Option<V>
         ensures { result ≡ values_of self.now first second }
     {
         value_in(self.tree.find(pair_rank(first, second)))
     }
 
-    /// The least second number from `from` on that has a value under this first number, and the value. `None` if and
+    /// Returns the least second number from `from` on that has a value under this first number, and the value. `None` if and
     /// only if there is none.
     pub fn next(&self, first: u64, from: u64) -> Option<(u64, V)>
         ensures next { IsNext (values_of self.now first) from (option_map (λ pair. pair.0) result) }
@@ -133,14 +133,14 @@ impl<V: Copy> PairMap<V> {
     }
 }
 
-/// The value of a row, if there is one.
+/// Returns the value of a row, if there is one.
 fn value_in<V: Copy>(row: Option<PairRow<V>>) -> Option<V>
     ensures { result ≡ option_map value_of row }
 {
     Some(row?.value)
 }
 
-/// The second number and the value of a row, if its first number is this.
+/// Returns the second number and the value of a row, if its first number is this.
 fn pair_in<V: Copy>(first: u64, row: Option<PairRow<V>>) -> Option<(u64, V)>
     ensures pair { result ≡ pair_in first row }
     ensures fits { IfSome row (λ row. row.second < 2 ^ 64) }

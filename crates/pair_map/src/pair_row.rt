@@ -18,7 +18,7 @@ pub struct PairRow<V> {
 }
 
 impl<V: Copy> PairRow<V> {
-    /// The row of a pair with no children.
+    /// Makes the row of a pair with no children.
     pub(crate) fn new(first: u64, second: u64, value: V) -> PairRow<V>
         ensures { result ≡ pair_of first second value }
     {

@@ -28,7 +28,7 @@ pub struct StretchRow<V> {
 }
 
 impl<V: Copy> StretchRow<V> {
-    /// The row of an extent with no children.
+    /// Makes the row of an extent with no children.
     pub(crate) fn new(list: u64, first: u64, extent: Extent<V>) -> StretchRow<V>
         ensures { result ≡ stretch_of list first extent }
     {
@@ -48,7 +48,7 @@ impl<V: Copy> StretchRow<V> {
     }
 }
 
-/// The rank just behind an extent that ends below number 2^64 of its list.
+/// Returns the rank just behind an extent that ends below number 2^64 of its list.
 fn end_rank(list: u64, first: u64, count: u64) -> u128
     ensures { result ≡ end_rank list first count }
 {

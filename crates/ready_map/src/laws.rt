@@ -8,7 +8,8 @@ ghost use Rattle.vm_model.specs.Space.Readiness.{settled, with_ready, unready, r
 ghost use Rattle.ready_map.specs.declared.ready_map.ReadyPage.{ReadyPage};
 ghost use Rattle.ready_map.specs.Notes.{Rows, ready_of, has_frame, with_row, kept_rows, without_range, limited_rows, agrees, is_current, ChangesRange, AreTrue};
 
-/// Settling the pages that changed is the machine's rule for all pages, and leaves true notes (`ReadyMap::settle`).
+/// States that settling the pages that changed is the machine's rule for all pages, and leaves true notes
+/// (`ReadyMap::settle`).
 pub fn settling_is_the_rule_of_changed_frames()
     ensures ready { (old new : Content) (table : ℕ → ℕ → Option Entry) (rows : Rows) (v first end : ℕ)
         → AreTrue old table rows → ChangesRange old new v first end
@@ -18,7 +19,8 @@ pub fn settling_is_the_rule_of_changed_frames()
         → AreTrue new table (kept_rows (is_current new v first end) rows) }
 {}
 
-/// Noting a page whose page of a VMO alone changed is that rule, and the page is ready then (`ReadyMap::set`).
+/// States that noting a page whose page of a VMO alone changed is the machine's rule for all pages, and that the page is
+/// ready then (`ReadyMap::set`).
 pub fn noting_a_page_is_the_rule_of_an_access()
     ensures ready { (old new : Content) (table : ℕ → ℕ → Option Entry) (rows : Rows) (root page : ℕ) (row : ReadyPage)
         → AreTrue old table rows → ChangesRange old new row.koid.0 row.page (row.page + 1)
@@ -32,7 +34,8 @@ pub fn noting_a_page_is_the_rule_of_an_access()
         → AreTrue new table (with_row (kept_rows (agrees row.koid.0 row.page row.frame) rows) root page row) }
 {}
 
-/// Restricting the pages that a snapshot shares is the machine's rule, and leaves true notes (`ReadyMap::restrict`).
+/// States that restricting the pages that a snapshot shares is the machine's rule, and leaves true notes
+/// (`ReadyMap::restrict`).
 pub fn restricting_is_the_rule_of_a_snapshot()
     ensures ready { (c : Content) (table : ℕ → ℕ → Option Entry) (rows : Rows) (stays : ℕ → Bool) (v first end : ℕ)
         → AreTrue c table rows
@@ -41,8 +44,8 @@ pub fn restricting_is_the_rule_of_a_snapshot()
         → AreTrue c table rows → AreTrue c table (limited_rows stays v first end rows) }
 {}
 
-/// Dropping pages of an address space is the machine's rule, and leaves true notes if the table is the same outside of them
-/// (`ReadyMap::drop_range`).
+/// States that dropping pages of an address space is the machine's rule, and leaves true notes if the table is the same
+/// outside of them (`ReadyMap::drop_range`).
 pub fn dropping_pages_is_the_rule_of_mappings()
     ensures ready { (rows : Rows) (root first end : ℕ)
         → ready_of (without_range rows root first end) ≡ unready (ready_of rows) root first end }

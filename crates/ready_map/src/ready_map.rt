@@ -16,7 +16,7 @@ use std::marker::Model;
 use vm_base::{HostMemory, Koid, PageNo, RegionName, Tag};
 use vm_model::Readiness;
 
-/// What is noted of a page of an address space that is ready for an access.
+/// The note of a page of an address space that is ready for an access.
 #[derive(Clone, Copy, Debug, PartialEq, Eq)]
 pub struct ReadyPage {
     /// The VMO that the page shows.
@@ -25,21 +25,21 @@ pub struct ReadyPage {
     pub page: PageNo,
     /// The frame that this page had. `None` if it was zero.
     pub frame: Option<Tag>,
-    /// What an access may do with no page fault.
+    /// The accesses that may be made with no page fault.
     pub readiness: Readiness,
 }
 
-/// What the pages of all address spaces are ready for. Contracts see what is noted of each page that is ready (`rows_of`),
-/// by its root region and its number, and how many more can be noted with no memory from the host (`spare_of`).
+/// The notes of what the pages of all address spaces are ready for. Contracts see what is noted of each page that is ready
+/// (`rows_of`), by its root region and its number, and how many more can be noted with no memory from the host (`spare_of`).
 #[derive(Drop)]
 pub struct ReadyMap {
-    /// What was noted of each page, by root region and page. It counts only as the stamp says.
+    /// The note that was made of each page, by root region and page. It counts only as the stamp says.
     places: PairMap<Kept>,
     /// The stamp of each page of a VMO under which a note counts, by koid and page.
     stamps: PairMap<Stamp>,
     /// The time of the next note. Each note has a later time than those before it.
     time: u64,
-    /// How many more notes there is room for.
+    /// The number of further notes that there is room for.
     room: u64,
 }
 
@@ -54,7 +54,7 @@ impl Model for ReadyMap {
 }
 
 impl ReadyMap {
-    /// Nothing is ready.
+    /// Makes a map in which nothing is ready.
     pub fn new(alloc: Global) -> ReadyMap
         ensures { rows_of result ≡ λ root p. None }
     {
@@ -89,7 +89,7 @@ impl ReadyMap {
         Ok(())
     }
 
-    /// What is noted of a page of an address space. `None` if it is ready for nothing.
+    /// Returns what is noted of a page of an address space. `None` if it is ready for nothing.
     pub fn at(&self, root: RegionName, page: PageNo) -> Option<ReadyPage>
         ensures { result ≡ rows_of self.now root.0 page }
     {
@@ -150,7 +150,7 @@ impl ReadyMap {
         }
     }
 
-    /// How many pages of VMOs have a stamp. Each of them is shown by a page that is ready for an access.
+    /// Returns the number of pages of VMOs that have a stamp. Each of them is shown by a page that is ready for an access.
     pub fn stamps(&self) -> usize
         ensures count { result ≡ count_of self.now.stamps }
         ensures shown { (v p : ℕ) → IsSome (values_of self.now.stamps v p) → IsShown (rows_of self.now) v p }

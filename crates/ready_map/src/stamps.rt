@@ -12,7 +12,7 @@ use pair_map::PairMap;
 use vm_base::{Koid, PageNo, Tag};
 use vm_model::Readiness;
 
-/// What was noted of a page of an address space, and when.
+/// The note that was made of a page of an address space, and its time.
 #[derive(Clone, Copy)]
 pub(crate) struct Kept {
     pub(crate) koid: Koid,
@@ -22,7 +22,7 @@ pub(crate) struct Kept {
     pub(crate) made: u64,
 }
 
-/// Since when notes of a page of a VMO count.
+/// The times since when notes of a page of a VMO count.
 #[derive(Clone, Copy)]
 pub(crate) struct Stamp {
     /// The frame of the page.
@@ -31,11 +31,11 @@ pub(crate) struct Stamp {
     pub(crate) since: u64,
     /// Notes that were made before this time are for reading alone.
     pub(crate) shared: u64,
-    /// How many notes count.
+    /// The number of notes that count.
     pub(crate) notes: u64,
 }
 
-/// What a note says under the stamp of its page. `None` if it does not count.
+/// Returns what a note says under the stamp of its page. `None` if it does not count.
 pub(crate) fn ready_page(kept: Kept, stamp: Option<Stamp>) -> Option<ReadyPage>
     ensures { result ≡ ready_page kept stamp }
 {
@@ -56,7 +56,7 @@ pub(crate) fn ready_page(kept: Kept, stamp: Option<Stamp>) -> Option<ReadyPage>
     })
 }
 
-/// Whether both are the same frame, or no frame.
+/// Returns whether both are the same frame, or no frame.
 pub(crate) fn is_same_frame(one: Option<Tag>, other: Option<Tag>) -> bool
     ensures { result ≡ is_same_frame (number_of one) (number_of other) }
 {
@@ -67,8 +67,8 @@ pub(crate) fn is_same_frame(one: Option<Tag>, other: Option<Tag>) -> bool
     }
 }
 
-/// The stamp of a page that has this frame, with one more note, from the stamp that it has: since the same times, unless that
-/// is of another frame. Then no note that was made before this time counts.
+/// Returns the stamp of a page that has this frame, with one more note, from the stamp that it has: since the same times,
+/// unless that is of another frame. Then no note that was made before this time counts.
 pub(crate) fn stamp_for(stamp: Option<Stamp>, frame: Option<Tag>, now: u64) -> Stamp
     requires { IfSome stamp (λ stamp. stamp.notes + 1 < 2 ^ 64) }
     ensures { result ≡ stamp_for stamp frame now }
@@ -107,7 +107,7 @@ pub(crate) fn lower(stamps: &mut PairMap<Stamp>, kept: Kept)
     }
 }
 
-/// Whether a page lies in its VMO, and has this frame.
+/// Returns whether a page lies in its VMO, and has this frame.
 pub(crate) fn has_frame(pages: &EagerPages, koid: Koid, page: PageNo, frame: Option<Tag>) -> bool
     requires { IsSome ((content_of pages.now).count koid.0) }
     ensures { result ≡ has_frame (content_of pages.now) koid.0 page frame }

@@ -9,13 +9,14 @@ ghost use Rattle.vm_model.specs.Space.AddressSpaces.{Spaces, AreGoodSpaces};
 ghost use Rattle.vm_model.specs.Space.Places.{is_free};
 ghost use Rattle.region_ops.specs.Holders.{HoldsPage};
 
-/// One region at most holds a page of an address space: it is live and has the page, and no live child of it has.
+/// States that one region at most holds a page of an address space: it is live and has the page, and no live child of it
+/// has.
 pub fn one_region_holds_a_page()
     ensures { (regions : ℕ → Option Region) (root p n m : ℕ) → AreGoodRegions regions →
         HoldsPage regions root p n → HoldsPage regions root p m → n ≡ m }
 {}
 
-/// No page of a free place of a live region has an entry, of whichever region.
+/// States that no page of a free place of a live region has an entry, of whichever region.
 pub fn a_free_place_has_no_entry()
     ensures { (c : Content) (spaces : Spaces) (name : ℕ) (region : Region) (first end p : ℕ) → AreGoodSpaces c spaces →
         spaces.regions name ≡ Some region → region.live ≡ true → is_free spaces name first end ≡ true →

@@ -77,8 +77,8 @@ pub fn map<P: Pages>(
     )
 }
 
-/// What `map` does in a live region, which is `above`. With `noted` the set of mappings has noted the live children of each
-/// region: a place costs one search then, also where there is none, and what is noted stays as it is.
+/// Does what `map` does, in a live region, which is `above`. With `noted` the set of mappings has noted the live children
+/// of each region: a place costs one search then, also where there is none, and what is noted stays as it is.
 pub fn map_in<P: Pages>(
     store: &mut P,
     vmos: &mut VmoTable,
@@ -129,8 +129,8 @@ pub fn map_in<P: Pages>(
     Ok(first * PAGE)
 }
 
-/// The refusal of a mapping that is decided before a place is looked for, if there is one. The name that is mapped has
-/// `pages` pages.
+/// Returns the refusal of a mapping that is decided before a place is looked for, if there is one. The name that is
+/// mapped has `pages` pages.
 pub fn map_refusal(
     regions: &Regions,
     region: RegionName,
@@ -164,21 +164,21 @@ pub fn map_refusal(
     None
 }
 
-/// Whether a region or a name does not allow a mapping with these permissions.
+/// Returns whether a region or a name does not allow a mapping with these permissions.
 fn is_denied(above: Region, t: &Target, perm: Perm) -> bool
     ensures { result ≡ (not (has above.caps.0 perm.0) || (has perm.0 writing && not t.now.may_write)) }
 {
     !allows(above, perm) || (perm.contains(Perm::WRITE) && !t.may_write)
 }
 
-/// Whether a name stands for a part of a VMO.
+/// Returns whether a name stands for a part of a VMO.
 fn is_slice(t: &Target) -> bool
     ensures { result ≡ is_kind Slice t.now.kind }
 {
     matches!(t.kind, NameKind::Slice)
 }
 
-/// Whether a mapping is asked for wrongly, at whatever place.
+/// Returns whether a mapping is asked for wrongly, at whatever place.
 fn is_mismapped(
     regions: &Regions,
     region: RegionName,
@@ -211,7 +211,7 @@ fn is_mismapped(
     regions.meets(region, first, page_count(len))
 }
 
-/// Whether `len` bytes, rounded up to whole pages, from an offset at a page on, pass the end of `pages` pages.
+/// Returns whether `len` bytes, rounded up to whole pages, from an offset at a page on, pass the end of `pages` pages.
 fn passes(pages: PageNo, offset: u64, len: u64) -> bool
     requires { offset % PAGE ≡ 0 }
     ensures { result ≡ nat_lt (pages * PAGE) (offset + rounded len) }
@@ -219,7 +219,7 @@ fn passes(pages: PageNo, offset: u64, len: u64) -> bool
     page_of(offset) + page_count(len) > pages
 }
 
-/// The first page of a place for a mapping of `count` pages in a live region, which is `above`. A mapping that
+/// Returns the first page of a place for a mapping of `count` pages in a live region, which is `above`. A mapping that
 /// overwrites has its place at the offset. Any other has a free place, as `find_place` finds it.
 pub fn find_map_place(
     regions: &Regions,
@@ -249,8 +249,8 @@ pub fn find_map_place(
     find_place(regions, maps, region, above, wanted, count, noted)
 }
 
-/// The entry of the first page of a mapping in a region, which is `above`: it shows what the name stands for, from
-/// `vmo_offset` bytes into it on.
+/// Returns the entry of the first page of a mapping in a region, which is `above`: it shows what the name stands for,
+/// from `vmo_offset` bytes into it on.
 pub fn entry_of(above: Region, region: RegionName, t: &Target, vmo_offset: u64, perm: Perm) -> Entry
     requires { t.now.first ≤ VMO_PAGES }
     ensures { result ≡ entry_of above region.0 t.now (vmo_offset / PAGE) perm }
@@ -264,8 +264,8 @@ pub fn entry_of(above: Region, region: RegionName, t: &Target, vmo_offset: u64, 
     }
 }
 
-/// What the permissions of a mapping's entries may be changed to: what the region allows, without writing if the name
-/// may not write.
+/// Returns what the permissions of a mapping's entries may be changed to: what the region allows, without writing if the
+/// name may not write.
 fn cap_of(above: Region, t: &Target) -> Perm
     ensures { result.0 ≡ cap_of above t.now }
 {
@@ -275,7 +275,7 @@ fn cap_of(above: Region, t: &Target) -> Perm
     without_writing(above.caps)
 }
 
-/// Permissions without writing.
+/// Returns the permissions without writing.
 fn without_writing(caps: Perm) -> Perm
     ensures { result.0 ≡ if has caps.0 writing then caps.0 - writing else caps.0 }
 {

@@ -17,7 +17,7 @@ use mapping_set::MappingSet;
 use region_tree::{Region, Regions};
 use vm_base::{MapFlags, PageNo, Perm, Refusal, RegionName, in_page, page_count, page_of};
 
-/// The live region of a name. It ends at the end of the address space, or before.
+/// Returns the live region of a name. It ends at the end of the address space, or before.
 pub(crate) fn live_region(regions: &Regions, name: RegionName) -> Region
     requires { is_live_region (regions_of regions.now) name.0 ≡ true }
     ensures region { regions_of regions.now name.0 ≡ Some result }
@@ -31,14 +31,14 @@ pub(crate) fn live_region(regions: &Regions, name: RegionName) -> Region
     region
 }
 
-/// Whether a region allows these permissions to what is in it.
+/// Returns whether a region allows these permissions to what is in it.
 pub fn allows(region: Region, caps: Perm) -> bool
     ensures { result ≡ has region.caps.0 caps.0 }
 {
     region.caps.contains(caps)
 }
 
-/// Where a place is asked for.
+/// The place that is asked for.
 #[derive(Clone, Copy, Debug)]
 pub struct Wanted {
     /// The place begins at the offset.
@@ -53,7 +53,7 @@ pub struct Wanted {
 }
 
 impl Wanted {
-    /// The place for which the options ask, with an offset.
+    /// Returns the place for which the options ask, with an offset.
     pub fn by(flags: MapFlags, offset: u64) -> Wanted
         ensures { result ≡ record {
           fixed = has flags.0 specific;
@@ -71,8 +71,8 @@ impl Wanted {
     }
 }
 
-/// Whether no place can be asked for like this: the offset is not at a page, `len` is 0, both of the two ways are asked
-/// for, an offset is given with neither, or a fixed place passes the end of the region.
+/// Returns whether no place can be asked for like this. That is so if the offset is not at a page, `len` is 0, both ways
+/// are asked for, an offset is given with neither, or a fixed place passes the region's end.
 pub fn is_misplaced(above: Region, wanted: Wanted, len: u64) -> bool
     ensures { result ≡ is_misplaced above wanted.fixed wanted.limited wanted.offset len }
 {
@@ -85,7 +85,7 @@ pub fn is_misplaced(above: Region, wanted: Wanted, len: u64) -> bool
     wanted.limited || page_of(wanted.offset) + page_count(len) > above.count
 }
 
-/// The first page of a free place of `count` pages in a live region, which is `above`. A fixed place ends in the
+/// Returns the first page of a free place of `count` pages in a live region, which is `above`. A fixed place ends in the
 /// region. Refusals: `AlreadyExists` if the fixed place is not free, `NoResources` if no free place fits. If the live
 /// children of each region are noted, the call costs one search.
 pub fn find_place(
@@ -129,7 +129,7 @@ pub fn find_place(
     }
 }
 
-/// Whether `count` pages from `first` on are a free place in a live region, which is `above`.
+/// Returns whether `count` pages from `first` on are a free place in a live region, which is `above`.
 fn is_free(
     regions: &Regions,
     maps: &MappingSet,
@@ -153,7 +153,8 @@ fn is_free(
     }
 }
 
-/// The first page of a free place of `count` pages in a live region, which is `above`, as `Regions::find_gap` finds it.
+/// Returns the first page of a free place of `count` pages in a live region, which is `above`, as `Regions::find_gap`
+/// finds it.
 fn find_gap(
     regions: &Regions,
     maps: &MappingSet,

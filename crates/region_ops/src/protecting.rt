@@ -94,16 +94,16 @@ pub fn protect_in(
     Ok(())
 }
 
-/// What a region has on a range of pages whose permissions are to be changed.
+/// A region's cover of a range of pages whose permissions are to be changed.
 #[derive(Clone, Copy, Debug)]
 pub struct Cover {
     /// Each page has an entry that belongs to the region.
     pub whole: bool,
-    /// If so, each entry may be changed to the permissions.
+    /// True if each entry may be changed to the permissions. This counts only if `whole` is true.
     pub allowed: bool,
 }
 
-/// What a region has on the pages from `first` to below `end`. The function looks at each piece once, and at none
+/// Returns a region's cover of the pages from `first` to below `end`. The function looks at each piece once, and at none
 /// behind a page that has no entry of the region.
 pub fn cover_of(
     maps: &MappingSet,
@@ -145,8 +145,8 @@ struct Stretch {
     allowed: bool,
 }
 
-/// The pages of one piece from the page `at` on, which end at `end` or before. `None` if and only if the page has no
-/// entry that belongs to the region.
+/// Returns the pages of one piece from the page `at` on, which end at `end` or before. `None` if and only if the page has
+/// no entry that belongs to the region.
 fn stretch_at(
     maps: &MappingSet,
     root: RegionName,

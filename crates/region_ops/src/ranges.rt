@@ -9,8 +9,8 @@ use bitflags::Flags;
 use region_tree::Region;
 use vm_base::{Perm, in_page, page_count, page_of};
 
-/// Whether `len` bytes from an address on, rounded up to whole pages, are no range of a region: the address is not at a
-/// page, `len` is 0, or the bytes pass an end of the region.
+/// Returns whether `len` bytes from an address on, rounded up to whole pages, are no range of a region. That is so if the
+/// address is not at a page, `len` is 0, or the bytes pass an end of the region.
 pub fn is_outside(region: Region, addr: u64, len: u64) -> bool
     requires { region.first + region.count ≤ ROOT_END }
     ensures { result ≡ is_outside region addr len (rounded len / PAGE) }
@@ -22,7 +22,7 @@ pub fn is_outside(region: Region, addr: u64, len: u64) -> bool
     first < region.first || first + page_count(len) > region.first + region.count
 }
 
-/// Whether permissions allow writing or executing without reading, which no mapping may.
+/// Returns whether permissions allow writing or executing without reading, which no mapping may.
 pub fn lacks_reading(perm: Perm) -> bool
     ensures { result ≡ lacks_reading perm.0 }
 {

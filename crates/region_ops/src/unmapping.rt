@@ -165,7 +165,7 @@ fn clear_mapped<P: Pages>(
     Ok(())
 }
 
-/// Whether one of `count` pages from `first` on of an address space has an entry.
+/// Returns whether one of `count` pages from `first` on of an address space has an entry.
 pub fn is_mapped_in(maps: &MappingSet, root: RegionName, first: PageNo, count: u64) -> bool
     ensures { result ≡ is_mapped_in (table_of maps.now root.0) first (first + count) }
 {

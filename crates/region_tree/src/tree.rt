@@ -22,7 +22,7 @@ use std::marker::Model;
 use vm_base::{HostMemory, PAGES_END, PageNo, Perm, ROOT_END, ROOT_FIRST, RegionName};
 use vm_model::Region;
 
-/// What mappings and regions in a root region may allow.
+/// The kinds of access that mappings and regions in a root region may allow.
 const ALL: Perm = Perm(Perm::READ.0 + Perm::WRITE.0 + Perm::EXECUTE.0);
 
 /// A region that was destroyed, and the region at which to look for the next one (`Regions::destroy_next_from`).
@@ -30,7 +30,7 @@ const ALL: Perm = Perm(Perm::READ.0 + Perm::WRITE.0 + Perm::EXECUTE.0);
 pub struct Destroyed {
     /// The region that was destroyed.
     pub name: RegionName,
-    /// What it was before.
+    /// The region as it was before.
     pub region: Region,
     /// Its parent, if that is live and lies in the range too, or else the region that the range is asked for by.
     pub next: RegionName,

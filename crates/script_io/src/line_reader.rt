@@ -12,7 +12,7 @@ use std::alloc::Global;
 use std::marker::Model;
 use vm_base::{Failed, HostMemory, LINE_BYTES};
 
-/// What a line reader fetched.
+/// The result of a line reader's fetch.
 #[derive(Clone, Copy, Debug, PartialEq, Eq)]
 pub enum Fetch {
     /// The next line, which the reader lends.

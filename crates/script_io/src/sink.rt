@@ -11,7 +11,7 @@ pub trait Sink {
     /// The bytes that it took, if it tells them.
     ghost contents: { Self → Option (List ℕ) };
 
-    /// How often writing has failed. No call lowers it, and a call that fails raises it, unless it
+    /// The number of times that writing has failed. No call lowers it, and a call that fails raises it, unless it
     /// stands at 2^64 - 1.
     ghost faults: { Self → ℕ };
 

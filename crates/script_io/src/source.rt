@@ -11,7 +11,7 @@ pub trait Source {
     /// The bytes that it has left, if it tells them.
     ghost remaining: { Self → Option (List ℕ) };
 
-    /// How often reading has failed. No call lowers it, and a call that fails raises it, unless it
+    /// The number of times that reading has failed. No call lowers it, and a call that fails raises it, unless it
     /// stands at 2^64 - 1.
     ghost faults: { Self → ℕ };
 

@@ -12,7 +12,7 @@ use vm_model::{Bytes4k, ChildKind, LentBytes};
 /// The most digits of byte data, two for each byte.
 const MOST_DIGITS: usize = 2 * DATA_BYTES;
 
-/// What the digits of a number stand for.
+/// The radix of a number's digits.
 #[derive(Clone, Copy)]
 enum Radix {
     /// Ten digits, `0` to `9`.

@@ -21,7 +21,7 @@ const MOST_ARGUMENTS: usize = 10;
 #[derive(Clone, Copy, Debug, PartialEq, Eq)]
 pub struct SyntaxFault;
 
-/// What a line says.
+/// The meaning of a line.
 #[derive(Drop)]
 pub enum Line {
     /// Nothing: it has no word, or it is a comment, whose first word begins with `#`.

@@ -14,7 +14,7 @@ use vm_base::{Failed, KOIDS};
 /// An interpreter answers the lines of a script, one after another, and keeps its VMOs in a store of pages. Its clauses speak of
 /// the state that the interpreter and the content of the store stand for together.
 pub trait Interpreter<P: PageStore>: Drop {
-    /// What a state is.
+    /// The type of states.
     ghost State: { Type 0 };
 
     /// Its first state, the content of a state, which states are good, and how lines may be answered.

@@ -16,7 +16,7 @@ use std::thread::{Threads, join};
 /// Names the frames and the tasks of a room. The call that puts a room under a lock picks them, so that the type of what lies
 /// under the lock says which they are.
 trait Naming {
-    /// How many page frames the machine began with.
+    /// The number of page frames that the machine began with.
     ghost frames: { ℕ };
 
     /// The tasks of the actors.
@@ -29,7 +29,7 @@ impl Naming for Brand {
     ghost lists = { no_tasks };
 }
 
-/// What lies under the lock. Nothing is known of it when the lock is taken but what its type says.
+/// The value that lies under the lock. Nothing is known of it when the lock is taken but what its type says.
 #[derive(Drop)]
 struct Held<J: Naming, P: PageStore> {
     room: Room<P>,

@@ -27,7 +27,7 @@ pub struct Room<P: PageStore> {
     vm: Vm,
     store: P,
     scripts: Scripts,
-    /// How many tasks each actor did.
+    /// The number of tasks that each actor did.
     done: Counts,
     /// It has room for a deed for each task.
     journal: Vec<Deed>,

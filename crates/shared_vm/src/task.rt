@@ -11,7 +11,7 @@ pub enum Task {
     Outside,
 }
 
-/// What an actor did, and the machine's reply. Actors are numbered from 0 to 3.
+/// A task done: the actor that did it, and the machine's reply. Actors are numbered from 0 to 3.
 #[derive(Drop)]
 pub struct Deed {
     pub actor: u32,

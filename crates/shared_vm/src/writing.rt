@@ -12,7 +12,7 @@ use script_io::{Sink, push_all};
 use vm_base::{Failed, TEXT_ROOM};
 use word_text::put;
 
-/// How many bytes stand before each line: an actor's name and a space.
+/// The number of bytes before each line: an actor's name and a space.
 const NAME_BYTES: usize = 3;
 
 /// Returns an actor's name and a space.

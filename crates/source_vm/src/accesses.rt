@@ -18,7 +18,7 @@ use vm_base::{DATA_BYTES, Koid, PAGE, Refusal, VmoName, in_page, page_of};
 use vm_model::{Answer, LentBytes};
 use vmo_ops::touched_pages;
 
-/// Whether a range lies inside a VMO. An offset and a length whose sum passes 2^64 do not.
+/// Returns whether a range lies inside a VMO. An offset and a length whose sum passes 2^64 do not.
 fn is_in_range<P: PageStore>(store: &P, v: Koid, offset: u64, len: u64) -> bool
     requires good { IsGood (P.content store.now) }
     requires vmo { IsSome ((P.content store.now).count v.0) }
@@ -28,7 +28,7 @@ fn is_in_range<P: PageStore>(store: &P, v: Koid, offset: u64, len: u64) -> bool
     len <= bytes && offset <= bytes - len
 }
 
-/// Whether an offset and a length are whole pages.
+/// Returns whether an offset and a length are whole pages.
 fn are_aligned(offset: u64, len: u64) -> bool
     ensures { result ≡ (is_aligned offset && is_aligned len) }
 {
@@ -94,8 +94,9 @@ pub(crate) fn write<'a, P: PageStore>(
     }
 }
 
-/// The VMO of a name and its backing, where a range of whole pages lies inside the VMO. `BadHandle` where the name is not open, else
-/// `InvalidArgs` where the offset or the length is not of whole pages, else `NotSupported` where the VMO is loose, else `OutOfRange`.
+/// Returns the VMO of a name and its backing, if a range of whole pages lies inside the VMO. `BadHandle` if the name is not
+/// open, else `InvalidArgs` if the offset or the length is not of whole pages, else `NotSupported` if the VMO is loose, else
+/// `OutOfRange`.
 fn whole_pages<P: PageStore>(
     store: &P,
     table: &SourceTable,

@@ -147,7 +147,7 @@ pub(crate) fn loose<'a, P: PageStore>(
     Answer::Done
 }
 
-/// How many pages `size` bytes take, where they end within `SOURCE_BYTES` behind `offset`.
+/// Returns the number of pages that `size` bytes take, if they end within `SOURCE_BYTES` behind `offset`.
 fn pages_behind(offset: u64, size: u64) -> Option<PageNo>
     ensures some { IfSome result (λ pages. (pages ≡ rounded size / PAGE) × (offset + rounded size ≤ SOURCE_BYTES)) }
     ensures none { IfNone result (SOURCE_BYTES < offset + rounded size) }
@@ -160,21 +160,21 @@ fn pages_behind(offset: u64, size: u64) -> Option<PageNo>
     }
 }
 
-/// How many of `have` pages a child of `pages` pages sees from page `start` on.
+/// Returns how many of `have` pages a child of `pages` pages sees from page `start` on.
 fn seen_pages(have: u64, start: PageNo, pages: u64) -> u64
     ensures { result ≡ seen_of have start pages }
 {
     pages.min(have.saturating_sub(start))
 }
 
-/// The first page that a child shows of its parent: 0 where it shows none.
+/// Returns the first page that a child shows of its parent: 0 if it shows none.
 fn first_of(start: PageNo, seen: u64) -> PageNo
     ensures { result ≡ (if seen == 0 then 0 else start) }
 {
     if seen == 0 { 0 } else { start }
 }
 
-/// The backing of a child: that of its parent, from page `start` on.
+/// Returns the backing of a child: that of its parent, from page `start` on.
 #[tactic(auto, unfolding(source_model::specs::State::moved))]
 fn moved(backing: &Backing, start: PageNo, pages: u64) -> Backing
     requires { backing.now.base + start < 2 ^ 64 }

@@ -19,7 +19,7 @@ use source_model::Backing;
 use vm_base::{Koid, PAGE, PAGE_BYTES, PageNo, SOURCE_BYTES, SOURCE_PAGES};
 use vmo_ops::write_part;
 
-/// The function of a kind, of the three.
+/// Returns the function of a kind, of the three.
 fn function_of(functions: &[SourceFn; 3], kind: u8) -> &SourceFn
     requires kinds { map (λ f. f.kind) functions.now ≡ 0 ∷ 1 ∷ 2 ∷ [] }
     requires kind { kind ≤ SOURCE_KIND_MAX }
@@ -176,7 +176,7 @@ pub(crate) fn fill_page<P: PageStore>(
     }
 }
 
-/// Whether a page is clean: it is held, and has the bytes that its backing has.
+/// Returns whether a page is clean: it is held, and has the bytes that its backing has.
 pub(crate) fn is_clean<P: PageStore>(
     store: &P,
     functions: &[SourceFn; 3],

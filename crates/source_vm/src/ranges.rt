@@ -20,7 +20,7 @@ use source_model::Backing;
 use vm_base::{HostMemory, Koid, PAGE, PageNo, Refusal};
 use vmo_ops::{part_in_page, reserve_rows, reserve_to_own, touched_pages};
 
-/// The end of those pages from `first` to below `end` that come from a source: `first` where none does.
+/// Returns the end of those pages from `first` to below `end` that come from a source: `first` if none does.
 fn seen_end(backing: &Backing, first: PageNo, end: PageNo) -> PageNo
     requires { first ≤ end }
     ensures first { first ≤ result }
@@ -31,7 +31,8 @@ fn seen_end(backing: &Backing, first: PageNo, end: PageNo) -> PageNo
     end.min(first.max(backing.seen))
 }
 
-/// How many pages from `first` to below `end` are absent, where all of these come from a source. It goes by the held pages.
+/// Returns the number of absent pages from `first` to below `end`, all of which come from a source. It goes by the held
+/// pages.
 fn count_absent<P: PageStore>(
     store: &P,
     backing: &Backing,
@@ -348,7 +349,7 @@ pub(crate) fn evict_pages<P: PageStore>(
     Ok(())
 }
 
-/// The first held page from `from` to below `end`. `None` exactly where none is.
+/// Returns the first held page from `from` to below `end`. `None` if and only if none is.
 fn next_held_in<P: PageStore>(store: &P, v: Koid, from: PageNo, end: PageNo) -> Option<PageNo>
     requires { IsSome ((P.content store.now).count v.0) }
     ensures some { IfSome result (λ page. (from ≤ page) × (page < end)

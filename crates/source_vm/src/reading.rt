@@ -17,7 +17,7 @@ use vm_base::{DATA_BYTES, LINE_BYTES, VmoName};
 /// The most words that a command has, its own and five arguments.
 const MOST_WORDS: usize = 6;
 
-/// What a line says.
+/// The content of a line.
 #[derive(Drop)]
 pub enum SourceLine {
     /// Nothing: it has no word, or it is a comment, whose first word begins with `#`.
@@ -63,14 +63,14 @@ pub fn read_source_call<'a>(
     }
 }
 
-/// Whether a word begins with `#`.
+/// Returns whether a word begins with `#`.
 fn is_comment(word: &[u8]) -> bool
     ensures { result ≡ is_comment word.now }
 {
     matches!(word, [b'#', ..])
 }
 
-/// The command of a line, or `None` where it has none.
+/// Returns the command of a line, or `None` if it has none.
 fn order<'a>(line: &[u8], room: &'a mut [u8]) -> Option<SourceCall<'a>>
     requires { DATA_BYTES ≤ length room.old }
     ensures { option_map source_command_of result ≡ order_in (words line.now) }
@@ -90,7 +90,7 @@ fn order<'a>(line: &[u8], room: &'a mut [u8]) -> Option<SourceCall<'a>>
     }
 }
 
-/// The command of this word and these arguments, or `None` where there is none.
+/// Returns the command of this word and these arguments, or `None` if there is none.
 #[tactic(auto, unfolding(crate::specs::Reading::source_command))]
 fn call<'a>(word: &[u8], arguments: &[&[u8]], room: &'a mut [u8]) -> Option<SourceCall<'a>>
     requires { DATA_BYTES ≤ length room.old }
@@ -117,7 +117,7 @@ fn call<'a>(word: &[u8], arguments: &[&[u8]], room: &'a mut [u8]) -> Option<Sour
     }
 }
 
-/// The one argument of a command of a VMO.
+/// Returns the one argument of a command of a VMO.
 fn name_in(arguments: &[&[u8]]) -> Option<VmoName>
     ensures { result ≡ name_in (map (λ a. a.now) arguments.now) }
 {
@@ -127,7 +127,7 @@ fn name_in(arguments: &[&[u8]]) -> Option<VmoName>
     vmo(name)
 }
 
-/// The arguments of a command of a range of a VMO: its name, the offset and the length.
+/// Returns the arguments of a command of a range of a VMO: its name, the offset and the length.
 fn range_in(arguments: &[&[u8]]) -> Option<(VmoName, u64, u64)>
     ensures { result ≡ range_in (map (λ a. a.now) arguments.now) }
 {
@@ -137,7 +137,7 @@ fn range_in(arguments: &[&[u8]]) -> Option<(VmoName, u64, u64)>
     Some((vmo(name)?, number(offset)?, number(len)?))
 }
 
-/// `vmo_read VMO OFFSET LEN`
+/// Reads the arguments of `vmo_read VMO OFFSET LEN`.
 fn read<'a>(arguments: &[&[u8]]) -> Option<SourceCall<'a>>
     ensures { option_map source_command_of result ≡ of_range Read (map (λ a. a.now) arguments.now) }
 {
@@ -145,7 +145,7 @@ fn read<'a>(arguments: &[&[u8]]) -> Option<SourceCall<'a>>
     Some(SourceCall::Read { name, offset, len })
 }
 
-/// `supply VMO OFFSET LEN`
+/// Reads the arguments of `supply VMO OFFSET LEN`.
 fn supply<'a>(arguments: &[&[u8]]) -> Option<SourceCall<'a>>
     ensures { option_map source_command_of result ≡ of_range Supply (map (λ a. a.now) arguments.now) }
 {
@@ -153,7 +153,7 @@ fn supply<'a>(arguments: &[&[u8]]) -> Option<SourceCall<'a>>
     Some(SourceCall::Supply { name, offset, len })
 }
 
-/// `evict VMO OFFSET LEN`
+/// Reads the arguments of `evict VMO OFFSET LEN`.
 fn evict<'a>(arguments: &[&[u8]]) -> Option<SourceCall<'a>>
     ensures { option_map source_command_of result ≡ of_range Evict (map (λ a. a.now) arguments.now) }
 {
@@ -161,7 +161,7 @@ fn evict<'a>(arguments: &[&[u8]]) -> Option<SourceCall<'a>>
     Some(SourceCall::Evict { name, offset, len })
 }
 
-/// `vmo_close VMO`
+/// Reads the arguments of `vmo_close VMO`.
 fn close<'a>(arguments: &[&[u8]]) -> Option<SourceCall<'a>>
     ensures { option_map source_command_of result ≡ of_name Close (map (λ a. a.now) arguments.now) }
 {
@@ -169,7 +169,7 @@ fn close<'a>(arguments: &[&[u8]]) -> Option<SourceCall<'a>>
     Some(SourceCall::Close { name })
 }
 
-/// `source_create VMO SIZE KIND SEED`
+/// Reads the arguments of `source_create VMO SIZE KIND SEED`.
 fn create<'a>(arguments: &[&[u8]]) -> Option<SourceCall<'a>>
     ensures { option_map source_command_of result ≡ source_create (map (λ a. a.now) arguments.now) }
 {
@@ -188,7 +188,8 @@ fn create<'a>(arguments: &[&[u8]]) -> Option<SourceCall<'a>>
     })
 }
 
-/// `vmo_create_child VMO PARENT KIND OFFSET SIZE`, where `KIND` is `snapshot` or `snapshot_at_least_on_write`
+/// Reads the arguments of `vmo_create_child VMO PARENT KIND OFFSET SIZE`, where `KIND` is `snapshot` or
+/// `snapshot_at_least_on_write`.
 fn child<'a>(arguments: &[&[u8]]) -> Option<SourceCall<'a>>
     ensures { option_map source_command_of result ≡ source_child (map (λ a. a.now) arguments.now) }
 {
@@ -202,7 +203,7 @@ fn child<'a>(arguments: &[&[u8]]) -> Option<SourceCall<'a>>
     child_of_kind(kind, name, parent, offset, size)
 }
 
-/// The command that makes a child of the kind of this word, or `None` where there is no such kind.
+/// Returns the command that makes a child of the kind of this word, or `None` if there is no such kind.
 fn child_of_kind<'a>(
     kind: &[u8],
     name: VmoName,
@@ -231,7 +232,7 @@ fn child_of_kind<'a>(
     }
 }
 
-/// `vmo_write VMO OFFSET DATA`
+/// Reads the arguments of `vmo_write VMO OFFSET DATA`.
 fn write<'a>(arguments: &[&[u8]], room: &'a mut [u8]) -> Option<SourceCall<'a>>
     requires { DATA_BYTES ≤ length room.old }
     ensures { option_map source_command_of result ≡ source_write (map (λ a. a.now) arguments.now) }
@@ -249,7 +250,7 @@ fn write<'a>(arguments: &[&[u8]], room: &'a mut [u8]) -> Option<SourceCall<'a>>
     })
 }
 
-/// `stat`
+/// Reads the arguments of `stat`.
 fn stat<'a>(arguments: &[&[u8]]) -> Option<SourceCall<'a>>
     ensures { option_map source_command_of result ≡ source_stat (map (λ a. a.now) arguments.now) }
 {

@@ -12,8 +12,8 @@ use source_model::{Backing, Link};
 use std::alloc::Global;
 use vm_base::{HostMemory, Koid, VmoName};
 
-/// Which VMO each open name stands for and which name each VMO has, where the pages of each VMO come from, and which loose children
-/// each has. All maps but that of the children have one list, 0. No function but `reserve` asks the host for memory.
+/// The VMO of each open name, and of each VMO the name, the origin of its pages and its loose children. All maps but that of
+/// the children have one list, 0. No function but `reserve` asks the host for memory.
 #[derive(Drop)]
 pub(crate) struct SourceTable {
     pub(crate) names: PairMap<Koid>,
@@ -24,7 +24,7 @@ pub(crate) struct SourceTable {
     pub(crate) children: PairMap<()>,
 }
 
-/// A table with no name and no VMO.
+/// Makes a table with no name and no VMO.
 pub(crate) fn new_table(alloc: Global) -> SourceTable
     ensures names { names_of result ≡ λ n. None }
     ensures owners { owners_of result ≡ λ v. None }
@@ -41,14 +41,14 @@ pub(crate) fn new_table(alloc: Global) -> SourceTable
     }
 }
 
-/// The VMO of a name. `None` exactly where it is not open.
+/// Returns the VMO of a name. `None` if and only if it is not open.
 pub(crate) fn find(table: &SourceTable, name: VmoName) -> Option<Koid>
     ensures { names_of table.now name.0 ≡ option_map (λ (v : Koid). v.0) result }
 {
     table.names.find(0, name.0 as u64)
 }
 
-/// Whether a VMO has a name, or a loose child.
+/// Returns whether a VMO has a name, or a loose child.
 pub(crate) fn is_kept(table: &SourceTable, v: Koid) -> bool
     ensures { IsKeptBy (owners_of table.now) (children_of table.now) v.0 result }
 {

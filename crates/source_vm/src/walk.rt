@@ -19,8 +19,8 @@ pub(crate) struct Place {
     pub(crate) page: PageNo,
 }
 
-/// The page of the parent that a page shows. `None` exactly where it is held, or its VMO's link does not see it, or its VMO is not
-/// loose.
+/// Returns the page of the parent that a page shows. `None` if and only if it is held, or its VMO's link does not see it, or
+/// its VMO is not loose.
 fn below<P: PageStore>(store: &P, table: &SourceTable, at: Place) -> Option<Place>
     requires readable { IsReadable (P.content store.now) (backings_of table.now) (links_of table.now) }
     requires page { at.page < pages_of (P.content store.now) at.koid.0 }
@@ -44,7 +44,7 @@ fn below<P: PageStore>(store: &P, table: &SourceTable, at: Place) -> Option<Plac
     }
 }
 
-/// The page at which a look-up ends: from parent to parent, up to one that is held or shows no other.
+/// Returns the page at which a look-up ends: from parent to parent, up to one that is held or shows no other.
 pub(crate) fn find_end<P: PageStore>(store: &P, table: &SourceTable, start: Place) -> Place
     requires readable { IsReadable (P.content store.now) (backings_of table.now) (links_of table.now) }
     requires page { start.page < pages_of (P.content store.now) start.koid.0 }
@@ -58,7 +58,7 @@ pub(crate) fn find_end<P: PageStore>(store: &P, table: &SourceTable, start: Plac
     at
 }
 
-/// Whether a page is absent: it is not held, and comes from a source.
+/// Returns whether a page is absent: it is not held, and comes from a source.
 pub(crate) fn is_absent<P: PageStore>(store: &P, table: &SourceTable, at: Place) -> bool
     requires { at.page < pages_of (P.content store.now) at.koid.0 }
     ensures { result ≡ is_absent (P.content store.now) (backings_of table.now at.koid.0) at.koid.0 at.page }
@@ -69,7 +69,7 @@ pub(crate) fn is_absent<P: PageStore>(store: &P, table: &SourceTable, at: Place)
     }
 }
 
-/// Whether a page comes from a source. It is absent then, unless it is held.
+/// Returns whether a page comes from a source. It is absent then, unless it is held.
 pub(crate) fn is_sourced(table: &SourceTable, at: Place) -> bool
     ensures { result ≡ passes (λ b. nat_lt at.page b.seen) (backings_of table.now at.koid.0) }
 {

@@ -32,7 +32,7 @@ pub(crate) struct Own {
     pub(crate) numbers: Numbers,
 }
 
-/// What a reply line is to the line of the script that waits for it.
+/// The relation of a reply line to the line of the script that waits for it.
 #[derive(Drop)]
 pub(crate) enum Heard {
     /// Its whole reply.

@@ -22,7 +22,7 @@ use std::alloc::Global;
 use vm_base::{DATA_BYTES, HostMemory, LINE_BYTES};
 use vm_model::Answer;
 
-/// What a checker waits for.
+/// The line that a checker waits for.
 #[derive(Clone, Copy)]
 pub(crate) enum Phase {
     /// A line of the script.

@@ -15,7 +15,7 @@ use word_text::{put, put_number};
 /// The room that a report is written to, in bytes.
 pub(crate) const REPORT_BYTES: usize = 64;
 
-/// What is reported of a transcript.
+/// The report on a transcript.
 #[derive(Clone, Copy)]
 pub(crate) enum Report {
     /// It is legal, and has so many lines of a script.

@@ -1,6 +1,6 @@
 //! What a checker says of a line.
 
-/// What a checker says of a line of a transcript.
+/// The verdict of a checker on a line of a transcript.
 #[derive(Clone, Copy, Debug, PartialEq, Eq)]
 pub enum Verdict {
     /// A transcript may begin with the lines so far and this one.

@@ -4,7 +4,7 @@ ghost use Rattle.std.specs.Prelude.{⊤, [], ◌∷◌, codes};
 
 use bitflags::{Flag, Flags};
 
-/// What an access may do (`ZX_VM_PERM_*`). A bit without a name is a right that no region allows.
+/// The permissions of an access (`ZX_VM_PERM_*`). A bit without a name is a right that no region allows.
 #[derive(Clone, Copy, Debug, PartialEq, Eq, Hash)]
 pub struct Perm(pub u32);
 
@@ -62,7 +62,7 @@ impl Flags for Perm {
     }
 }
 
-/// How a mapping is placed (`ZX_VM_*`). A bit without a name means nothing.
+/// The flags that say how a mapping is placed (`ZX_VM_*`). A bit without a name means nothing.
 #[derive(Clone, Copy, Debug, PartialEq, Eq, Hash)]
 pub struct MapFlags(pub u32);
 

@@ -55,7 +55,7 @@ pub const PIN_PAGES: usize = 256;
 
 const _: () = prove!(PIN_PAGES as u64 * PAGE == 1 << 20);
 
-/// How many names of a kind there are: `v0`, `v1` and so on, and the same of regions and pins.
+/// The number of names of a kind: `v0`, `v1` and so on, and the same of regions and pins.
 pub const NAMES: u64 = 4294967296;
 
 const _: () = prove!(NAMES == 1 << 32);

@@ -22,7 +22,7 @@ pub(crate) enum Group {
     Machine,
 }
 
-/// The group of a command.
+/// Returns the group of a command.
 #[inline(always)]
 pub(crate) fn group_of(call: &Call<'_>) -> Group
     ensures { result ≡ group_of call.now }

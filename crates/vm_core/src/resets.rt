@@ -18,7 +18,7 @@ use pin_table::PinTable;
 use vm_base::{Koid, PAGE, PageNo, RegionName, VMO_PAGES, page_count, page_of};
 use vm_model::{ChildKind, Target};
 
-/// A range of a name was changed. Forgets the translations of its pages that have another frame now.
+/// Forgets, after a change to a range of a name, the translations of the range's pages that have another frame now.
 #[inline(always)]
 #[tactic(auto, using(crate::proofs::LeavesLaws::without_none))]
 pub(crate) fn forget_changed<P: PageStore>(
@@ -50,7 +50,7 @@ fn touched_count(at: u64, len: u64) -> u64
     page_of(at + len - 1) - page_of(at) + 1
 }
 
-/// A VMO has `size` bytes now, rounded up to whole pages. Forgets the translations of pages past its end.
+/// Forgets the translations of pages past the end of a VMO, which has `size` bytes now, rounded up to whole pages.
 #[tactic(auto, using(crate::proofs::LeavesLaws::without_none))]
 pub(crate) fn forget_past(translations: &mut Translations, target: &Target, size: u64)
     requires { rounded size ≤ VMO_PAGES * PAGE }
@@ -63,8 +63,8 @@ pub(crate) fn forget_past(translations: &mut Translations, target: &Target, size
     translations.forget(target.koid, pages, VMO_PAGES - pages);
 }
 
-/// A child of this kind was made of a part of a name. Leaves the translations of pages that a snapshot shows for
-/// reading alone, except those of pinned pages, of which the snapshot owns copies.
+/// Leaves for reading alone the translations of pages that a snapshot shows, except those of pinned pages, of which the
+/// snapshot owns copies. A child of this kind was made of a part of a name.
 pub(crate) fn child_made<P: PageStore>(
     translations: &mut Translations,
     store: &P,
@@ -144,8 +144,8 @@ fn next_pinned_below(pins: &PinTable, v: Koid, from: PageNo, end: PageNo) -> Opt
     Some(page)
 }
 
-/// Pages of an address space show something else or nothing now, or may be accessed otherwise. Forgets their
-/// translations.
+/// Forgets the translations of pages of an address space, which show something else or nothing now, or may be accessed
+/// otherwise.
 #[tactic(auto, using(crate::proofs::LeavesLaws::without_none))]
 pub(crate) fn forget_pages(
     translations: &mut Translations,

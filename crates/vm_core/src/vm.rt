@@ -20,14 +20,14 @@ use vmo_table::VmoTable;
 /// The names, VMOs, pins and regions of the machine, over a store of pages. Each `step` is one command.
 #[derive(Drop)]
 pub struct Vm {
-    /// Where room for a list of mappings comes from.
+    /// The allocator that gives room for a list of mappings.
     alloc: Global,
     vmos: VmoTable,
     /// The pins. Each is counted in `vmos` as a keeper of its VMO.
     pins: PinTable,
     /// The regions of all address spaces.
     regions: Regions,
-    /// What each page of each address space shows.
+    /// The mappings: what each page of each address space shows.
     maps: MappingSet,
     /// The pages that are ready for an access.
     translations: Translations,
@@ -51,9 +51,9 @@ impl Vm {
     ghost use Rattle.vm_model.specs.Machine.MachineStep.{MachineStep};
     ghost use Rattle.vm_core.specs.Vm.{Agrees, bare_machine, machine_of};
 
-    /// A machine with no names, pins, regions and translations. It agrees with every store that has no VMO, whatever
-    /// the store's next koid is, from 1 on, as `PageStore::next_koid` says of any store. If that is 1, the two are the
-    /// empty machine.
+    /// Makes a machine with no names, pins, regions and translations. It agrees with every store that has no VMO,
+    /// whatever the store's next koid is, from 1 on, as `PageStore::next_koid` says of any store. If that is 1, the two
+    /// are the empty machine.
     pub fn new(alloc: Global) -> Vm
         ensures bare { (c : Content) → machine_of c result ≡ bare_machine c }
         ensures agrees { (c : Content) → HasNoVmo c → 1 ≤ c.next → Agrees c result }

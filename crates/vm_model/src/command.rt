@@ -3,7 +3,7 @@
 use crate::bytes::Bytes4k;
 use vm_base::{MapFlags, Perm, PinName, RegionName, VmoName};
 
-/// What a child of a VMO shows of its parent (`ZX_VMO_CHILD_*`).
+/// The pages of its parent that a child of a VMO shows (`ZX_VMO_CHILD_*`).
 #[derive(Clone, Copy, Debug, PartialEq, Eq, Hash)]
 pub enum ChildKind {
     /// The parent's pages as they are now, copied on write (`ZX_VMO_CHILD_SNAPSHOT`).

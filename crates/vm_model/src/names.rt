@@ -2,7 +2,7 @@
 
 use vm_base::{Koid, PageNo};
 
-/// How a name came to stand for its VMO.
+/// The way in which a name came to stand for its VMO.
 #[derive(Clone, Copy, Debug, PartialEq, Eq, Hash)]
 pub enum NameKind {
     /// It was given to the VMO when that was made.
@@ -13,7 +13,7 @@ pub enum NameKind {
     Reference,
 }
 
-/// How a VMO came to be.
+/// The way in which a VMO came to be.
 #[derive(Clone, Copy, Debug, PartialEq, Eq, Hash)]
 pub enum Origin {
     /// It was made with zero pages (`zx_vmo_create`).
@@ -22,9 +22,9 @@ pub enum Origin {
     Snapshot,
 }
 
-/// What an open name stands for: pages of the VMO `koid`, from page `first` on. `limit` is how many pages these are. If
-/// it is `None`, the name stands for the whole VMO, whatever its size. `may_write` and `may_resize` say what may be
-/// done to the VMO by this name.
+/// The target that an open name stands for: pages of the VMO `koid`, from page `first` on. `limit` is how many pages
+/// these are. If it is `None`, the name stands for the whole VMO, whatever its size. `may_write` and `may_resize` say
+/// what may be done to the VMO by this name.
 #[derive(Clone, Copy, Debug, PartialEq, Eq)]
 pub struct Target {
     pub koid: Koid,

@@ -5,8 +5,8 @@ use crate::numbers::PinNumbers;
 use crate::runs::Runs;
 use vm_base::{Koid, Refusal};
 
-/// What a VMO holds (`ZX_INFO_VMO`). `size` is the size of the name, in bytes. `children` counts the VMOs whose parent
-/// this VMO is, and its slices and references. The other numbers count pages of the whole VMO.
+/// The counts of what a VMO holds (`ZX_INFO_VMO`). `size` is the size of the name, in bytes. `children` counts the VMOs
+/// whose parent this VMO is, and its slices and references. The other numbers count pages of the whole VMO.
 #[derive(Clone, Copy, Debug, PartialEq, Eq)]
 pub struct Info {
     pub koid: Koid,
@@ -32,7 +32,7 @@ pub struct Stat {
     pub vmos: u64,
 }
 
-/// What the machine answers to a command.
+/// The reply of the machine to a command.
 #[derive(Drop)]
 pub enum Reply {
     /// It is done.
@@ -49,7 +49,7 @@ pub enum Reply {
     Access { faults: u64, bytes: Bytes4k },
     /// It is done, with so many page faults.
     Faults(u64),
-    /// What a VMO holds.
+    /// The counts of what a VMO holds.
     Info(Info),
     /// The mappings in a region.
     Runs(Runs),

@@ -2,15 +2,15 @@
 
 use vm_base::{Koid, PageNo, Perm, RegionName};
 
-/// What a page of an address space shows: a page of a VMO, and what an access may do to it. A mapping of the kernel
-/// is a run of these.
+/// The entry of a page of an address space: the page of a VMO that it shows, and what an access may do to it. A mapping
+/// of the kernel is a run of these.
 #[derive(Clone, Copy, Debug, PartialEq, Eq)]
 pub struct Entry {
     /// The VMO that is shown.
     pub koid: Koid,
     /// The page of the VMO, counted from its first.
     pub page: PageNo,
-    /// What an access may do.
+    /// The permissions of an access.
     pub perm: Perm,
     /// The most that `perm` may be changed to.
     pub cap: Perm,
@@ -27,16 +27,16 @@ pub struct Region {
     pub parent: Option<RegionName>,
     /// Its first page, counted from address 0.
     pub first: PageNo,
-    /// How many pages it has.
+    /// The number of its pages.
     pub count: u64,
-    /// What mappings and regions in it may allow (`ZX_VM_CAN_MAP_READ` and so on).
+    /// The kinds of access that mappings and regions in it may allow (`ZX_VM_CAN_MAP_READ` and so on).
     pub caps: Perm,
-    /// Whether it is not destroyed.
+    /// True if it is not destroyed.
     pub live: bool,
 }
 
-/// What an access to a page of an address space may do there with no page fault. A page that no access has touched, or
-/// that has changed since, has none. In the kernel it is what the page tables of the processor allow.
+/// The most that an access to a page of an address space may do there with no page fault. A page that no access has
+/// touched, or that has changed since, has none. In the kernel it is what the page tables of the processor allow.
 #[derive(Clone, Copy, Debug, PartialEq, Eq)]
 pub enum Readiness {
     /// It may read.

@@ -11,7 +11,7 @@ use vm_base::{Refusal, TEXT_ROOM};
 use vm_model::Answer;
 use word_text::{put, put_field};
 
-/// How many commands were done, how many were refused, and for how many the host lacked memory.
+/// The numbers of commands that were done, that were refused, and for which the host lacked memory.
 #[derive(Clone, Copy)]
 pub(crate) struct Tally {
     pub(crate) ok: u64,

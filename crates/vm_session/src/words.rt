@@ -9,7 +9,7 @@ ghost use Rattle.vm_session.specs.inside.Tasks.{HasBounds};
 use served::{decimal_of_word, frames_in};
 use vm_base::WORK_COUNT;
 
-/// What the words ask for.
+/// The task that the words ask for.
 #[derive(Clone, Copy)]
 pub(crate) enum Task {
     /// To run a script on a machine with `frames` page frames.

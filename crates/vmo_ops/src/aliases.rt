@@ -72,7 +72,7 @@ fn pages_inside<P: Pages>(store: &P, t: &Target, offset: u64, bytes: u64) -> Opt
     Some(page_of(whole))
 }
 
-/// What a slice of `pages` pages stands for, from the name's page `start` on.
+/// Returns what a slice of `pages` pages stands for, from the name's page `start` on.
 pub fn slice_target(t: &Target, start: PageNo, pages: PageNo, no_write: bool) -> Target
     requires { t.now.first + start < 2 ^ 64 }
     ensures { result ≡ slice_of t.now start pages no_write }
@@ -120,7 +120,7 @@ pub(crate) fn reference(
     Ok(None)
 }
 
-/// Whether a reference may not have these arguments. The name of which it is made may resize the VMO or not.
+/// Returns whether a reference may not have these arguments. The name of which it is made may resize the VMO or not.
 pub fn is_contradictory(
     offset: u64,
     bytes: u64,
@@ -133,14 +133,14 @@ pub fn is_contradictory(
     offset != 0 || bytes != 0 || (resizable && (no_write || !may_resize))
 }
 
-/// Whether a name of this kind stands for a part of its VMO.
+/// Returns whether a name of this kind stands for a part of its VMO.
 pub fn is_slice(kind: NameKind) -> bool
     ensures { result ≡ is_kind NameKind.Slice kind }
 {
     matches!(kind, NameKind::Slice)
 }
 
-/// What a reference stands for: all of the VMO of the name.
+/// Returns what a reference stands for: all of the VMO of the name.
 pub fn reference_target(t: &Target, resizable: bool, no_write: bool) -> Target
     ensures { result ≡ reference_of t.now resizable no_write }
 {

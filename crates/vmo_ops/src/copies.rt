@@ -13,8 +13,8 @@ use pages::Pages;
 use pin_table::PinTable;
 use vm_base::{Koid, PageNo, VMO_PAGES};
 
-/// The first page from `from` on of a snapshot that is the copy of a pinned page. The snapshot sees `seen` pages of `of`
-/// from the page `first` of `of` on. `None` if and only if there is no such page.
+/// Returns the first page from `from` on of a snapshot that is the copy of a pinned page. The snapshot sees `seen` pages
+/// of `of` from the page `first` of `of` on. `None` if and only if there is no such page.
 pub fn next_copy(
     pins: &PinTable,
     of: Koid,
@@ -36,8 +36,8 @@ pub fn next_copy(
     Some(page - first)
 }
 
-/// How many pages of a snapshot are copies of pinned pages. The snapshot sees `seen` pages of `of` from the page
-/// `first` of `of` on. The call costs O(n log p) for n of them, if p pages are pinned in all.
+/// Returns the number of pages of a snapshot that are copies of pinned pages. The snapshot sees `seen` pages of `of` from
+/// the page `first` of `of` on. The call costs O(n log p) for n of them, if p pages are pinned in all.
 pub fn count_copies(pins: &PinTable, of: Koid, first: PageNo, seen: PageNo) -> u64
     requires { first + seen ≤ VMO_PAGES }
     ensures { result ≡ length (copies_of (is_pinned (pins_of pins.now) of.0) first seen 0) }

@@ -12,7 +12,7 @@ use vm_base::{Koid, PageNo};
 /// out whether the page is sole, and a search does not. So more looks than this do not pay if that is not wanted.
 const FEW_PAGES: u64 = 2;
 
-/// The first page that is held, from page `from` of a VMO to below `end`. `None` if and only if none is.
+/// Returns the first page that is held, from page `from` of a VMO to below `end`. `None` if and only if none is.
 pub(crate) fn next_held_below<P: Pages>(
     store: &P,
     v: Koid,
@@ -42,9 +42,9 @@ pub(crate) struct HeldPage {
     pub sole: bool,
 }
 
-/// The first page that is held, as `next_held_below` finds it, and whether it is sole, which takes a look at the page.
-/// If the held pages before stand in a row (`in_row`), page `from` is looked at before a search. So held pages in a row
-/// cost one look each, and held pages that stand apart a search and a look each. The answer does not depend on
+/// Returns the first page that is held, as `next_held_below` finds it, and whether it is sole, which takes a look at the
+/// page. If the held pages before stand in a row (`in_row`), page `from` is looked at before a search. So held pages in a
+/// row cost one look each, and held pages that stand apart a search and a look each. The answer does not depend on
 /// `in_row`.
 pub(crate) fn next_with_sole<P: Pages>(
     store: &P,

@@ -9,8 +9,8 @@ use crate::held_pages::next_with_sole;
 use pages::{Look, Pages};
 use vm_base::{HostMemory, Koid, PageNo};
 
-/// How many frames it takes to own the pages from `first` to below `end`: as many as are not sole. A range of one page
-/// costs one look.
+/// Returns the number of frames that it takes to own the pages from `first` to below `end`: as many as are not sole. A
+/// range of one page costs one look.
 #[inline(always)]
 pub fn need_of<P: Pages>(store: &P, v: Koid, first: PageNo, end: PageNo) -> u64
     requires good { IsGood (P.content store.now) }
@@ -45,7 +45,7 @@ fn need_of_pages<P: Pages>(store: &P, v: Koid, first: PageNo, end: PageNo) -> u6
     end - first - alone
 }
 
-/// `n`, and one more if the page passes a test.
+/// Returns `n`, or one more if the page passes a test.
 pub(crate) fn with_one(n: u64, passes: bool) -> u64
     requires { n + 1 < 2 ^ 64 }
     ensures { result ≡ n + (if passes then 1 else 0) }
@@ -53,7 +53,7 @@ pub(crate) fn with_one(n: u64, passes: bool) -> u64
     if passes { n + 1 } else { n }
 }
 
-/// Whether a page is held and no other VMO shows its frame.
+/// Returns whether a page is held and no other VMO shows its frame.
 #[tactic(auto, using(pages::proofs::LookLaws::look_laws))]
 pub(crate) fn is_sole<P: Pages>(store: &P, v: Koid, page: PageNo) -> bool
     requires { page < pages_of (P.content store.now) v.0 }

@@ -12,8 +12,8 @@ use pages::{Pages, size_of_name};
 use vm_base::{PAGE, PageNo, VMO_PAGES, page_of};
 use vmo_table::Target;
 
-/// The place of a range of a name in the name's VMO, in bytes. `None` if and only if the range does not lie inside the
-/// name.
+/// Returns the place of a range of a name in the name's VMO, in bytes. `None` if and only if the range does not lie
+/// inside the name.
 pub fn place_in_vmo<P: Pages>(store: &P, t: &Target, offset: u64, len: u64) -> Option<u64>
     requires good { IsGood (P.content store.now) }
     requires inside { IsInside (P.content store.now) t.now }
@@ -36,8 +36,8 @@ fn is_in_range<P: Pages>(store: &P, t: &Target, offset: u64, len: u64) -> bool
     len <= bytes && offset <= bytes - len
 }
 
-/// The first page that holds a byte of the range, and the page behind the last one. If the range has no byte, the two
-/// are the same.
+/// Returns the first page that holds a byte of the range, and the page behind the last one. If the range has no byte, the
+/// two are the same.
 #[tactic(auto, using(crate::proofs::NeedLaws::touched_laws))]
 pub fn touched_pages(offset: u64, len: u64) -> (PageNo, PageNo)
     requires { offset + len ≤ VMO_PAGES * PAGE }
@@ -65,7 +65,7 @@ pub struct PagePart {
     pub len: u64,
 }
 
-/// The part of a range that falls into a page that it touches.
+/// Returns the part of a range that falls into a page that it touches.
 #[tactic(auto, unfolding(vm_model::specs::Contents::Writing::part_at))]
 pub fn part_in_page(offset: u64, len: u64, page: PageNo) -> PagePart
     requires range { offset + len ≤ VMO_PAGES * PAGE }

@@ -15,7 +15,7 @@ use pages::Pages;
 use vm_base::{Koid, PAGE, PageNo, Refusal};
 use vmo_table::Target;
 
-/// The place of a range of a name in the name's VMO, in bytes. `AccessDenied` if the name may not write, else
+/// Returns the place of a range of a name in the name's VMO, in bytes. `AccessDenied` if the name may not write, else
 /// `OutOfRange` if the range passes the name's end.
 pub(crate) fn place_to_change<P: Pages>(
     store: &P,

@@ -116,7 +116,7 @@ fn snapshot_owned<P: Pages>(
     Ok(koid)
 }
 
-/// The page count of `size` bytes, if they end within the greatest size of a VMO, counted from `offset` on.
+/// Returns the page count of `size` bytes, if they end within the greatest size of a VMO, counted from `offset` on.
 pub fn pages_within(offset: u64, size: u64) -> Option<PageNo>
     ensures some { IfSome result (λ pages. (pages ≡ rounded size / PAGE)
         × (offset + rounded size ≤ VMO_PAGES * PAGE) × (pages ≤ VMO_PAGES)) }

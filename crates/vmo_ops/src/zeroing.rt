@@ -93,15 +93,15 @@ fn reserve_to_zero<P: Pages>(
     Ok(())
 }
 
-/// What it takes to zero a range: how many pages that it touches are held, and how many of these are to be owned and
-/// are not sole.
+/// The cost of zeroing a range: the number of held pages that it touches, and the number of these that are to be owned
+/// and are not sole.
 #[derive(Clone, Copy)]
 pub struct ZeroCost {
     pub held: u64,
     pub owned: u64,
 }
 
-/// What it takes to zero a range inside the VMO. The call looks at the held pages alone.
+/// Returns the cost of zeroing a range inside the VMO. The call looks at the held pages alone.
 pub fn cost_to_zero<P: Pages>(
     store: &P,
     pins: &PinTable,

@@ -15,21 +15,21 @@ use std::collections::HashMap;
 use vm_base::Koid;
 use vm_model::{NameKind, Origin};
 
-/// What is kept of a VMO beside its pages, and how many names and children it has.
+/// The record of a VMO beside its pages, with the numbers of its names and children.
 #[derive(Clone, Copy, Debug)]
 pub(crate) struct Vmo {
     pub resizable: bool,
     pub origin: Origin,
     pub parent: Option<Koid>,
-    /// How many names stand for it.
+    /// The number of names that stand for it.
     pub names: u64,
-    /// How many of the names are slices.
+    /// The number of the names that are slices.
     pub slices: u64,
-    /// How many of the names are references.
+    /// The number of the names that are references.
     pub references: u64,
-    /// How many VMOs have it as parent.
+    /// The number of VMOs that have it as parent.
     pub children: u64,
-    /// How many pins and mapped pages keep it.
+    /// The number of pins and mapped pages that keep it.
     pub keepers: u128,
 }
 

@@ -66,7 +66,7 @@ vmo_read v2 0 1
 stat
 ";
 
-/// What it is answered.
+/// The replies to it.
 const SHARED: &str = "\
 OK
 OK
@@ -121,7 +121,7 @@ source_create v3 4096 3 0
 source_create v3 16777217 0 0
 ";
 
-/// What it is answered on two page frames.
+/// The replies to it on two page frames.
 const PAGED: &str = "\
 OK
 OK frames=2 used=0 free=2 vmos=1

@@ -8,7 +8,7 @@ use std::sync::atomic::{AtomicBool, AtomicU64, Ordering};
 use std::test::Fail;
 use std::thread::yield_now;
 
-/// How often a gate looks at its flags before it gives up.
+/// The most times that a gate looks at its flags before it gives up.
 const LOOKS: u64 = 20_000_000;
 
 /// The flags of all four actors at one place.
@@ -52,7 +52,7 @@ impl Meeting {
     }
 }
 
-/// The first bit of the place before a turn. That of the place after it is four bits behind.
+/// Returns the first bit of the place before a turn. That of the place after it is four bits behind.
 fn place_of(index: u64) -> Option<u32> {
     match index {
         0 => Some(0),

@@ -10,7 +10,7 @@ use std::sync::Wait;
 use std::test::Fail;
 use std::thread::Threads;
 
-/// How many calls are refused, one in each run. The tasks make fewer.
+/// The number of calls that are refused, one in each run. The tasks make fewer.
 const CALLS: u64 = 24;
 
 /// Tasks of one actor, so that their order is theirs.
@@ -27,7 +27,7 @@ a1 vmo_close v1
 a1 stat
 ";
 
-/// What is written if all tasks find memory.
+/// The lines that are written if all tasks find memory.
 const WRITTEN: &str = "\
 a1 OK
 a1 OK
@@ -54,7 +54,7 @@ fn acted_refusing<R: Threads + Wait + Sync>(
     acted_over(rt, alloc, &OpenGate, Run::sure("actors", input), store)
 }
 
-/// The input with the line at this place given once more.
+/// Returns the input with the line at this place given once more.
 fn given_again(alloc: Global, input: &str, place: usize) -> Result<String, Fail> {
     let mut again = String::new(alloc);
     for (index, line) in input.lines().enumerate() {
@@ -67,7 +67,7 @@ fn given_again(alloc: Global, input: &str, place: usize) -> Result<String, Fail>
     Ok(again)
 }
 
-/// Which line of a reply says that there was no memory, from 0.
+/// Returns the line of a reply, counted from 0, that says that there was no memory.
 fn refused_line(written: &str) -> Option<usize> {
     written.lines().position(|line| line == "a1 HOST_MEMORY")
 }

@@ -10,10 +10,10 @@ use std::sync::ledger::{Blank, Ledger};
 /// The list of the rows.
 const LIST: ListId = ListId(1);
 
-/// How many rows there are.
+/// The number of rows.
 const ROWS: u64 = 100_000;
 
-/// Puts a row in, and whether that went.
+/// Puts a row in, and returns whether that went.
 fn put<L: Ledger>(lists: &mut PageLists, page: u64, steps: &mut Steps<L>) -> bool {
     if lists.spare() == 0 || lists.find_counted(LIST, page, steps).is_some() {
         return false;
@@ -22,7 +22,7 @@ fn put<L: Ledger>(lists: &mut PageLists, page: u64, steps: &mut Steps<L>) -> boo
     true
 }
 
-/// Takes a row out, and whether it was there.
+/// Takes a row out, and returns whether it was there.
 fn take<L: Ledger>(lists: &mut PageLists, page: u64, steps: &mut Steps<L>) -> bool {
     match lists.find_counted(LIST, page, steps) {
         None => false,
@@ -30,7 +30,7 @@ fn take<L: Ledger>(lists: &mut PageLists, page: u64, steps: &mut Steps<L>) -> bo
     }
 }
 
-/// Puts rows in by rising order, finds each and takes each out, and whether all went.
+/// Puts rows in by rising order, finds each and takes each out, and returns whether all went.
 fn goes<L: Ledger>(lists: &mut PageLists, blank: Blank) -> bool
     requires { (blank.name ≡ L.name) × (blank.parts ≡ L.parts) × (0 < blank.parts) }
 {

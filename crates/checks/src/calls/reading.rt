@@ -18,7 +18,7 @@ use std::test::Fail;
 use vm_base::TEXT_ROOM;
 use vm_model::Command;
 
-/// Whether some line spells a command.
+/// Returns whether some line spells a command.
 #[tactic(auto, unfolding(vm_model::specs::Language::Spelling::has_spelling))]
 fn has_spelling(command: &Command) -> bool
     ensures { IsTrue result → has_spelling command.now ≡ true }
@@ -31,7 +31,7 @@ fn has_spelling(command: &Command) -> bool
     }
 }
 
-/// The canonical line of a command, without its line feed.
+/// Returns the canonical line of a command, without its line feed.
 fn spelled(alloc: Global, command: &Command) -> Result<String, Fault> {
     if !has_spelling(command) {
         return Err(Fault::NoForm);
@@ -52,7 +52,7 @@ pub(super) fn line(alloc: Global, line: &str) -> Result<String, Fault> {
     }
 }
 
-/// The byte that a line is filled up with.
+/// Returns the byte that a line is filled up with.
 fn filling(word: &str) -> char {
     match word {
         "blank" => ' ',
@@ -84,7 +84,7 @@ pub(super) fn long_line(alloc: Global, rest: &str) -> Result<String, Fault> {
     }
 }
 
-/// A number in decimal, or `none`.
+/// Returns a number in decimal, or `none`.
 fn decimal(alloc: Global, number: Option<u64>) -> Result<String, Fault> {
     match number {
         Some(number) => Ok(format!(in alloc; "{number}")?),

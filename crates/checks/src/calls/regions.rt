@@ -22,7 +22,7 @@ const REGIONS: [(u32, u32, u32, u32); 6] = [
     (6, 3, 1045, 5),
 ];
 
-/// Whether pages are pages of a region.
+/// Returns whether pages are pages of a region.
 fn lies_in(above: Region, first: u64, count: u64) -> bool
     requires { first + count < 2 ^ 34 }
     ensures { IsTrue result → reaches_over first (first + count) above ≡ true }
@@ -30,7 +30,7 @@ fn lies_in(above: Region, first: u64, count: u64) -> bool
     above.first <= first && first + count <= above.first.saturating_add(above.count)
 }
 
-/// Whether a region is live.
+/// Returns whether a region is live.
 fn is_live_region(regions: &Regions, region: RegionName) -> bool
     ensures { result ≡ is_live_region (regions_of regions.now) region.0 }
 {

@@ -10,7 +10,7 @@ use std::test::Fail;
 use vm_base::{Koid, Perm, Refusal, RegionName, TEXT_ROOM};
 use vm_model::{PinNumbers, Reply, Run, Runs, Stat};
 
-/// The lines of a reply, each without its line feed.
+/// Returns the lines of a reply, each without its line feed.
 fn lines(alloc: Global, reply: &Reply) -> Result<String, Fault> {
     let mut told = String::new(alloc);
     let mut out = [0; TEXT_ROOM];
@@ -27,7 +27,7 @@ fn lines(alloc: Global, reply: &Reply) -> Result<String, Fault> {
     Ok(told)
 }
 
-/// A reply of pinned frames.
+/// Makes a reply of pinned frames.
 fn pins(numbers: &[u64]) -> Reply {
     let mut kept = PinNumbers::new();
     for number in numbers {
@@ -36,7 +36,7 @@ fn pins(numbers: &[u64]) -> Reply {
     Reply::Pins(kept)
 }
 
-/// The reply of this kind with these numbers.
+/// Returns the reply of this kind with these numbers.
 fn reply_of(kind: &str, numbers: &[u64]) -> Result<Reply, Fault> {
     match (kind, numbers) {
         ("pins", numbers) => Ok(pins(numbers)),

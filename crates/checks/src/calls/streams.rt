@@ -64,7 +64,7 @@ impl Write for Holding {
     }
 }
 
-/// How many calls are made at most.
+/// The most calls that are made.
 const MOST: usize = 20;
 
 /// Fetches from a source up to its end.
@@ -152,7 +152,7 @@ pub(super) fn pull(alloc: Global, bytes: &str) -> Result<String, Fault> {
     Err(Fault::NoForm)
 }
 
-/// Whether writing and flushing are to fail.
+/// Returns whether writing and flushing are to fail.
 fn failing(word: &str) -> Result<(bool, bool), Fault> {
     match word {
         "never" => Ok((false, false)),
@@ -162,7 +162,7 @@ fn failing(word: &str) -> Result<(bool, bool), Fault> {
     }
 }
 
-/// A writer that holds these bytes, and fails so.
+/// Makes a writer that holds these bytes, and fails so.
 fn writer_of(alloc: Global, fails: (bool, bool), held: &str) -> Result<Holding, Fault> {
     Ok(Holding {
         held: Vec::from_slice(alloc, held.as_bytes())?,
@@ -183,7 +183,7 @@ fn push_to(writer: &mut Holding, bytes: &[u8]) -> &'static str {
     }
 }
 
-/// What a writer holds and has passed on.
+/// Returns what a writer holds and has passed on.
 fn told_of(alloc: Global, answer: &str, writer: &Holding) -> Result<String, Fault> {
     let held = text_of(writer.held.as_slice())?;
     let passed = text_of(writer.passed.as_slice())?;

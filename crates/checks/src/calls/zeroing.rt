@@ -14,7 +14,7 @@ use std::sync::ledger::{Blank, Ledger};
 use std::test::Fail;
 use vm_base::{Koid, PageNo, VMO_PAGES};
 
-/// Owns a page of a VMO of the greatest size, and whether there was room. At most one page more is held then.
+/// Owns a page of a VMO of the greatest size, and returns whether there was room. At most one page more is held then.
 fn own<P: PageStore>(store: &mut P, v: Koid, page: PageNo) -> bool
     requires vmo { (P.content store.old).count v.0 ≡ Some VMO_PAGES }
     requires page { page < VMO_PAGES }
@@ -29,7 +29,7 @@ fn own<P: PageStore>(store: &mut P, v: Koid, page: PageNo) -> bool
 }
 
 /// Owns the first and the last page of a VMO of the greatest size that holds none, and makes room to take both away again.
-/// Whether there was room for all.
+/// Returns whether there was room for all.
 fn own_both<P: PageStore>(store: &mut P, v: Koid) -> bool
     requires vmo { (P.content store.old).count v.0 ≡ Some VMO_PAGES }
     requires none { held_from (P.content store.old) v.0 0 VMO_PAGES ≡ 0 }
@@ -58,8 +58,8 @@ fn begin<P: PageStore>(store: &mut P) -> Option<Koid>
     if own_both(store, v) { Some(v) } else { None }
 }
 
-/// Makes all pages of a VMO of the greatest size zero, in three steps at most: it is the only one, and there are two rows. Whether
-/// that is so, and none is held now.
+/// Makes all pages of a VMO of the greatest size zero, in three steps at most: it is the only one, and there are two rows.
+/// Returns whether that is so, and none is held now.
 fn zero_all<L: Ledger>(tree: &mut CowForest, v: Koid, steps: &mut Steps<L>) -> bool
     requires vmo { (content_of tree.old).count v.0 ≡ Some VMO_PAGES }
     requires room { held_from (content_of tree.old) v.0 0 VMO_PAGES ≤ tree.old.rows.spare }

@@ -26,7 +26,7 @@ vmo_info v?100
 stat
 vmo_read v?100 0@16 2";
 
-/// What both stores write under these words. It must be the same.
+/// Returns what both stores write under these words. It must be the same.
 fn alike(alloc: Global, words: &str, script: &str) -> Result<String, Fault> {
     let words = words_of(alloc, words)?;
     let (written, _) = written(alloc, words.as_slice(), script)?;

@@ -8,7 +8,7 @@ use super::text_fault::Fault;
 use std::alloc::Global;
 use std::test::Fail;
 
-/// The script of a chain of 4,000 snapshots that is made, written at its end and closed between its ends.
+/// Returns the script of a chain of 4,000 snapshots that is made, written at its end and closed between its ends.
 fn script_of(alloc: Global) -> Result<String, Fault> {
     let snapshots = lines_of(alloc, "vmo_create_child v+2 v+1 snapshot 0 4096", 4000)?;
     let closes = lines_of(alloc, "vmo_close v+2", 3999)?;
@@ -26,7 +26,7 @@ stat
     )?)
 }
 
-/// The replies to the script.
+/// Returns the replies to the script.
 fn replies_of(alloc: Global) -> Result<String, Fault> {
     let made = lines_of(alloc, "OK", 4002)?;
     let closed = lines_of(alloc, "OK", 4000)?;

@@ -178,7 +178,7 @@ struct Line<'a> {
     text: &'a str,
 }
 
-/// A text with another character at a place.
+/// Returns a text with another character at a place.
 fn changed(alloc: Global, text: &str, place: usize, digit: char) -> Result<String, Fault> {
     let mut changed = String::new(alloc);
     for (at, it) in text.chars().enumerate() {
@@ -187,13 +187,13 @@ fn changed(alloc: Global, text: &str, place: usize, digit: char) -> Result<Strin
     Ok(changed)
 }
 
-/// What the check says of a transcript.
+/// Returns what the check says of a transcript.
 fn said(alloc: Global, words: &[String], transcript: &str) -> Result<String, Fault> {
     let (end, _) = run_both(alloc, Way::Sure(words), transcript.as_bytes())?;
     Ok(end.written)
 }
 
-/// Whether the check says that the line of this number is illegal.
+/// Returns whether the check says that the line of this number is illegal.
 fn is_illegal_at(said: &str, number: usize) -> bool {
     match said.strip_prefix("ILLEGAL ") {
         Some(told) => told.trim_end().parse::<usize>() == Ok(number),

@@ -12,7 +12,7 @@ use vm_session::Status;
 /// A call that does not come.
 const NEVER: u64 = 99;
 
-/// How the bytes come and go.
+/// The pieces in which the bytes come and go.
 const PIECES: Pieces = Pieces {
     pulled: 7,
     pushed: 4,
@@ -30,7 +30,7 @@ fn check_end(alloc: Global, way: Way<'_>, script: &str, wanted: &str) -> Result<
     compare(alloc, wanted, told.as_str())
 }
 
-/// The numbers of the pull and of the push that fail, told as `pull N`, `push N` or `none`.
+/// Returns the numbers of the pull and of the push that fail, told as `pull N`, `push N` or `none`.
 fn failing_calls(call: &str) -> Option<(u64, u64)> {
     match call.split_once(' ') {
         Some(("pull", number)) => Some((number.parse::<u64>().ok()?, NEVER)),

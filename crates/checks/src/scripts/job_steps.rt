@@ -74,7 +74,7 @@ fn step_through<P: PageStore>(
     Ok(())
 }
 
-/// What is written where a machine with jobs over this store, with so many page frames, steps through a script.
+/// Returns what is written if a machine with jobs over this store, with so many page frames, steps through a script.
 fn stepped_over<P: PageStore>(
     alloc: Global,
     frames: u32,
@@ -97,7 +97,7 @@ fn stepped_over<P: PageStore>(
     Ok(written)
 }
 
-/// What is written where a machine with jobs over the clone tree steps through a script. `None` where the words run none.
+/// Returns what is written if a machine with jobs over the clone tree steps through a script. `None` if the words run none.
 pub(crate) fn job_stepped(
     alloc: Global,
     words: &[String],

@@ -65,7 +65,7 @@ stat
 
 vmo_size v0?9";
 
-/// Whether a line of a script has a reply.
+/// Returns whether a line of a script has a reply.
 fn has_reply(line: &str) -> bool {
     match line.split(' ').find(|word| !word.is_empty()) {
         Some(word) => !word.starts_with('#'),
@@ -73,8 +73,8 @@ fn has_reply(line: &str) -> bool {
     }
 }
 
-/// A script with its replies, as `check` reads it: each line of the script behind `> `, and behind it those of its reply, each
-/// behind `< `.
+/// Returns a script with its replies, as `check` reads it: each line of the script behind `> `, and behind it those of its
+/// reply, each behind `< `.
 fn joined(alloc: Global, script: &str, replies: &str) -> Result<String, Fault> {
     // A reply in a line each.
     let replies = replies.replace(alloc, "\n+", "|+")?;
@@ -101,7 +101,7 @@ fn transcript(alloc: Global, words: &str, script: &str) -> Result<String, Fault>
     joined(alloc, script, replies.as_str())
 }
 
-/// What `check` says of a transcript. `words` are those behind `check`.
+/// Returns what `check` says of a transcript. `words` are those behind `check`.
 fn verdict(alloc: Global, words: &str, transcript: &str) -> Result<String, Fault> {
     let words = words_of(alloc, format!(in alloc; "check{words}")?.as_str())?;
     written_by_tree(alloc, words.as_slice(), transcript)
@@ -117,7 +117,7 @@ fn legal_transcript(alloc: Global, words: &str, script: &str) -> Result<String, 
     Ok(transcript)
 }
 
-/// The number of the first line, from 1, in which a transcript differs from another one.
+/// Returns the number of the first line, from 1, in which a transcript differs from another one.
 fn changed_line(transcript: &str, other: &str) -> Option<usize> {
     let mut lines = transcript.lines().zip(other.lines());
     Some(lines.position(|(line, other)| line != other)? + 1)

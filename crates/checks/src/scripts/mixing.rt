@@ -10,13 +10,13 @@
 use super::text_fault::Fault;
 use std::alloc::Global;
 
-/// The next number of a linear congruential generator.
+/// Returns the next number of a linear congruential generator.
 fn next_number(x: u64) -> u64 {
     x.wrapping_mul(6364136223846793005)
         .wrapping_add(1442695040888963407)
 }
 
-/// The number that a word tells in decimal.
+/// Returns the number that a word tells in decimal.
 fn number(word: &str) -> Result<u64, Fault> {
     word.parse::<u64>().ok().ok_or(Fault::NoForm)
 }
@@ -29,7 +29,7 @@ fn drawn(state: &mut u64, below: &str) -> Result<u64, Fault> {
         .ok_or(Fault::NoForm)
 }
 
-/// The number that a word of a form leaves open, behind what stands before it.
+/// Returns the number that a word of a form leaves open, behind what stands before it.
 fn filled(alloc: Global, word: &str, line: u64, state: &mut u64) -> Result<String, Fault> {
     if let Some((front, below)) = word.split_once('?') {
         let drawn = drawn(state, below)?;
@@ -72,7 +72,7 @@ fn add_line(
     Ok(())
 }
 
-/// One of the forms of a text, drawn at random.
+/// Returns one of the forms of a text, drawn at random.
 fn drawn_form<'a>(forms: &'a str, state: &mut u64) -> Result<&'a str, Fault> {
     *state = next_number(*state);
     let count = forms.lines().count() as u64;
@@ -80,7 +80,7 @@ fn drawn_form<'a>(forms: &'a str, state: &mut u64) -> Result<&'a str, Fault> {
     forms.lines().nth(row as usize).ok_or(Fault::NoForm)
 }
 
-/// So many lines, each of one of the forms of a text.
+/// Returns so many lines, each of one of the forms of a text.
 pub(crate) fn lines_of(alloc: Global, forms: &str, count: u64) -> Result<String, Fault> {
     let mut lines = String::new(alloc);
     let mut state = 1;

@@ -3,7 +3,7 @@
 use super::text_fault::Fault;
 use std::alloc::Global;
 
-/// The words of a command line, parted by single blanks.
+/// Returns the words of a command line, parted by single blanks.
 pub(crate) fn words_of(alloc: Global, line: &str) -> Result<Vec<String>, Fault> {
     let mut words = Vec::new(alloc);
     for word in line.split(' ') {
@@ -55,7 +55,7 @@ fn add_asked(lines: &mut String, asked: &str) -> Result<(), Fault> {
     }
 }
 
-/// Whether a line of a text can be one of the machine's replies.
+/// Returns whether a line of a text can be one of the machine's replies.
 fn is_reply(line: &str) -> bool {
     matches!(line.as_bytes(), [b'A'..=b'Z' | b'+', ..])
 }

@@ -13,7 +13,7 @@ use super::text_fault::Fault;
 use std::alloc::Global;
 use std::test::Fail;
 
-/// How many calls are refused, one in each run. No script makes more.
+/// The number of calls that are refused, one in each run. No script makes more.
 const CALLS: u64 = 60;
 
 /// Checks that a script is answered as ever if this call finds no memory and what the call was made for is asked again.

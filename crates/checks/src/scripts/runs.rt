@@ -16,14 +16,14 @@ use vm_session::{Status, run, serve};
 /// The room of a sink that is never full here, in bytes.
 const ROOM: usize = 2_097_152;
 
-/// How many bytes a source gives a call at most, and how many a sink takes. A 0 is taken for 1.
+/// The most bytes that a source gives a call, and the most that a sink takes. A 0 is taken for 1.
 #[derive(Clone, Copy)]
 pub(crate) struct Pieces {
     pub(crate) pulled: usize,
     pub(crate) pushed: usize,
 }
 
-/// How a script is run.
+/// The way in which a script is run.
 #[derive(Clone, Copy)]
 pub(crate) enum Way<'a> {
     /// Under these words of the command line. No call fails.
@@ -40,7 +40,7 @@ pub(crate) enum Way<'a> {
     Limited,
 }
 
-/// How a run ends.
+/// The end of a run.
 #[derive(Drop)]
 pub(crate) struct End {
     pub(crate) status: Status,
@@ -57,7 +57,7 @@ pub(crate) struct Counts {
     pub(crate) free: u32,
 }
 
-/// The end of a run with this status, whose sink took these bytes.
+/// Returns the end of a run with this status, whose sink took these bytes.
 fn end_of(alloc: Global, status: Status, sink: &MemSink) -> Result<End, Fault> {
     let Ok(written) = str::from_utf8(sink.bytes()) else {
         return Err(Fault::NoText);
@@ -227,7 +227,7 @@ pub(crate) fn run_both(alloc: Global, way: Way<'_>, script: &[u8]) -> Result<(En
     Ok((by_tree, counts))
 }
 
-/// What a run wrote, which must have come to its end.
+/// Returns what a run wrote, which must have come to its end.
 fn whole(end: End) -> Result<String, Fault> {
     if end.status == Status::Done {
         Ok(end.written)

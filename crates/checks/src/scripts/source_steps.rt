@@ -80,7 +80,7 @@ fn step_through<P: PageStore>(
     Ok(())
 }
 
-/// What is written where a machine of page sources over this store, with so many page frames, steps through a script.
+/// Returns what is written if a machine of page sources over this store, with so many page frames, steps through a script.
 fn stepped_over<P: PageStore>(
     alloc: Global,
     frames: u32,
@@ -109,7 +109,8 @@ fn stepped_over<P: PageStore>(
     Ok(written)
 }
 
-/// What is written where a machine of page sources over the clone tree steps through a script. `None` where the words run none.
+/// Returns what is written if a machine of page sources over the clone tree steps through a script. `None` if the words run
+/// none.
 pub(crate) fn source_stepped(
     alloc: Global,
     words: &[String],
@@ -124,9 +125,9 @@ pub(crate) fn source_stepped(
     Ok(Some(written?))
 }
 
-/// What is written if a machine of page sources over the clone tree steps through a script, and the call of the tree with this
-/// number finds no memory. Answers also how many calls there were. Each command that finds no memory is given once more, and
-/// so is the call that gives the tree its frames.
+/// Returns what is written if a machine of page sources over the clone tree steps through a script, and the call of the tree
+/// with this number finds no memory. Returns also how many calls there were. Each command that finds no memory is given once
+/// more, and so is the call that gives the tree its frames.
 pub(crate) fn source_stepped_refusing(
     alloc: Global,
     words: &[String],

@@ -19,15 +19,15 @@ use vm_model::{Command, Reply};
 /// The most lines of a script.
 pub(crate) const LINES: u64 = 1_000_000;
 
-/// How often what finds no memory of the host is asked.
+/// The number of times that what finds no memory of the host is asked.
 #[derive(Clone, Copy, PartialEq, Eq)]
 pub(crate) enum Asking {
     Once,
     Twice,
 }
 
-/// How many page frames the words of a command line give to a script, if the first word is `verb`. `None` if they run no
-/// such script.
+/// Returns the number of page frames that the words of a command line give to a script, if the first word is `verb`. `None`
+/// if they run no such script.
 pub(crate) fn frames_for(words: &[String], verb: &str) -> Option<u32> {
     match words {
         [first] if first.as_str() == verb => Some(1024),
@@ -125,7 +125,7 @@ pub(crate) fn fill<P: PageStore>(
     }
 }
 
-/// What is written if a machine over this store, with `frames` page frames, steps through a script.
+/// Returns what is written if a machine over this store, with `frames` page frames, steps through a script.
 fn stepped_over<P: PageStore>(
     alloc: Global,
     frames: u32,
@@ -149,7 +149,7 @@ fn stepped_over<P: PageStore>(
     Ok(written)
 }
 
-/// What is written if a machine over the clone tree steps through a script. `None` if the words run none.
+/// Returns what is written if a machine over the clone tree steps through a script. `None` if the words run none.
 pub(crate) fn stepped(
     alloc: Global,
     words: &[String],
@@ -164,8 +164,8 @@ pub(crate) fn stepped(
     Ok(Some(written?))
 }
 
-/// What is written if a machine over the clone tree steps through a script, and the call of the tree with this number
-/// finds no memory. Answers also how many calls there were. Each command that finds no memory is given once more, and
+/// Returns what is written if a machine over the clone tree steps through a script, and the call of the tree with this
+/// number finds no memory. Returns also how many calls there were. Each command that finds no memory is given once more, and
 /// so is the call that gives the tree its frames.
 pub(crate) fn stepped_refusing(
     alloc: Global,

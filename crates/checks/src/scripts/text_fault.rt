@@ -3,7 +3,7 @@
 use script_io::Status;
 use std::alloc::{AllocError, AllocFailed};
 
-/// Why a text fails.
+/// The reason why a text fails.
 #[derive(Debug, PartialEq, Drop)]
 pub(crate) enum Fault {
     /// No script begins the text.
@@ -12,7 +12,7 @@ pub(crate) enum Fault {
     NoForm,
     /// The run of a script ended so.
     Ended(Status),
-    /// What was written is no text.
+    /// The written bytes are no text.
     NoText,
     /// The first line that is other than the one that is wanted.
     OtherReply { wanted: String, written: String },

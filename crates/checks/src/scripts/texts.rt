@@ -6,7 +6,7 @@ use std::alloc::Global;
 use std::test::Fail;
 use vm_session::Status;
 
-/// How a text fails.
+/// Returns the fault of a text, if it fails.
 fn fault(alloc: Global, text: &str) -> Option<Fault> {
     check_text(alloc, text).err()
 }

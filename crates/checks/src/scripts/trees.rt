@@ -188,7 +188,7 @@ fn check_family(alloc: Global, parent: &str, closing: &str, count: u64) -> Resul
     compare_counts(alloc, "hidden=0 rows=0 frame_rows=0", counts)
 }
 
-/// A family leaves nothing once it is closed in rising, falling and mixed order. Others are read before each.
+/// Checks that a family leaves nothing once it is closed in rising, falling and mixed order. Others are read before each.
 fn check_families(alloc: Global, parent: &str) -> Result<(), Fail> {
     for (closing, count) in [
         ("vmo_read v?100 0@16 1 ; vmo_close v!1", 100),

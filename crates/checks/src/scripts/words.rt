@@ -34,7 +34,7 @@ OK frames=1 used=0 free=1 vmos=0
     )
 }
 
-/// Whether these words are refused.
+/// Returns whether these words are refused.
 fn are_usage(alloc: Global, words: &[String]) -> bool {
     written(alloc, words, "stat\n").err() == Some(Fault::Ended(Status::Usage))
 }
