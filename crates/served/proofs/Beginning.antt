@@ -16,8 +16,10 @@ unfolding nothing
 NothingDone-yet source sink c d same e = record {
   read = refl;
   written = refl;
-  no_vmo = λ v. ap (λ (d : Content). d.count v) (same ∙ e);
-  no_page = λ v p. ap (λ (d : Content). d.page v p) (same ∙ e);
+  store = record {
+    none = λ v. ap (λ (d : Content). d.count v) (same ∙ e);
+    no_page = λ v p. ap (λ (d : Content). d.page v p) (same ∙ e);
+  };
 }
 
 -- what a store with nothing but frames contains

@@ -1,11 +1,11 @@
 -- How the serving of a script ends, over the bytes that a source gave, the bytes that a sink took, and what a store
 -- contains. What a source has left and what a sink took are known where these tell them.
-use Rattle.std.specs.Prelude.{◌≡◌, ℕ, ◌+◌, ◌<◌, ◌≤◌, ◌⊎◌, List, ◌++◌, length, take, Option, None, Some, Result, slice_get, MatchResult}
+use Rattle.std.specs.Prelude.{◌≡◌, ℕ, ◌+◌, ◌<◌, ◌≤◌, ◌⊎◌, List, ◌++◌, length, take, Option, Some, Result, slice_get, MatchResult}
 use Rattle.std.specs.Io.KnownBytes.{Appends, Consumes, IsAtEnd}
 use Rattle.script_io.specs.declared.status.Status.{Status}
 use Rattle.script_io.specs.declared.status.Status.TheVariants.{Done, Usage, HostMemory, ReadFault, WriteFault, ScriptLimit}
 use Rattle.script_io.specs.Faults.{IsCutOff}
-use Rattle.vm_model.specs.Contents.Content.{Content}
+use Rattle.vm_model.specs.Contents.Content.{Content, HasNoVmo}
 use Rattle.vm_model.specs.Scripts.Run.{lines_of, whole_lines}
 use Rattle.served.specs.Answering.{Answering, Run}
 
@@ -88,12 +88,11 @@ pub record BreaksOff (Answers : List (List ℕ) → Type 0) (limit : ℕ) (sourc
   pub answers : Answers (whole_lines (take limit script))
       ⊎ (Answers (lines_of script) × IsAtEnd source_new × (length script ≤ limit))
 
--- nothing was read and nothing was written, and the store has no VMO, and so no page
+-- nothing was read and nothing was written, and the store has no VMO
 pub record NothingDone (source_old source_new sink_old sink_new : Option (List ℕ)) (content : Content) : Type 0 where
   pub read : source_new ≡ source_old
   pub written : sink_new ≡ sink_old
-  pub no_vmo : (v : ℕ) → content.count v ≡ None
-  pub no_page : (v p : ℕ) → content.page v p ≡ None
+  pub store : HasNoVmo content
 
 -- what each status says of a script
 abbrev pub EndsAs : {S : Type 0} → Answering S → Status → ℕ → ℕ → Option (List ℕ) → Option (List ℕ) → Option (List ℕ)

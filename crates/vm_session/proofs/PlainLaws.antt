@@ -1,24 +1,20 @@
--- What the serving of lines says of the plain machine.
-use Rattle.std.proofs.Common.{◌≡◌, ℕ, inl, inr, List, [], ◌∷◌, ◌++◌, take, Option, Result, Ok, Err, refl, sym, ap, subst, ◌∙◌, append-nil}
+-- What the answers to lines say of the plain machine.
+use Rattle.std.proofs.Common.{◌≡◌, ℕ, ◌↔◌, List, [], ◌∷◌, ◌++◌, Option, Result, Ok, Err, refl, sym, ap, subst, ◌∙◌, append-nil}
 use Rattle.std.specs.Prelude.{OnOk, OnErr}
 use Rattle.std.specs.Io.KnownBytes.{Appends}
 use Rattle.std.proofs.lemmas.Grind.{flat_map-append}
 use Rattle.script_io.specs.Faults.{IsCutOff}
-use Rattle.script_io.specs.declared.status.Status.{Status}
-use Rattle.script_io.specs.declared.status.Status.TheVariants.{Done, Usage, HostMemory, ReadFault, WriteFault, ScriptLimit}
 use Rattle.vm_model.specs.declared.command.Command.{Command}
 use Rattle.vm_model.specs.declared.reply.Reply.{Reply}
-use Rattle.vm_model.specs.Contents.Content.{Content}
 use Rattle.vm_model.specs.Machine.Machine.{Machine, empty_machine}
 use Rattle.vm_model.specs.Machine.MachineStep.{MachineStep}
 use Rattle.vm_model.specs.Language.Reading.{Reading, Order, Outside, reading}
 use Rattle.vm_model.specs.Language.Text.{text, texts}
-use Rattle.vm_model.specs.Scripts.Run.{GivesAs, Run}
+use Rattle.vm_model.specs.Scripts.Run.{GivesAs, Run, Legal}
 use Rattle.served.specs.Answering.{Run as Answered, syntax_text}
 use Rattle.served.specs.Outcome.{SinkTakes, AnswersLine}
-use Rattle.served.specs.Outcome.{AnswersAll as ServesAll, AnswersPart as ServesPart, EndsAs as ServingEndsAs}
-use Rattle.vm_session.specs.Outcome.{AnswersAll, AnswersPart, EndsAs}
-use Rattle.vm_session.specs.inside.Plain.{plain, GivesText-outside}
+use Rattle.vm_session.specs.Plain.{plain, GivesText}
+use Rattle.vm_session.specs.inside.Outside.{GivesText-outside}
 
 -- ---- one line of a script
 
@@ -69,75 +65,17 @@ runs_as old new (line ∷ lines) out run =
           ∙ sym (flat_map-append text here.replies rest.replies)));
     }
 
-module _ (frames : ℕ) (lines : List (List ℕ)) (sink_old sink_new : Option (List ℕ)) (content : Content) where
-  answers_all : ServesAll plain frames lines sink_old sink_new content → AnswersAll frames lines sink_old sink_new content
-  answers_all all =
-      let run = runs_as (empty_machine frames) all.last lines all.out all.run in
-      record {
-        out = all.out;
-        last = all.last;
-        legal = record { replies = run.replies; run = run.run; text = run.text };
-        good = all.good;
-        written = all.written;
-        store = all.store;
-      }
+answered : (old new : Machine) (lines : List (List ℕ)) (replies : List Reply) → Run old lines replies new → Answered plain old lines (texts replies) new
+answered old new [] replies run = (ap texts run.0, run.1)
+answered old new (line ∷ lines) replies run =
+    let here : GivesText line old (texts run.1) run.0 = record { replies = run.1; gives = run.3; text = refl } in
+    (run.0, texts run.1, texts run.2, here, answered run.0 new lines run.2 run.4, ap texts run.5 ∙ flat_map-append text run.1 run.2)
 
-  answers_part : ServesPart plain frames lines sink_old sink_new content → AnswersPart frames lines sink_old sink_new content
-  answers_part some =
-      let run = runs_as (empty_machine frames) some.mid (take some.answered lines) some.before some.run in
-      record {
-        answered = some.answered;
-        line = some.line;
-        next = some.next;
-        before = run.replies;
-        mid = some.mid;
-        run = run.run;
-        replies = some.gives.replies;
-        last = some.last;
-        gives = some.gives.gives;
-        good = some.good;
-        part = some.part;
-        rest = some.rest;
-        cut = sym some.gives.text ∙ some.cut;
-        left = some.left;
-        written = subst (λ (xs : List ℕ). Appends sink_old sink_new (xs ++ some.part)) run.text some.written;
-        store = some.store;
-      }
+-- a run that is answered by a text is legal, and the other way round
+pub Run-legal : (frames : ℕ) (lines : List (List ℕ)) (out : List ℕ) (last : Machine) → Answered plain (plain.start frames) lines out last ↔ Legal frames lines out last
+Run-legal frames lines out last = (there, back) where
+  there : Answered plain (plain.start frames) lines out last → Legal frames lines out last
+  there run = let all = runs_as (empty_machine frames) last lines out run in record { replies = all.replies; run = all.run; text = all.text }
 
--- how the serving of a script on the plain machine ends
-pub ends_plain : (status : Status) (frames limit : ℕ) (source_old source_new sink_old sink_new : Option (List ℕ)) (content : Content)
-    → ServingEndsAs plain status frames limit source_old source_new sink_old sink_new content → EndsAs status frames limit source_old source_new sink_old sink_new content
-ends_plain Done frames limit source_old source_new sink_old sink_new content h = record {
-  script = h.script;
-  given = h.given;
-  ended = h.ended;
-  short = h.short;
-  answers = answers_all frames _ sink_old sink_new content h.answers;
-}
-ends_plain ReadFault frames limit source_old source_new sink_old sink_new content h = record {
-  script = h.script;
-  given = h.given;
-  short = h.short;
-  answers = answers_all frames _ sink_old sink_new content h.answers;
-}
-ends_plain ScriptLimit frames limit source_old source_new sink_old sink_new content h = record {
-  script = h.script;
-  given = h.given;
-  long = h.long;
-  answers = answers_all frames _ sink_old sink_new content h.answers;
-}
-ends_plain WriteFault frames limit source_old source_new sink_old sink_new content h = record {
-  script = h.script;
-  given = h.given;
-  at_most = h.at_most;
-  answers = elim h.answers [
-    | inl whole ↦ inl (answers_part frames _ sink_old sink_new content whole)
-    | inr last ↦ inr (answers_part frames _ sink_old sink_new content last.0, last.1, last.2)
-  ];
-}
-ends_plain HostMemory frames limit source_old source_new sink_old sink_new content h = record {
-  read = h.read;
-  written = h.written;
-  store = record { none = h.no_vmo; no_page = h.no_page };
-}
-ends_plain Usage frames limit source_old source_new sink_old sink_new content h = absurd h
+  back : Legal frames lines out last → Answered plain (plain.start frames) lines out last
+  back legal = subst (λ (xs : List ℕ). Answered plain (empty_machine frames) lines xs last) (sym legal.text) (answered (empty_machine frames) last lines legal.replies legal.run)

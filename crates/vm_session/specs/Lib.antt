@@ -1,2 +1,3 @@
+pub mod Plain
 pub mod Outcome
 pub mod inside

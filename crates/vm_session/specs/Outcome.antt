@@ -1,23 +1,21 @@
--- How a run ends, over the bytes that a source gave, the bytes that a sink took, and what a store contains. What a
--- source has left and what a sink took are known where these tell them.
-use Rattle.std.specs.Prelude.{◌≡◌, ℕ, ◌-◌, ◌^◌, ◌<◌, List, [], ◌∷◌, ◌++◌, length, take, map, codes, if◌then◌else◌, Option, None, Some, option_map, slice_get}
+-- What the words of a command line ask for, and how a task ends, over the bytes that a source gave, the bytes that a sink
+-- took, and what a store contains. What a source has left and what a sink took are known where these tell them.
+use Rattle.std.specs.Prelude.{◌≡◌, ℕ, ◌-◌, ◌^◌, List, [], ◌∷◌, map, codes, if◌then◌else◌, Option, None, Some, option_map}
 use Rattle.std.specs.Io.KnownBytes.{Appends}
 use Rattle.std.specs.String.{string_bytes}
 use Rattle.std.specs.declared.string.String.{String}
 use Rattle.std.specs.declared.alloc.Global.{Global}
 use Rattle.script_io.specs.declared.status.Status.{Status}
-use Rattle.script_io.specs.declared.status.Status.TheVariants.{Done, Usage, HostMemory, ReadFault, WriteFault, ScriptLimit}
+use Rattle.script_io.specs.declared.status.Status.TheVariants.{Done, HostMemory, WriteFault}
 use Rattle.script_io.specs.Faults.{IsCutOff}
 use Rattle.vm_base.specs.declared.limits.TheConstants.{SCRIPT_BYTES, WORK_COUNT}
-use Rattle.vm_model.specs.declared.reply.Reply.{Reply}
-use Rattle.vm_model.specs.Contents.Content.{Content, HasNoVmo}
-use Rattle.vm_model.specs.Machine.Machine.{Machine, IsGoodMachine, empty_machine}
-use Rattle.vm_model.specs.Language.Text.{texts}
+use Rattle.vm_model.specs.Contents.Content.{Content}
+use Rattle.vm_model.specs.Machine.Machine.{Machine, IsGoodMachine}
 use Rattle.vm_model.specs.Language.Reading.{◌>>=◌}
-use Rattle.vm_model.specs.Scripts.Run.{Gives, Run, Legal}
 use Rattle.vm_model.specs.Scripts.Workload.{IsWorked}
 use Rattle.served.specs.Words.{is_text, decimal_of_word, frames_in}
-use Rattle.served.specs.Outcome.{Completes, StopsReading, ReachesLimit, BreaksOff}
+use Rattle.served.specs.Outcome.{NothingDone, EndsAs}
+use Rattle.vm_session.specs.Plain.{plain}
 use Rattle.vm_session.specs.declared.words.Task.{Task}
 
 -- ---- the words of the command line
@@ -58,63 +56,6 @@ pub record AskForWork (words : List (String Global)) : Type 0 where
   pub frames : ℕ
   pub asked : task_asked words ≡ Some (Task.Work number count frames)
 
--- ---- what was answered
-
--- The lines were answered as on a machine with this many frames, their replies were written, and the store has what the
--- machine has in the end, which is a good state.
-pub record AnswersAll (frames : ℕ) (lines : List (List ℕ)) (sink_old sink_new : Option (List ℕ))
-    (content : Content) : Type 0 where
-  pub out : List ℕ
-  pub last : Machine
-  pub legal : Legal frames lines out last
-  pub good : IsGoodMachine last
-  pub written : Appends sink_old sink_new out
-  pub store : content ≡ last.state.content
-
--- Some of the lines were answered, and their replies were written. One line more was done, and only a part of its
--- replies was written. The store has what the machine has then, and this machine is good.
-pub record AnswersPart (frames : ℕ) (lines : List (List ℕ)) (sink_old sink_new : Option (List ℕ))
-    (content : Content) : Type 0 where
-  pub answered : ℕ
-  pub line : List ℕ
-  pub next : slice_get lines answered ≡ Some line
-  pub before : List Reply
-  pub mid : Machine
-  pub run : Run (empty_machine frames) (take answered lines) before mid
-  pub replies : List Reply
-  pub last : Machine
-  pub gives : Gives line mid replies last
-  pub good : IsGoodMachine last
-  pub part : List ℕ
-  pub rest : List ℕ
-  pub cut : texts replies ≡ part ++ rest
-  pub left : 0 < length rest
-  pub written : Appends sink_old sink_new (texts before ++ part)
-  pub store : content ≡ last.state.content
-
--- ---- how a run ends
-
--- nothing was read and nothing was written, and the store has no VMO
-pub record NothingDone (source_old source_new sink_old sink_new : Option (List ℕ)) (content : Content) : Type 0 where
-  pub read : source_new ≡ source_old
-  pub written : sink_new ≡ sink_old
-  pub store : HasNoVmo content
-
--- what each status says of a script
-abbrev pub EndsAs : Status → ℕ → ℕ → Option (List ℕ) → Option (List ℕ) → Option (List ℕ) → Option (List ℕ)
-    → Content → Type 0
-EndsAs Done frames limit source_old source_new sink_old sink_new content =
-    Completes (λ lines. AnswersAll frames lines sink_old sink_new content) limit source_old source_new
-EndsAs ReadFault frames limit source_old source_new sink_old sink_new content =
-    StopsReading (λ lines. AnswersAll frames lines sink_old sink_new content) limit source_old source_new
-EndsAs ScriptLimit frames limit source_old source_new sink_old sink_new content =
-    ReachesLimit (λ lines. AnswersAll frames lines sink_old sink_new content) limit source_old source_new
-EndsAs WriteFault frames limit source_old source_new sink_old sink_new content =
-    BreaksOff (λ lines. AnswersPart frames lines sink_old sink_new content) limit source_old source_new
-EndsAs HostMemory frames limit source_old source_new sink_old sink_new content =
-    NothingDone source_old source_new sink_old sink_new content
-EndsAs Usage frames limit source_old source_new sink_old sink_new content = ⊥
-
 -- ---- how a workload ends
 
 -- Nothing was read. The workload was done and is told by a line, and this much of the line was written. The store has
@@ -140,11 +81,11 @@ WorkEndsAs HostMemory frames number count source_old source_new sink_old sink_ne
     NothingDone source_old source_new sink_old sink_new content
 WorkEndsAs status frames number count source_old source_new sink_old sink_new content = ⊥
 
--- ---- how a task ends
+-- ---- how a task ends: a script on the plain machine, or a workload
 
 abbrev pub TaskEndsAs : Task → Status → Option (List ℕ) → Option (List ℕ) → Option (List ℕ) → Option (List ℕ)
     → Content → Type 0
 TaskEndsAs (Task.Run frames) status source_old source_new sink_old sink_new content =
-    EndsAs status frames SCRIPT_BYTES source_old source_new sink_old sink_new content
+    EndsAs plain status frames SCRIPT_BYTES source_old source_new sink_old sink_new content
 TaskEndsAs (Task.Work number count frames) status source_old source_new sink_old sink_new content =
     WorkEndsAs status frames number count source_old source_new sink_old sink_new content

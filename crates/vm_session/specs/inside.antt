@@ -1,3 +1,3 @@
 pub mod Tasks
-pub mod Plain
+pub mod Outside
 pub mod Working

@@ -5,7 +5,7 @@ ghost use Rattle.script_io.specs.Faults.{HasCause};
 ghost use Rattle.vm_model.specs.Machine.Machine.{IsGoodMachine};
 ghost use Rattle.vm_core.specs.Vm.{Agrees, machine_of};
 ghost use Rattle.served.specs.Outcome.{AnswersLine};
-ghost use Rattle.vm_session.specs.inside.Plain.{plain};
+ghost use Rattle.vm_session.specs.Plain.{plain};
 
 use crate::rooms::Rooms;
 use page_store::PageStore;
@@ -51,7 +51,7 @@ impl VmInterpreter {
 impl<P: PageStore> Interpreter<P> for VmInterpreter {
     ghost use Rattle.std.specs.Prelude.{refl};
     ghost use Rattle.vm_model.specs.Machine.Machine.{Machine};
-    ghost use Rattle.vm_session.specs.inside.Plain.{GivesText-long};
+    ghost use Rattle.vm_session.specs.inside.Outside.{GivesText-long};
 
     ghost State = { Machine };
 

@@ -8,6 +8,7 @@
 #![tactic(auto)]
 
 mod interpreter;
+mod laws;
 mod rooms;
 mod serving;
 mod session;
@@ -17,6 +18,7 @@ mod working;
 mod workload;
 
 pub use interpreter::VmInterpreter;
+pub use laws::answered_lines_are_a_legal_run;
 pub use script_io::{Status, code};
 pub use serving::serve;
 pub use session::run;

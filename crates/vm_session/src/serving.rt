@@ -3,7 +3,8 @@
 ghost use Rattle.std.specs.Prelude.{◌≡◌, ◌^◌, ◌<◌, ◌≤◌};
 ghost use Rattle.script_io.specs.Faults.{HasFailed};
 ghost use Rattle.vm_model.specs.Contents.Content.{nothing};
-ghost use Rattle.vm_session.specs.Outcome.{EndsAs};
+ghost use Rattle.served.specs.Outcome.{EndsAs};
+ghost use Rattle.vm_session.specs.Plain.{plain};
 
 use crate::interpreter::VmInterpreter;
 use page_store::PageStore;
@@ -29,7 +30,7 @@ pub fn serve<P: PageStore, S: Source, K: Sink>(
     requires empty { P.content store.old ≡ nothing }
     requires frames { 1 ≤ frames × frames ≤ FRAMES }
     requires limit { limit < 2 ^ 63 }
-    ensures ends { EndsAs result frames limit (S.remaining source.old) (S.remaining source.new)
+    ensures ends { EndsAs plain result frames limit (S.remaining source.old) (S.remaining source.new)
         (K.contents sink.old) (K.contents sink.new) (P.content store.new) }
     ensures read_cause { result ≡ Status.ReadFault → HasFailed (S.faults source.old) (S.faults source.new) }
     ensures write_cause { result ≡ Status.WriteFault → HasFailed (K.faults sink.old) (K.faults sink.new) }

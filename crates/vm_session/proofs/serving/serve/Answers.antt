@@ -1,7 +1,6 @@
 use Rattle.std.proofs.Common.{refl, arith}
 use Rattle.vm_model.proofs.MachineLaws.{IsGoodMachine-empty}
 use Rattle.vm_core.proofs.StartLaws.{filled_fresh, machine_of-filled}
-use Rattle.vm_session.proofs.PlainLaws.{ends_plain}
 use Rattle.vm_session.proofs.serving.serve.Goals as goal
 
 pub serve-status-requires-clause-agrees : goal.serve-status-requires-clause-agrees
@@ -15,7 +14,3 @@ serve-status-requires-clause-start g c =
 
 pub serve-status-requires-clause-good : goal.serve-status-requires-clause-good
 serve-status-requires-clause-good g c = IsGoodMachine-empty c.args.frames
-
-pub returns-clause-ends : goal.returns-clause-ends
-returns-clause-ends g c =
-    ends_plain c.serve-status.result c.args.frames c.args.limit _ _ _ _ _ c.serve-status.ensures.ends

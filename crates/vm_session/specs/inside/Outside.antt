@@ -1,4 +1,4 @@
--- The machine as one that answers the lines of a script by text.
+-- Lines outside the grammar, as the plain machine answers them.
 use Rattle.std.specs.Prelude.{◌≡◌, ℕ, ◌<◌, cond, List, [], ◌∷◌, length, refl}
 use Rattle.std.proofs.Common.{sym, ap, subst}
 use Rattle.std.proofs.lemmas.Bool.Decides.{Decides-ltb}
@@ -6,21 +6,12 @@ use Rattle.vm_base.specs.declared.limits.TheConstants.{LINE_BYTES}
 use Rattle.vm_base.specs.declared.refusal.Refusal.TheVariants.{Syntax}
 use Rattle.vm_model.specs.declared.reply.Reply.{Reply}
 use Rattle.vm_model.specs.declared.reply.Reply.TheVariants.{Refused}
-use Rattle.vm_model.specs.Machine.Machine.{Machine, IsGoodMachine, empty_machine}
+use Rattle.vm_model.specs.Machine.Machine.{Machine}
 use Rattle.vm_model.specs.Language.Reading.{Reading, Outside, reading, reading_of_words, words}
 use Rattle.vm_model.specs.Language.Text.{reply_lines, text, texts}
-use Rattle.vm_model.specs.Scripts.Run.{GivesAs, Gives}
-use Rattle.served.specs.Answering.{Answering, syntax_text}
-
--- from old, the line may give replies of this text and lead to new
-pub record GivesText (line : List ℕ) (old : Machine) (out : List ℕ) (new : Machine) : Type 0 where
-  pub replies : List Reply
-  pub gives : Gives line old replies new
-  pub text : out ≡ texts replies
-
--- the plain machine
-abbrev pub plain : Answering Machine
-plain = record { start = empty_machine; content = λ s. s.state.content; IsGood = IsGoodMachine; Gives = GivesText }
+use Rattle.vm_model.specs.Scripts.Run.{GivesAs}
+use Rattle.served.specs.Answering.{syntax_text}
+use Rattle.vm_session.specs.Plain.{GivesText}
 
 -- the refusal of a line outside the grammar
 pub text-syntax : syntax_text ≡ texts (Refused Syntax ∷ [])
