@@ -81,20 +81,6 @@ class Answers:
         found = [(case, *kind) for case, of in self.cases(result).items() for kind in self.kinds(of)]
         return found or [()]
 
-    def told(self, result):
-        """Returns how the table tells of what a type has beside the plain answer."""
-        head, inner = parts_of(result)
-        if head == "Result":
-            error = inner[1] if len(inner) > 1 else "io::Error"
-            return [error, *self.told(inner[0])]
-        if head == "Option":
-            return ["None", *self.told(inner[0])]
-        if head == "()":
-            return [it for part in inner for it in self.told(part)]
-        if head == "bool":
-            return ["bool"]
-        return [f"{head} of {len(self.cases(result))}"] if self.cases(result) else []
-
 
 # ---- terms
 

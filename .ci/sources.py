@@ -1,4 +1,4 @@
-"""Reads the sources of the crates: their calls with the clauses, their enums, and what the files bring in by name."""
+"""Reads the sources of the crates: their calls with comments and clauses, their enums, and what the files bring in by name."""
 import functools
 import pathlib
 import re
@@ -8,14 +8,16 @@ TOP = pathlib.Path(__file__).resolve().parent.parent
 
 
 class Clause(NamedTuple):
-    """One `ensures` of a call: its name, which may be empty, and its text in one line."""
+    """One `ensures` of a call: its name, its text in one line, and the comment that is about it. Name and comment may be empty."""
 
     name: str
     body: str
+    comment: str
 
 
 class Call(NamedTuple):
-    """A call: its file, its type or trait, the trait of an `impl` of one, its name, its signature in one line and its clauses."""
+    """A call: its file, its type or trait, the trait of an `impl` of one, its name, its signature in one line, its clauses, and
+    its doc comment, which may be empty."""
 
     path: pathlib.Path
     subject: str
@@ -23,6 +25,7 @@ class Call(NamedTuple):
     name: str
     signature: str
     clauses: list
+    comment: str
 
     def called(self):
         """Returns the call as a reader spells it."""
@@ -60,17 +63,46 @@ def subject_of(line):
     return words[1], None
 
 
+def clause_comments(lines):
+    """Returns the comment about each `requires` and `ensures` of a call. A comment is about all below it, up to a blank line."""
+    found, comment, is_open = [], [], False
+    for line in lines:
+        text = line.strip()
+        if text.startswith("//"):
+            comment = [*(comment if is_open else []), text.lstrip("/ ")]
+        elif not text:
+            comment = []
+        elif re.match("(requires|ensures)\\b", text):
+            found.append(" ".join(comment))
+        is_open = text.startswith("//")
+    return found
+
+
 def split_call(lines):
     """Returns the signature of a call in one line, and its clauses."""
     text = "\n".join(it for it in lines if not it.lstrip().startswith("//")).rstrip("{; \n")
     parts = re.split(r"\n\s+(?=requires |ensures )", text)
     clauses = []
-    for part in parts[1:]:
+    for part, comment in zip(parts[1:], clause_comments(lines)):
         kind, _, rest = " ".join(part.split()).partition(" ")
         name, _, body = rest.partition("{")
         if kind == "ensures":
-            clauses.append(Clause(name.strip(), body.strip().removesuffix("}").strip()))
+            clauses.append(Clause(name.strip(), body.strip().removesuffix("}").strip(), comment))
     return " ".join(parts[0].split()), clauses
+
+
+def comment_above(lines, at):
+    """Returns the doc comment above a line. Between them may stand attributes, which may have several lines."""
+    found, is_inside = [], False
+    for line in reversed(lines[:at]):
+        text = line.strip()
+        if text.startswith("///"):
+            found.append(text[3:].strip())
+            continue
+        is_inside = (is_inside or text.endswith("]")) and not text.startswith("#[")
+        if found or not is_inside and not text.startswith(("#[", "//")):
+            break
+    return "\n".join(reversed(found))
 
 
 def lines_of_call(lines, at, indent):
@@ -90,8 +122,8 @@ def text_of(path):
     return path.read_text(encoding="utf-8")
 
 
-def calls_of(path):
-    """Yields the calls of a file that others may make: those that are `pub`, and those of traits."""
+def calls_of(path, every=False):
+    """Yields the calls of a file that others may make: those that are `pub`, and those of traits. Or yields every function."""
     subject, trait, is_trait = None, None, False
     lines = text_of(path).splitlines()
     for at, line in enumerate(lines):
@@ -105,9 +137,9 @@ def calls_of(path):
             is_trait = re.match(r"^(pub )?trait\b", line) is not None
         elif line.startswith("}"):
             subject, trait, is_trait = None, None, False
-        found = re.match(r"^(\s*)(pub )?fn (\w+)", line) if "fn " in line else None
-        if found and len(found[1]) == (4 if subject else 0) and (found[2] or is_trait or trait):
-            yield Call(path, subject, trait, found[3], *split_call(lines_of_call(lines, at, found[1])))
+        found = re.match(r"^(\s*)(pub )?(?:pub\(crate\) )?fn (\w+)", line) if "fn " in line else None
+        if found and len(found[1]) == (4 if subject else 0) and (every or found[2] or is_trait or trait):
+            yield Call(path, subject, trait, found[3], *split_call(lines_of_call(lines, at, found[1])), comment_above(lines, at))
 
 
 def enums(top=TOP):
