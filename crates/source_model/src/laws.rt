@@ -30,7 +30,7 @@ pub fn a_step_keeps_the_sources_good()
         IsGoodSources old → SourceStep old command reply new → new.content.next ≤ old.content.next + 1 }
 {}
 
-/// Reads, supplies and evictions change no byte of any text.
+/// States that reads, supplies and evictions change no byte of any text.
 pub fn paging_changes_no_text()
     ensures reads { (old new : SourceState) (name : VmoName) (offset len : ℕ) (reply : Reply) →
         SourceStep old (Read name offset len) reply new → new.text ≡ old.text }
