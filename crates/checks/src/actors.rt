@@ -72,12 +72,12 @@ fn acted_over<R: Threads + Wait + Sync, P: PageStore + Send, G: Gate>(
     requires { P.content store ≡ nothing }
 {
     let words = words_of(alloc, run.words)?;
-    let mut source = MemSource::new(alloc, run.input.as_bytes(), 4096, &[run.pull])
-        .ok()
-        .ok_or("room for a source")?;
-    let mut sink = MemSink::new(alloc, ROOM, 5, &[run.push])
-        .ok()
-        .ok_or("room for a sink")?;
+    let Ok(mut source) = MemSource::new(alloc, run.input.as_bytes(), 4096, &[run.pull]) else {
+        return Err(Fail::from("room for a source"));
+    };
+    let Ok(mut sink) = MemSink::new(alloc, ROOM, 5, &[run.push]) else {
+        return Err(Fail::from("room for a sink"));
+    };
     let (status, store) = run_actors(
         rt,
         alloc,
@@ -87,10 +87,24 @@ fn acted_over<R: Threads + Wait + Sync, P: PageStore + Send, G: Gate>(
         &mut source,
         &mut sink,
     );
+    let written = text_in(alloc, &sink);
+    // Each by one call, before the next exit: at an exit all that is held is dropped part by part, each with a proof.
     drop(store);
-    let written = str::from_utf8(sink.bytes()).ok().ok_or("a text")?;
-    let written = String::from_str(alloc, written)?;
-    Ok(End { status, written })
+    drop(sink);
+    drop(source);
+    drop(words);
+    Ok(End {
+        status,
+        written: written?,
+    })
+}
+
+/// Returns what a sink took, as a text.
+fn text_in(alloc: Global, sink: &MemSink) -> Result<String, Fail> {
+    let Ok(written) = str::from_utf8(sink.bytes()) else {
+        return Err(Fail::from("a text"));
+    };
+    Ok(String::from_str(alloc, written)?)
 }
 
 /// Runs the actors over an empty clone tree.

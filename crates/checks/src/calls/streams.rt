@@ -1,17 +1,9 @@
 //! In which order, and how often, line readers and sinks call what they stand on.
-//!
-//!     fetch LINES PIECE CALLS     what a reader fetches of lines parted by `/`, from a source that gives so many bytes a
-//!                                 call and fails at these calls, from 1
-//!     push TEXTS PIECE CALLS      how texts parted by `,` are pushed, to a sink of the same kind, and what it has then
-//!     count TEXTS                 how many bytes a sink counts to which texts parted by `,` are pushed
-//!     pull BYTES                  what is pulled from a reader that is interrupted once
-//!     write FAILS HELD BYTES      how bytes are pushed to a writer that holds others until it is flushed, and fails once to
-//!                                 `write`, to `flush`, or `never`; what it holds and has passed on then
 
-use super::{Fault, add_word, check, numbers_of, text_of};
-use script_io::{
-    CountSink, Fetch, Lines, MemSink, MemSource, ReadSource, Sink, Source, WriteSink, push_all,
-};
+ghost use Rattle.std.specs.Prelude.{◌≤◌};
+
+use super::{Fault, text_of};
+use script_io::{Fetch, Lines, MemSink, MemSource, ReadSource, Sink, Source, WriteSink, push_all};
 use std::alloc::Global;
 use std::io::{self, ErrorKind, Read, Write};
 use std::test::Fail;
@@ -43,6 +35,18 @@ struct Holding {
     flush_fails: bool,
 }
 
+impl Holding {
+    /// Makes a writer that holds nothing, and fails so.
+    fn new(alloc: Global, write_fails: bool, flush_fails: bool) -> Holding {
+        Holding {
+            held: Vec::new(alloc),
+            passed: Vec::new(alloc),
+            write_fails,
+            flush_fails,
+        }
+    }
+}
+
 impl Write for Holding {
     fn write(&mut self, buf: &[u8]) -> io::Result<usize> {
         if self.write_fails {
@@ -64,10 +68,19 @@ impl Write for Holding {
     }
 }
 
+/// Adds a word to those that are told, behind a blank if one is told already.
+fn add_word(told: &mut String, word: &str) -> Result<(), Fault> {
+    if !told.is_empty() {
+        told.push(' ')?;
+    }
+    told.push_str(word)?;
+    Ok(())
+}
+
 /// The most calls that are made.
 const MOST: usize = 20;
 
-/// Fetches from a source up to its end.
+/// Tells what is fetched of a source up to its end.
 fn fetch_all(lines: &mut Lines, source: &mut MemSource, told: &mut String) -> Result<(), Fault> {
     for _ in 0..MOST {
         match lines.next(source) {
@@ -80,144 +93,115 @@ fn fetch_all(lines: &mut Lines, source: &mut MemSource, told: &mut String) -> Re
     Err(Fault::NoForm)
 }
 
-pub(super) fn fetch(alloc: Global, rest: &str) -> Result<String, Fault> {
-    let Some((text, numbers)) = rest.split_once(' ') else {
-        return Err(Fault::NoForm);
+/// Tells what a reader fetches of these bytes, from a source that gives so many a call and fails at these calls, from 1.
+fn fetch(
+    alloc: Global,
+    bytes: &[u8],
+    piece: usize,
+    fails: &[u64],
+    told: &mut String,
+) -> Result<(), Fault>
+    requires { 1 ≤ piece }
+{
+    let Ok(mut source) = MemSource::new(alloc, bytes, piece, fails) else {
+        return Err(Fault::HostMemory);
     };
-    let text = text.replace(alloc, '/', "\n")?;
-    let numbers = numbers_of(alloc, numbers)?;
-    let &[piece @ 1.., ref fails @ ..] = numbers.as_slice() else {
-        return Err(Fault::NoForm);
+    let Ok(mut lines) = Lines::new(alloc, 1000) else {
+        return Err(Fault::HostMemory);
     };
-    let mut source = MemSource::new(alloc, text.as_bytes(), piece as usize, fails)?;
-    let mut lines = Lines::new(alloc, 1000)?;
-    let mut told = String::new(alloc);
-    fetch_all(&mut lines, &mut source, &mut told)?;
-    Ok(told)
+    let fetched = fetch_all(&mut lines, &mut source, told);
+    drop(lines);
+    drop(source);
+    fetched
 }
 
-/// Pushes texts one after another.
-fn push_texts(texts: &str, sink: &mut MemSink, told: &mut String) -> Result<(), Fault> {
-    for text in texts.split(',') {
-        match push_all(sink, text.as_bytes()) {
-            Ok(()) => add_word(told, "OK")?,
-            Err(_) => add_word(told, "FAULT")?,
-        }
-    }
+/// A call that fails is answered at once, and the next one goes on.
+#[test]
+fn failed_reads_are_answered_at_once(rt: HostRuntime) -> Result<(), Fail> {
+    let alloc = rt.alloc();
+    let mut told = String::new(alloc);
+    fetch(alloc, b"ab\ncde", 2, &[], &mut told)?;
+    fetch(alloc, b"ab\ncd", 4, &[1, 2, 4, 5], &mut told)?;
+    assert_eq!(rt;
+        told.as_str(),
+        "ab cde END FAULT FAULT ab FAULT FAULT cd END"
+    );
     Ok(())
 }
 
-pub(super) fn push(alloc: Global, rest: &str) -> Result<String, Fault> {
-    let Some((texts, numbers)) = rest.split_once(' ') else {
-        return Err(Fault::NoForm);
-    };
-    let numbers = numbers_of(alloc, numbers)?;
-    let &[piece @ 1.., ref fails @ ..] = numbers.as_slice() else {
-        return Err(Fault::NoForm);
-    };
-    let mut sink = MemSink::new(alloc, 1000, piece as usize, fails)?;
-    let mut told = String::new(alloc);
-    push_texts(texts, &mut sink, &mut told)?;
-    add_word(&mut told, text_of(sink.bytes())?)?;
-    Ok(told)
-}
-
-pub(super) fn count(alloc: Global, texts: &str) -> Result<String, Fault> {
-    let mut sink = CountSink::new();
-    for text in texts.split(',') {
-        if push_all(&mut sink, text.as_bytes()).is_err() {
-            return Err(Fault::NoForm);
-        }
+/// Tells how these bytes are pushed, and what the sink has then.
+fn push_text(sink: &mut MemSink, bytes: &[u8], told: &mut String) -> Result<(), Fault> {
+    match push_all(sink, bytes) {
+        Ok(()) => add_word(told, "OK")?,
+        Err(_) => add_word(told, "FAULT")?,
     }
-    Ok(format!(in alloc; "{}", sink.taken())?)
+    add_word(told, text_of(sink.bytes())?)
 }
 
-pub(super) fn pull(alloc: Global, bytes: &str) -> Result<String, Fault> {
-    let mut source = ReadSource::new(Interrupted {
-        rest: bytes.as_bytes(),
-        fails: true,
-    });
+/// A push that fails is answered at once, and the next one goes on. The sink takes two bytes a call.
+#[test]
+fn failed_pushes_are_answered_at_once(rt: HostRuntime) -> Result<(), Fail> {
+    let alloc = rt.alloc();
     let mut told = String::new(alloc);
+    let Ok(mut sink) = MemSink::new(alloc, 1000, 2, &[2, 3]) else {
+        return Err(Fail::from("room for a sink"));
+    };
+    let first = push_text(&mut sink, b"abcd", &mut told);
+    let second = push_text(&mut sink, b"efgh", &mut told);
+    let third = push_text(&mut sink, b"ijkl", &mut told);
+    drop(sink);
+    first?;
+    second?;
+    third?;
+    assert_eq!(rt; told.as_str(), "FAULT ab FAULT ab OK abijkl");
+    Ok(())
+}
+
+/// Tells what is pulled from a reader up to its end.
+fn pull_all<S: Source>(source: &mut S, told: &mut String) -> Result<(), Fault> {
     for _ in 0..MOST {
         let mut buf = [0u8; 5];
         match source.pull(&mut buf) {
-            Err(_) => add_word(&mut told, "FAULT")?,
-            Ok(0) => {
-                add_word(&mut told, "END")?;
-                return Ok(told);
-            }
-            Ok(n) => add_word(&mut told, text_of(&buf[..n])?)?,
+            Err(_) => add_word(told, "FAULT")?,
+            Ok(0) => return add_word(told, "END"),
+            Ok(n) => add_word(told, text_of(&buf[..n])?)?,
         }
     }
     Err(Fault::NoForm)
 }
 
-/// Returns whether writing and flushing are to fail.
-fn failing(word: &str) -> Result<(bool, bool), Fault> {
-    match word {
-        "never" => Ok((false, false)),
-        "write" => Ok((true, false)),
-        "flush" => Ok((false, true)),
-        _ => Err(Fault::NoForm),
-    }
-}
-
-/// Makes a writer that holds these bytes, and fails so.
-fn writer_of(alloc: Global, fails: (bool, bool), held: &str) -> Result<Holding, Fault> {
-    Ok(Holding {
-        held: Vec::from_slice(alloc, held.as_bytes())?,
-        passed: Vec::new(alloc),
-        write_fails: fails.0,
-        flush_fails: fails.1,
-    })
-}
-
-/// Pushes bytes to a writer, once.
-fn push_to(writer: &mut Holding, bytes: &[u8]) -> &'static str {
-    if bytes.is_empty() {
-        return "NONE";
-    }
-    match WriteSink::new(writer).push(bytes) {
-        Ok(_) => "OK",
-        Err(_) => "FAULT",
-    }
-}
-
-/// Returns what a writer holds and has passed on.
-fn told_of(alloc: Global, answer: &str, writer: &Holding) -> Result<String, Fault> {
-    let held = text_of(writer.held.as_slice())?;
-    let passed = text_of(writer.passed.as_slice())?;
-    Ok(format!(in alloc; "{answer} held={held} passed={passed}")?)
-}
-
-pub(super) fn write(alloc: Global, rest: &str) -> Result<String, Fault> {
-    let Some((fails, rest)) = rest.split_once(' ') else {
-        return Err(Fault::NoForm);
-    };
-    let Some((held, bytes)) = rest.split_once(' ') else {
-        return Err(Fault::NoForm);
-    };
-    let mut writer = writer_of(alloc, failing(fails)?, held)?;
-    let answer = push_to(&mut writer, bytes.as_bytes());
-    told_of(alloc, answer, &writer)
-}
-
-/// A call that fails is answered at once, and the next one goes on. A push is flushed, and what was not written is not.
+/// A read that is interrupted is a fault, and the next one goes on.
 #[test]
-fn failed_calls_are_answered_at_once(rt: HostRuntime) -> Result<(), Fail> {
-    check(
-        rt.alloc(),
-        "\
-fetch ab/cde 2 99 => ab cde END
-fetch ab/cd 4 1 2 4 5 => FAULT FAULT ab FAULT FAULT cd END
-push abcd,efgh,ijkl 2 2 3 => FAULT FAULT OK abijkl
-count ab,,cde => 5
-pull abc => FAULT abc END
-write never  abc => OK held= passed=abc
-write never ab c => OK held= passed=abc
-write flush  de => FAULT held=de passed=
-write write de f => FAULT held=de passed=
-",
-    )?;
+fn interrupted_reads_go_on(rt: HostRuntime) -> Result<(), Fail> {
+    let mut told = String::new(rt.alloc());
+    let mut source = ReadSource::new(Interrupted {
+        rest: b"abc",
+        fails: true,
+    });
+    pull_all(&mut source, &mut told)?;
+    assert_eq!(rt; told.as_str(), "FAULT abc END");
     Ok(())
+}
+
+/// Returns whether a push to a writer is answered with success, and what the writer holds and has passed on then is this.
+fn is_pushed(writer: &mut Holding, bytes: &[u8], went: bool, held: &[u8], passed: &[u8]) -> bool {
+    let pushed = !bytes.is_empty() && WriteSink::new(&mut *writer).push(bytes).is_ok();
+    pushed == went && writer.held.as_slice() == held && writer.passed.as_slice() == passed
+}
+
+/// A push is flushed, and what was not written is not. The second writer fails to flush, and the third to write.
+#[test]
+fn pushes_are_flushed(rt: HostRuntime) {
+    let alloc = rt.alloc();
+    let mut sure = Holding::new(alloc, false, false);
+    let is_sure = is_pushed(&mut sure, b"abc", true, b"", b"abc")
+        && is_pushed(&mut sure, b"d", true, b"", b"abcd");
+    drop(sure);
+    let mut unflushed = Holding::new(alloc, false, true);
+    let is_held = is_pushed(&mut unflushed, b"de", false, b"de", b"");
+    drop(unflushed);
+    let mut unwritten = Holding::new(alloc, true, false);
+    let is_lost = is_pushed(&mut unwritten, b"f", false, b"", b"");
+    drop(unwritten);
+    assert!(rt; is_sure && is_held && is_lost);
 }

@@ -77,10 +77,18 @@ OK
 >16384 #
 >16385 #
 SYNTAX
+>16384 \t
+>16385 \t
+SYNTAX
 >100000 #
 SYNTAX
 > vmo_size v1
 OK 4096
+# Data of 4,096 bytes are read, and longer ones are not.
+>8207 vmo_write v1 0 0
+OK
+>8209 vmo_write v1 0 0
+SYNTAX
 ",
     )
 }
