@@ -35,7 +35,7 @@ pub fn run_batch<P: PageStore, S: Source, K: Sink>(
         EndsAs batch_rules result frames SCRIPT_BYTES (S.remaining source.old) (S.remaining source.new)
         (K.contents sink.old) (K.contents sink.new) (P.content store.new)) }
 
-    // A fault is answered only where the source or the sink failed.
+    // A fault is answered only if the source or the sink failed.
     ensures read_cause { result ≡ Status.ReadFault → HasFailed (S.faults source.old) (S.faults source.new) }
     ensures write_cause { result ≡ Status.WriteFault → HasFailed (K.faults sink.old) (K.faults sink.new) }
 

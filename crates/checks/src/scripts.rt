@@ -4,9 +4,10 @@
 //!
 //!     == WORDS       a script begins, which is run under these words of the command line
 //!     # ..           for the reader, as a blank line is
+//!     LINE => REPLY  the next line of the script, and the next line that the machine is to write
+//!     REPLY          the next line that the machine is to write: OK .., + .., or the name of a refusal
 //!     > LINE         the next line of the script; > alone is an empty one
 //!     >N LINE        the same, with the last character of LINE again and again, up to N bytes
-//!     REPLY          the next line that the machine is to write: OK .., + .., or the name of a refusal
 //!     tree COUNTS    how many hidden nodes, rows and rows with a page frame the clone tree is to have in the end
 //!
 //! Each script is run over the clone tree and over the plain store, on an empty machine each, and once more over the clone

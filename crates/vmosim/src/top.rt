@@ -85,7 +85,7 @@ pub fn top<R: Threads + Wait + Sync, G: Gate, S: Source, K: Sink>(
     ensures read_cause { result ≡ Status.ReadFault → HasFailed (S.faults source.old) (S.faults source.new) }
     ensures write_cause { result ≡ Status.WriteFault → HasFailed (K.faults sink.old) (K.faults sink.new) }
 
-    // But for actors and transcripts, memory is wanted only before anything is read.
+    // Except for actors and transcripts, memory is wanted only before anything is read.
     ensures host_memory { result ≡ Status.HostMemory → frames_asked (codes "actors") words.now ≡ None
         → frames_asked (codes "check") words.now ≡ None → (source.new ≡ source.old) × (sink.new ≡ sink.old) }
 

@@ -15,68 +15,43 @@ fn rows_go_with_those_that_see_them(rt: HostRuntime) -> Result<(), Fail> {
         rt.alloc(),
         "\
 == run
-> vmo_create v1 4096
-OK
-> vmo_write v1 0 11
-OK
-> vmo_create_child v2 v1 snapshot 0 4096
-OK
-> vmo_write v1 0 22
-OK
+vmo_create v1 4096 => OK
+vmo_write v1 0 11 => OK
+vmo_create_child v2 v1 snapshot 0 4096 => OK
+vmo_write v1 0 22 => OK
 tree hidden=1 rows=2 frame_rows=2
 
 == run
-> vmo_create v1 4096
-OK
-> vmo_write v1 0 11
-OK
-> vmo_create_child v2 v1 snapshot 0 4096
-OK
-> vmo_write v1 0 22
-OK
-> vmo_write v2 0 33
-OK
+vmo_create v1 4096 => OK
+vmo_write v1 0 11 => OK
+vmo_create_child v2 v1 snapshot 0 4096 => OK
+vmo_write v1 0 22 => OK
+vmo_write v2 0 33 => OK
 tree hidden=1 rows=2 frame_rows=2
 
 == run
-> vmo_create v1 4096
-OK
-> vmo_write v1 0 11
-OK
-> vmo_create_child v2 v1 snapshot 0 4096
-OK
-> vmo_zero v2 0 4096
-OK
+vmo_create v1 4096 => OK
+vmo_write v1 0 11 => OK
+vmo_create_child v2 v1 snapshot 0 4096 => OK
+vmo_zero v2 0 4096 => OK
 tree hidden=1 rows=2 frame_rows=1
 
 == run
-> vmo_create v1 4096
-OK
-> vmo_write v1 0 11
-OK
-> vmo_create_child v2 v1 snapshot 0 4096
-OK
-> vmo_zero v2 0 4096
-OK
-> vmo_zero v1 0 4096
-OK
+vmo_create v1 4096 => OK
+vmo_write v1 0 11 => OK
+vmo_create_child v2 v1 snapshot 0 4096 => OK
+vmo_zero v2 0 4096 => OK
+vmo_zero v1 0 4096 => OK
 tree hidden=1 rows=1 frame_rows=0
 
 == run
-> vmo_create v1 4096
-OK
-> vmo_write v1 0 11
-OK
-> vmo_create_child v2 v1 snapshot 0 4096
-OK
-> vmo_zero v2 0 4096
-OK
-> vmo_zero v1 0 4096
-OK
-> vmo_create_child v3 v2 snapshot 0 4096
-OK
-> vmo_write v3 0 33
-OK
+vmo_create v1 4096 => OK
+vmo_write v1 0 11 => OK
+vmo_create_child v2 v1 snapshot 0 4096 => OK
+vmo_zero v2 0 4096 => OK
+vmo_zero v1 0 4096 => OK
+vmo_create_child v3 v2 snapshot 0 4096 => OK
+vmo_write v3 0 33 => OK
 tree hidden=2 rows=2 frame_rows=1
 ",
     )

@@ -66,6 +66,9 @@ fn add_to(script: &mut Script, line: &str) -> Result<(), Fault> {
         add_asked(&mut script.lines, asked)
     } else if let Some(counts) = line.strip_prefix("tree ") {
         Ok(script.counts.push_str(counts)?)
+    } else if let Some((asked, reply)) = line.split_once(" => ") {
+        add_line(&mut script.lines, asked)?;
+        add_line(&mut script.replies, reply)
     } else if is_reply(line) {
         add_line(&mut script.replies, line)
     } else if line.is_empty() || line.starts_with('#') {

@@ -14,22 +14,17 @@ fn words_say_how_many_frames(rt: HostRuntime) -> Result<(), Fail> {
         rt.alloc(),
         "\
 == run
-> stat
-OK frames=1024 used=0 free=1024 vmos=0
+stat => OK frames=1024 used=0 free=1024 vmos=0
 
 == run --frames 00007
-> stat
-OK frames=7 used=0 free=7 vmos=0
+stat => OK frames=7 used=0 free=7 vmos=0
 
 == run --frames 65536
-> stat
-OK frames=65536 used=0 free=65536 vmos=0
+stat => OK frames=65536 used=0 free=65536 vmos=0
 
 == run --frames 1
-> stat
-OK frames=1 used=0 free=1 vmos=0
-> stat
-OK frames=1 used=0 free=1 vmos=0
+stat => OK frames=1 used=0 free=1 vmos=0
+stat => OK frames=1 used=0 free=1 vmos=0
 ",
     )
 }
