@@ -1,10 +1,7 @@
 -- The four actors, one by one.
-use Rattle.std.proofs.Common.{◌≡◌, ◌≢◌, ℕ, zero, suc, ◌+◌, ◌<◌, ◌≤◌, length, refl, sym, ◌∙◌, arith}
+use Rattle.std.proofs.Common.{◌≡◌, ◌≢◌, ℕ, zero, suc, ◌+◌, ◌<◌, ◌≤◌, length, refl, arith}
 use Rattle.shared_vm.specs.declared.counts.Counts.{Counts}
-use Rattle.shared_vm.specs.declared.task.Deed.{Deed}
-use Rattle.std.specs.Prelude.{List}
 use Rattle.shared_vm.specs.Tasks.{Lists, tasks_of, task_count}
-use Rattle.shared_vm.specs.Journal.{done_by}
 use Rattle.shared_vm.specs.Rooms.{count_of, raised}
 
 -- what holds of each actor holds of all

@@ -1,24 +1,24 @@
 -- An input that is read line by line.
-use Rattle.std.proofs.Common.{◌≡◌, ℕ, ◌+◌, ◌<◌, ◌≤◌, true, List, [], ◌∷◌, ◌++◌, length, Option, None, Some, Result, Ok, Err, refl, sym, ap, subst, ◌∙◌, append_assoc, arith}
+use Rattle.std.proofs.Common.{◌≡◌, ℕ, ◌+◌, ◌<◌, ◌≤◌, true, List, [], ◌∷◌, ◌++◌, length, Option, Some, Result, Ok, Err, refl, sym, ap, subst, ◌∙◌, arith}
 use Rattle.std.specs.Prelude.{◌^◌, OnOk, IfNone, IfOk, MatchOption, MatchResult}
-use Rattle.std.specs.Io.KnownBytes.{Appends, Consumes}
-use Rattle.std.proofs.KnownBytes.{Appends-nil, Consumes-nil, Consumes-trans}
+use Rattle.std.specs.Io.KnownBytes.{Consumes}
+use Rattle.std.proofs.KnownBytes.{Appends-nil, Consumes-trans}
 use Rattle.std.proofs.lemmas.List.{length-append}
 use Rattle.script_io.specs.declared.status.Status.{Status}
 use Rattle.script_io.specs.declared.status.Status.TheVariants.{Done, Usage, HostMemory, ReadFault, WriteFault, ScriptLimit}
-use Rattle.script_io.specs.Reader.{Reader, HasNoFeed}
+use Rattle.script_io.specs.Reader.{Reader}
 use Rattle.script_io.specs.Fetching.{IsPending, IsFirstLine, Fetches}
 use Rattle.script_io.specs.declared.line_reader.Fetch.TheVariants.{Line, TooLong}
 use Rattle.vm_base.specs.declared.limits.TheConstants.{LINE_BYTES, INPUT_BYTES}
 use Rattle.served.specs.Answering.{Run}
-use Rattle.served.specs.Serving.{IsServed, IsReady, bytes_left}
+use Rattle.served.specs.Serving.{IsReady, bytes_left}
 use Rattle.served.proofs.Served.{IsAnswered, IsServed-answered}
 use Rattle.served.proofs.Beginning.{fresh, IsPending-fresh}
 use Rattle.served.proofs.Answered.{IsReady-answered, bytes_left-answered}
 use Rattle.vm_model.specs.Contents.Content.{nothing}
 use Rattle.shared_vm.specs.declared.task.Task.{Task}
 use Rattle.shared_vm.specs.Tasks.{Lists, no_tasks, task_count, with_task, with_line, with_lines}
-use Rattle.shared_vm.specs.Gathering.{gathering, IsGathered, TakesAtMost, EndsReading, Gathers, GathersAs, lack, told}
+use Rattle.shared_vm.specs.Gathering.{gathering, IsGathered, EndsReading, Gathers, GathersAs, lack, told}
 use Rattle.shared_vm.proofs.TaskLaws.{count-line, with_line-long}
 
 -- the tasks of the lines that were fetched

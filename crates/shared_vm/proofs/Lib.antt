@@ -4,6 +4,8 @@ mod RoomLaws
 mod StartLaws
 mod TurnLaws
 mod TaskLaws
+mod PlaceLaws
+mod TaskPlaceLaws
 mod GatherLaws
 mod TextLaws
 mod OutcomeLaws

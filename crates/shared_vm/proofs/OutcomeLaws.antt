@@ -7,7 +7,6 @@ use Rattle.script_io.specs.Faults.{IsCutOff}
 use Rattle.script_io.specs.declared.status.Status.{Status}
 use Rattle.script_io.specs.declared.status.Status.TheVariants.{Done, Usage, HostMemory, ReadFault, WriteFault, ScriptLimit}
 use Rattle.vm_model.specs.Contents.Content.{Content, nothing, HasNoVmo}
-use Rattle.vm_model.specs.Machine.Machine.{Machine}
 use Rattle.shared_vm.specs.declared.task.Deed.{Deed}
 use Rattle.shared_vm.specs.Tasks.{Lists, lists_of}
 use Rattle.shared_vm.specs.Journal.{JournalRun, IsWhole}

@@ -1,18 +1,17 @@
 -- A room, and one turn more.
-use Rattle.std.proofs.Common.{◌≡◌, ◌≢◌, ℕ, ◌+◌, ◌^◌, ◌<◌, ◌≤◌, ◌==◌, Bool, true, false, List, [], ◌∷◌, ◌++◌, length, get_or, Some, refl, sym, ap, subst, ◌∙◌, arith}
+use Rattle.std.proofs.Common.{◌≡◌, ℕ, ◌+◌, ◌^◌, ◌<◌, ◌≤◌, ◌==◌, true, false, List, [], ◌∷◌, ◌++◌, length, Some, refl, sym, subst, arith}
 use Rattle.std.specs.Prelude.{slice_get}
 use Rattle.std.proofs.lemmas.Bool.{eqb-true, eqb-false}
-use Rattle.std.proofs.lemmas.Option.{slice_get_within, slice_get-get_or}
+use Rattle.std.proofs.lemmas.Option.{slice_get_within}
 use Rattle.vm_base.specs.declared.limits.TheConstants.{KOIDS}
 use Rattle.vm_model.specs.Contents.Content.{Content}
 use Rattle.vm_model.specs.declared.reply.Reply.{Reply}
-use Rattle.vm_model.specs.Machine.Machine.{Machine}
 use Rattle.vm_core.specs.Vm.{Parts, Agrees, machine_of}
 use Rattle.shared_vm.specs.declared.counts.Counts.{Counts}
 use Rattle.shared_vm.specs.declared.task.Task.{Task}
 use Rattle.shared_vm.specs.declared.task.Deed.{Deed}
-use Rattle.shared_vm.specs.Tasks.{Lists, tasks_of, task_count}
-use Rattle.shared_vm.specs.Journal.{done_by, one_by, Does, JournalRun}
+use Rattle.shared_vm.specs.Tasks.{Lists, tasks_of}
+use Rattle.shared_vm.specs.Journal.{done_by, Does, JournalRun}
 use Rattle.shared_vm.specs.Rooms.{Session, IsRoom, TurnsOnce, count_of, raised, machine_in}
 use Rattle.shared_vm.proofs.FourLaws.{fewer, some_of_all, raised_all, raised_own, raised_other}
 use Rattle.shared_vm.proofs.RunLaws.{done_by-more, one_by-own, one_by-other, RunsOn-more}
@@ -22,11 +21,10 @@ abbrev pub with_journal : {S : Type 0} → Session S → List Deed → Parts →
 with_journal s journal vm store = record s { journal = journal; vm = vm; store = store }
 
 -- the task at a place
-pub task_at : (lists : Lists) (actor at count : ℕ) (tasks : List Task) (task : Task) → tasks ≡ tasks_of lists actor → at ≡ count → task ≡ get_or tasks at task → at < length tasks
+pub task_at : (lists : Lists) (actor at count : ℕ) (tasks : List Task) (task : Task) → tasks ≡ tasks_of lists actor → at ≡ count → slice_get tasks at ≡ Some task
     → slice_get (tasks_of lists actor) count ≡ Some task
-task_at lists actor at count tasks task e f is less =
-    subst (λ (ts : List Task). slice_get ts count ≡ Some task) e
-    (subst (λ (n : ℕ). slice_get tasks n ≡ Some task) f (slice_get-get_or tasks at task less ∙ ap (λ (t : Task). Some t) (sym is)))
+task_at lists actor at count tasks task e f is =
+    subst (λ (ts : List Task). slice_get ts count ≡ Some task) e (subst (λ (n : ℕ). slice_get tasks n ≡ Some task) f is)
 
 module _ {S : Type 0} (content : S → Content) (s : Session S) (done : Counts) (len capacity : ℕ) (room : IsRoom content s done len capacity) (actor : ℕ) (le : actor ≤ 3) where
   -- a task is left, so there is room for its deed

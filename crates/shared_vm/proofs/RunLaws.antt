@@ -1,12 +1,15 @@
 -- A run of deeds, and one deed more.
-use Rattle.std.proofs.Common.{◌≡◌, ◌≢◌, ℕ, ◌+◌, ◌≤◌, ◌==◌, Bool, true, false, List, [], ◌∷◌, ◌++◌, length, cond, Some, refl, sym, ap, subst, ◌∙◌, append_assoc, append-nil, arith}
-use Rattle.std.proofs.lemmas.Bool.{eqb-true}
+use Rattle.std.proofs.Common.{◌≡◌, ◌≢◌, ℕ, ◌+◌, ◌≤◌, List, [], ◌∷◌, ◌++◌, cond, refl, sym, ap, subst, append_assoc, append-nil, arith}
 use Rattle.vm_base.proofs.SearchLaws.{eqb_apart}
+use Rattle.vm_base.specs.declared.refusal.Refusal.TheVariants.{Syntax}
+use Rattle.vm_model.specs.declared.command.Command.{Command}
 use Rattle.vm_model.specs.declared.reply.Reply.{Reply}
+use Rattle.vm_model.specs.declared.reply.Reply.TheVariants.{Refused}
 use Rattle.vm_model.specs.Machine.Machine.{Machine}
+use Rattle.vm_model.specs.Machine.MachineStep.{MachineStep}
 use Rattle.shared_vm.specs.declared.task.Task.{Task}
 use Rattle.shared_vm.specs.declared.task.Deed.{Deed}
-use Rattle.shared_vm.specs.Tasks.{Lists, tasks_of}
+use Rattle.shared_vm.specs.Tasks.{Lists}
 use Rattle.shared_vm.specs.Journal.{one_by, done_by, Does, IsNext, RunsOn}
 
 pub done_by-more : (actor : ℕ) (deeds : List Deed) (deed : Deed) → done_by actor (deeds ++ deed ∷ []) ≡ done_by actor deeds + one_by actor deed
@@ -40,3 +43,10 @@ RunsOn-more lists earlier old mid last (d ∷ deeds) deed task run le next does 
   RunsOn-more lists (earlier ++ d ∷ []) run.1 mid last deeds deed task run.5 le
       (subst (λ (ds : List Deed). IsNext lists ds deed task) (sym (append_assoc earlier (d ∷ []) deeds)) next) does,
 )
+
+-- the task of a line does what its command does, or is refused
+pub does_order : (task : Task) (order : Command) (reply : Reply) (old new : Machine) → Task.Order order ≡ task → MachineStep old order reply new → Does task reply old new
+does_order task order reply old new e step = subst (λ (t : Task). Does t reply old new) e step
+
+pub does_outside : (task : Task) (old : Machine) → Task.Outside ≡ task → Does task (Refused Syntax) old old
+does_outside task old e = subst (λ (t : Task). Does t (Refused Syntax) old old) e (refl, refl)

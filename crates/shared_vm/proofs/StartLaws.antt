@@ -1,13 +1,13 @@
 -- A room in which nothing was done yet.
-use Rattle.std.proofs.Common.{◌≡◌, ℕ, ◌+◌, ◌^◌, ◌<◌, ◌≤◌, List, [], length, refl, sym, subst, arith}
+use Rattle.std.proofs.Common.{◌≡◌, ℕ, ◌^◌, ◌<◌, ◌≤◌, List, [], refl, sym, subst, arith}
 use Rattle.vm_model.specs.Contents.Content.{Content, nothing, HasNoVmo}
 use Rattle.vm_core.specs.Vm.{Parts, Agrees, bare_machine, machine_of}
 use Rattle.vm_core.proofs.StartLaws.{filled_fresh, machine_of-filled}
 use Rattle.shared_vm.specs.declared.counts.Counts.{Counts}
 use Rattle.shared_vm.specs.declared.task.Deed.{Deed}
-use Rattle.shared_vm.specs.Tasks.{Lists, tasks_of, task_count}
-use Rattle.shared_vm.specs.Journal.{done_by, JournalRun}
-use Rattle.shared_vm.specs.Rooms.{Session, IsRoom, count_of}
+use Rattle.shared_vm.specs.Tasks.{Lists, task_count}
+use Rattle.shared_vm.specs.Journal.{JournalRun}
+use Rattle.shared_vm.specs.Rooms.{IsRoom, count_of}
 use Rattle.shared_vm.proofs.FourLaws.{by_four}
 
 -- no actor did a task

@@ -4,3 +4,4 @@ pub mod Texts
 pub mod Rooms
 pub mod Gathering
 pub mod Outcome
+pub mod inside

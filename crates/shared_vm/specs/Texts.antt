@@ -1,5 +1,5 @@
 -- How a journal is spelled.
-use Rattle.std.specs.Prelude.{ℕ, ◌==◌, List, [], ◌∷◌, ◌++◌, map, codes, if◌then◌else◌}
+use Rattle.std.specs.Prelude.{ℕ, ◌==◌, List, ◌++◌, map, codes, if◌then◌else◌}
 use Rattle.std.specs.List.{flat_map, concat}
 use Rattle.vm_model.specs.Language.Text.{reply_lines}
 use Rattle.shared_vm.specs.declared.task.Deed.{Deed}

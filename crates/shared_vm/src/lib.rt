@@ -13,12 +13,15 @@
 mod acting;
 mod counts;
 mod gate;
+mod line_room;
+mod place;
 mod reading;
 mod room;
 mod running;
 mod scripts;
 mod sending;
 mod task;
+mod task_list;
 mod writing;
 
 pub use acting::act_all;

@@ -1,22 +1,26 @@
 //! The machine that the actors share, and what they did on it.
 
 ghost use Rattle.std.specs.Prelude.{◌≡◌, ◌+◌, ◌^◌, ◌<◌, ◌≤◌, [], length, vec_len, vec_capacity, IfOk};
-ghost use Rattle.vm_base.specs.declared.limits.TheConstants.{ACTOR_MAX, FRAMES, KOIDS};
+ghost use Rattle.vm_base.specs.declared.limits.TheConstants.{ACTOR_MAX, DATA_BYTES, FRAMES, KOIDS, PIN_PAGES};
 ghost use Rattle.vm_model.specs.Contents.Content.{nothing};
 ghost use Rattle.vm_core.specs.Vm.{Agrees, machine_of};
 ghost use Rattle.shared_vm.specs.Journal.{done_by, Does};
 ghost use Rattle.shared_vm.specs.Rooms.{IsLegal, Turns};
 ghost use Rattle.shared_vm.specs.Tasks.{task_count, tasks_of};
+ghost use Rattle.shared_vm.specs.inside.TaskPlaces.{task_in};
+ghost use Rattle.vm_model.specs.Machine.Lent.{reply_for};
 
 use crate::counts::Counts;
+use crate::line_room::LineRoom;
 use crate::scripts::Scripts;
-use crate::task::{Deed, Task};
+use crate::task::Deed;
 use page_store::PageStore;
+use script_text::read_call;
 use std::alloc::Global;
 use std::marker::Model;
 use vm_base::{HostMemory, Refusal};
 use vm_core::Vm;
-use vm_model::Reply;
+use vm_model::Answer;
 
 /// A machine and its store, the tasks of the actors, and the journal of what they did. Contracts see these, and the number of
 /// page frames that the machine began with. In every room the journal is a run of the machine from nothing but its frames,
@@ -31,6 +35,7 @@ pub struct Room<P: PageStore> {
     done: Counts,
     /// It has room for a deed for each task.
     journal: Vec<Deed>,
+    data: LineRoom,
 }
 
 impl<P: PageStore> Model for Room<P> {
@@ -74,6 +79,7 @@ impl<P: PageStore> Room<P> {
             scripts,
             done: Counts::none(),
             journal,
+            data: LineRoom::new(),
         })
     }
 
@@ -89,7 +95,16 @@ impl<P: PageStore> Room<P> {
         if at >= tasks.len() {
             return false;
         }
-        let reply = reply_to(&mut self.vm, &mut self.store, &tasks[at]);
+        let line = tasks.line(at);
+        let answer = answer_to(
+            &mut self.vm,
+            &mut self.store,
+            line,
+            &mut self.data.written,
+            &mut self.data.read,
+            &mut self.data.pinned,
+        );
+        let reply = answer.into_reply();
         self.journal.push_reserved(Deed { actor, reply });
         self.done = self.done.raised(actor);
         true
@@ -133,16 +148,29 @@ fn journal_for(alloc: Global, count: u64) -> Result<Vec<Deed>, HostMemory>
     Vec::with_capacity(alloc, count as usize).map_err(|_| HostMemory)
 }
 
-/// Does a task, and returns the machine's reply.
-fn reply_to<P: PageStore>(vm: &mut Vm, store: &mut P, task: &Task) -> Reply
+/// Does the task of a line, and returns the machine's answer. The bytes that the task writes are decoded to `written`. The answer
+/// borrows the bytes that it read from `read`, and the frames of pages that it pinned from `pinned`.
+fn answer_to<'a, P: PageStore>(
+    vm: &mut Vm,
+    store: &mut P,
+    line: &[u8],
+    written: &mut [u8],
+    read: &'a mut [u8],
+    pinned: &'a mut [u64],
+) -> Answer<'a>
+    requires written { DATA_BYTES ≤ length written.old }
+    requires read { DATA_BYTES ≤ length read.old }
+    requires pinned { PIN_PAGES ≤ length pinned.old }
     requires agrees { Agrees (P.content store.old) vm.old }
     requires next { (P.content store.old).next < KOIDS }
-    ensures does { Does task.now result (machine_of (P.content store.old) vm.old) (machine_of (P.content store.new) vm.new) }
+    ensures does { Does (task_in line.now) (reply_for result) (machine_of (P.content store.old) vm.old)
+        (machine_of (P.content store.new) vm.new) }
     ensures agrees { Agrees (P.content store.new) vm.new }
     ensures next { (P.content store.new).next ≤ (P.content store.old).next + 1 }
 {
-    match task {
-        Task::Order(command) => vm.step(store, command),
-        Task::Outside => Reply::Refused(Refusal::Syntax),
+    match read_call(line, written) {
+        Ok(Some(call)) => vm.answer(store, &call, read, pinned),
+        Ok(None) => Answer::Refused(Refusal::Syntax),
+        Err(_) => Answer::Refused(Refusal::Syntax),
     }
 }

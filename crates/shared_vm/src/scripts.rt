@@ -1,24 +1,25 @@
 //! The tasks of the actors.
 
-ghost use Rattle.std.specs.Prelude.{◌≡◌, ◌+◌, ◌^◌, ◌<◌, ◌≤◌, [], ◌∷◌, ◌++◌, length, OnOk, OnErr};
+ghost use Rattle.std.specs.Prelude.{◌≡◌, ◌+◌, ◌^◌, ◌<◌, ◌≤◌, length, OnOk, OnErr};
 ghost use Rattle.vm_base.specs.declared.limits.TheConstants.{LINE_BYTES};
 ghost use Rattle.vm_model.specs.Language.Reading.{reading_of_words, words, is_comment};
 ghost use Rattle.shared_vm.specs.Tasks.{actor_of, no_tasks, task_count, tasks_of, with_behind, with_line, with_reading, with_task};
+ghost use Rattle.shared_vm.specs.inside.TaskPlaces.{is_silent, task_in};
 ghost use Rattle.shared_vm.specs.declared.task.Task.TheVariants.{Outside};
 
-use crate::task::Task;
-use script_text::{Line, next_word, read_line};
+use crate::task_list::TaskList;
+use script_text::next_word;
 use std::alloc::Global;
 use std::marker::Model;
 use vm_base::{HostMemory, LINE_BYTES};
 
-/// The tasks of the actors a0 to a3, four lists. Contracts see them as these lists.
+/// The tasks of the actors a0 to a3, kept as the bytes of their lines. Contracts see four lists of tasks.
 #[derive(Drop)]
 pub struct Scripts {
-    a0: Vec<Task>,
-    a1: Vec<Task>,
-    a2: Vec<Task>,
-    a3: Vec<Task>,
+    a0: TaskList,
+    a1: TaskList,
+    a2: TaskList,
+    a3: TaskList,
 }
 
 impl Model for Scripts {
@@ -26,7 +27,7 @@ impl Model for Scripts {
 
     ghost Value = { Lists };
 
-    ghost view = { λ s. record { a0 = s.a0.items; a1 = s.a1.items; a2 = s.a2.items; a3 = s.a3.items } };
+    ghost view = { λ s. record { a0 = s.a0; a1 = s.a1; a2 = s.a2; a3 = s.a3 } };
 }
 
 impl Scripts {
@@ -35,10 +36,10 @@ impl Scripts {
         ensures { result ≡ no_tasks }
     {
         Scripts {
-            a0: Vec::new(alloc),
-            a1: Vec::new(alloc),
-            a2: Vec::new(alloc),
-            a3: Vec::new(alloc),
+            a0: TaskList::new(alloc),
+            a1: TaskList::new(alloc),
+            a2: TaskList::new(alloc),
+            a3: TaskList::new(alloc),
         }
     }
 
@@ -63,7 +64,8 @@ impl Scripts {
         ensures ok { OnOk result (self.new ≡ with_task self.old 0 Outside) }
         ensures err { OnErr result (self.new ≡ self.old) }
     {
-        self.push(0, Task::Outside)
+        // A line of no bytes is no command.
+        self.push(0, &[])
     }
 
     /// Adds the task of a line with this first word.
@@ -86,35 +88,34 @@ impl Scripts {
         ensures ok { OnOk result (self.new ≡ with_reading self.old actor (reading_of_words (words behind.now))) }
         ensures err { OnErr result (self.new ≡ self.old) }
     {
-        match read_line(behind) {
-            Ok(Line::Blank) => Ok(()),
-            Ok(Line::Order(command)) => self.push(actor, Task::Order(command)),
-            Err(_) => self.push(actor, Task::Outside),
+        if is_silent(behind) {
+            return Ok(());
         }
+        self.push(actor, behind)
     }
 
-    /// Adds a task of an actor.
-    fn push(&mut self, actor: u32, task: Task) -> Result<(), HostMemory>
-        ensures ok { OnOk result (self.new ≡ with_task self.old actor task) }
+    /// Adds the task of a line to an actor.
+    fn push(&mut self, actor: u32, line: &[u8]) -> Result<(), HostMemory>
+        ensures ok { OnOk result (self.new ≡ with_task self.old actor (task_in line.now)) }
         ensures err { OnErr result (self.new ≡ self.old) }
     {
         match actor {
-            0 => push_to(&mut self.a0, task),
-            1 => push_to(&mut self.a1, task),
-            2 => push_to(&mut self.a2, task),
-            _ => push_to(&mut self.a3, task),
+            0 => self.a0.push(line),
+            1 => self.a1.push(line),
+            2 => self.a2.push(line),
+            _ => self.a3.push(line),
         }
     }
 
     /// Returns the tasks of an actor.
-    pub(crate) fn tasks(&self, actor: u32) -> &[Task]
+    pub(crate) fn tasks(&self, actor: u32) -> &TaskList
         ensures { result.now ≡ tasks_of self.now actor }
     {
         match actor {
-            0 => self.a0.as_slice(),
-            1 => self.a1.as_slice(),
-            2 => self.a2.as_slice(),
-            _ => self.a3.as_slice(),
+            0 => &self.a0,
+            1 => &self.a1,
+            2 => &self.a2,
+            _ => &self.a3,
         }
     }
 
@@ -124,17 +125,6 @@ impl Scripts {
         ensures { result ≡ task_count self.now }
     {
         (self.a0.len() + self.a1.len() + self.a2.len() + self.a3.len()) as u64
-    }
-}
-
-/// Adds a task behind those of a list.
-fn push_to(tasks: &mut Vec<Task>, task: Task) -> Result<(), HostMemory>
-    ensures ok { OnOk result (tasks.new.items ≡ tasks.old.items ++ task ∷ []) }
-    ensures err { OnErr result (tasks.new.items ≡ tasks.old.items) }
-{
-    match tasks.push(task) {
-        Ok(()) => Ok(()),
-        Err(_) => Err(HostMemory),
     }
 }
 
@@ -160,4 +150,14 @@ fn is_comment(word: &[u8]) -> bool
     ensures { result ≡ is_comment word.now }
 {
     matches!(word, [b'#', ..])
+}
+
+/// Reports whether a line says nothing: it has no word, or it is a comment.
+fn is_silent(line: &[u8]) -> bool
+    ensures { result ≡ is_silent (words line.now) }
+{
+    match next_word(line) {
+        Some((word, _)) => is_comment(word),
+        None => true,
+    }
 }

@@ -1,4 +1,4 @@
-use Rattle.std.proofs.Common.{[], Some, Err, refl, ap, ◌∙◌, sym, arith}
+use Rattle.std.proofs.Common.{[], Some, ap, ◌∙◌, sym, arith}
 use Rattle.std.proofs.KnownBytes.{Consumes-nil}
 use Rattle.served.proofs.Beginning.{HasFailed-earlier, IsServed-fresh}
 use Rattle.vm_base.specs.declared.limits.TheConstants.{INPUT_BYTES}
