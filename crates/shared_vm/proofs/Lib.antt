@@ -7,5 +7,6 @@ mod TaskLaws
 mod PlaceLaws
 mod TaskPlaceLaws
 mod GatherLaws
+mod PendingLaws
 mod TextLaws
 mod OutcomeLaws

@@ -14,6 +14,7 @@ mod acting;
 mod counts;
 mod gate;
 mod line_room;
+mod pending;
 mod place;
 mod reading;
 mod room;

@@ -1,24 +1,21 @@
 //! Writing the text of a journal.
 
-ghost use Rattle.std.specs.Prelude.{◌≡◌, ◌+◌, ◌<◌, ◌≤◌, length, take, slice_get, Some, OnOk, OnErr};
+ghost use Rattle.std.specs.Prelude.{◌≡◌, ◌≤◌, ◌++◌, length, OnOk, OnErr};
 ghost use Rattle.std.specs.Io.KnownBytes.{Appends};
 ghost use Rattle.script_io.specs.Faults.{HasCause, IsCutOff};
-ghost use Rattle.vm_model.specs.Language.Text.{reply_lines};
-ghost use Rattle.shared_vm.specs.Texts.{actor_text, deed_lines, deed_text, journal_text};
+ghost use Rattle.shared_vm.specs.Texts.{actor_text, deed_text, journal_text};
+ghost use Rattle.shared_vm.specs.inside.Pending.{PassesOn};
 
+use crate::pending::{PENDING_BYTES, PendingText};
 use crate::task::Deed;
 use reply_text::{line_count, write_line};
-use script_io::{Sink, push_all};
+use script_io::Sink;
 use vm_base::{Failed, TEXT_ROOM};
-use word_text::put;
-
-/// The number of bytes before each line: an actor's name and a space.
-const NAME_BYTES: usize = 3;
 
 /// Returns an actor's name and a space.
 fn actor_text(actor: u32) -> &'static [u8]
     ensures text { result.now ≡ actor_text actor }
-    ensures len { length result.now ≡ NAME_BYTES }
+    ensures short { length result.now ≤ 3 }
 {
     match actor {
         0 => b"a0 ",
@@ -28,36 +25,39 @@ fn actor_text(actor: u32) -> &'static [u8]
     }
 }
 
-/// Writes a line of a deed's reply behind its actor's name to the front of `text`, and answers where it ends. The line without
-/// the name is written to `line` before.
-fn write_deed_line(deed: &Deed, index: u64, line: &mut [u8], text: &mut [u8]) -> usize
-    requires index { index < length (reply_lines deed.now.reply) }
-    requires line { TEXT_ROOM ≤ length line.old }
-    requires text { NAME_BYTES + TEXT_ROOM ≤ length text.old }
-    ensures line { slice_get (deed_lines deed.now) index ≡ Some (take result text.new) }
-    ensures end { result ≤ length text.new }
+/// Adds a line of a deed, behind its actor's name, to the text that waits for a sink. `Failed` if the sink failed.
+fn add_line<K: Sink>(
+    sink: &mut K,
+    actor: u32,
+    line: &[u8],
+    pending: &mut PendingText,
+) -> Result<(), Failed>
+    requires { length line.now ≤ PENDING_BYTES }
+    ensures ok { OnOk result (PassesOn (K.contents sink.old) pending.old (actor_text actor ++ line.now)
+        (K.contents sink.new) pending.new) }
+    ensures err { OnErr result (IsCutOff (K.contents sink.old) (K.contents sink.new)
+        (pending.old ++ (actor_text actor ++ line.now))) }
+    ensures cause { HasCause (K.faults sink.old) (K.faults sink.new) result }
 {
-    let len = write_line(&deed.reply, index, line);
-    let start = put(actor_text(deed.actor), text, 0);
-    put(&line[..len], text, start)
+    pending.add(sink, actor_text(actor))?;
+    pending.add(sink, line)
 }
 
-/// Pushes the text of a deed, line by line. `Failed` if the sink failed. It then took a front part of the text.
-fn push_deed<K: Sink>(
+/// Adds the text of a deed, line by line, to the text that waits for a sink. `Failed` if the sink failed.
+fn add_deed<K: Sink>(
     sink: &mut K,
     deed: &Deed,
     line: &mut [u8],
-    text: &mut [u8],
+    pending: &mut PendingText,
 ) -> Result<(), Failed>
-    requires line { TEXT_ROOM ≤ length line.old }
-    requires text { NAME_BYTES + TEXT_ROOM ≤ length text.old }
-    ensures ok { OnOk result (Appends (K.contents sink.old) (K.contents sink.new) (deed_text deed.now)) }
-    ensures err { OnErr result (IsCutOff (K.contents sink.old) (K.contents sink.new) (deed_text deed.now)) }
+    requires { TEXT_ROOM ≤ length line.old }
+    ensures ok { OnOk result (PassesOn (K.contents sink.old) pending.old (deed_text deed.now) (K.contents sink.new) pending.new) }
+    ensures err { OnErr result (IsCutOff (K.contents sink.old) (K.contents sink.new) (pending.old ++ deed_text deed.now)) }
     ensures cause { HasCause (K.faults sink.old) (K.faults sink.new) result }
 {
     for index in 0..line_count(&deed.reply) {
-        let end = write_deed_line(deed, index, line, text);
-        push_all(sink, &text[..end])?;
+        let len = write_line(&deed.reply, index, line);
+        add_line(sink, deed.actor, &line[..len], pending)?;
     }
     Ok(())
 }
@@ -70,9 +70,9 @@ pub(crate) fn push_journal<K: Sink>(sink: &mut K, journal: &[Deed]) -> Result<()
     ensures cause { HasCause (K.faults sink.old) (K.faults sink.new) result }
 {
     let mut line = [0; TEXT_ROOM];
-    let mut text = [0; NAME_BYTES + TEXT_ROOM];
+    let mut pending = PendingText::new();
     for deed in journal {
-        push_deed(sink, deed, &mut line, &mut text)?;
+        add_deed(sink, deed, &mut line, &mut pending)?;
     }
-    Ok(())
+    pending.flush(sink)
 }

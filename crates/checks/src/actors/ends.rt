@@ -50,7 +50,7 @@ fn runs_end_early(rt: HostRuntime) -> Result<(), Fail> {
     let input = "a2 vmo_create v1 4096\na2 vmo_size v1\n";
     for (words, pull, push, status, written) in [
         ("actors", 1, NEVER, Status::ReadFault, ""),
-        ("actors", NEVER, 4, Status::WriteFault, "a2 OK\na2 OK"),
+        ("actors", NEVER, 4, Status::WriteFault, "a2 OK\na2 OK 409"),
         ("actors a", NEVER, NEVER, Status::Usage, ""),
     ] {
         let run = Run {
