@@ -6,6 +6,7 @@ mod TurnLaws
 mod TaskLaws
 mod PlaceLaws
 mod TaskPlaceLaws
+mod NotingLaws
 mod GatherLaws
 mod PendingLaws
 mod TextLaws

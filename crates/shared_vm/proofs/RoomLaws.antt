@@ -2,6 +2,7 @@
 use Rattle.std.proofs.Common.{◌≡◌, ℕ, ◌+◌, ◌^◌, ◌<◌, ◌≤◌, ◌==◌, true, false, List, [], ◌∷◌, ◌++◌, length, Some, refl, sym, subst, arith}
 use Rattle.std.specs.Prelude.{slice_get}
 use Rattle.std.proofs.lemmas.Bool.{eqb-true, eqb-false}
+use Rattle.std.proofs.lemmas.List.{length_push}
 use Rattle.std.proofs.lemmas.Option.{slice_get_within}
 use Rattle.vm_base.specs.declared.limits.TheConstants.{KOIDS}
 use Rattle.vm_model.specs.Contents.Content.{Content}
@@ -26,9 +27,9 @@ pub task_at : (lists : Lists) (actor at count : ℕ) (tasks : List Task) (task :
 task_at lists actor at count tasks task e f is =
     subst (λ (ts : List Task). slice_get ts count ≡ Some task) e (subst (λ (n : ℕ). slice_get tasks n ≡ Some task) f is)
 
-module _ {S : Type 0} (content : S → Content) (s : Session S) (done : Counts) (len capacity : ℕ) (room : IsRoom content s done len capacity) (actor : ℕ) (le : actor ≤ 3) where
+module _ {S : Type 0} (content : S → Content) (s : Session S) (done : Counts) (spare : ℕ) (room : IsRoom content s done spare) (actor : ℕ) (le : actor ≤ 3) where
   -- a task is left, so there is room for its deed
-  pub room_left : count_of done actor < length (tasks_of s.lists actor) → len < capacity
+  pub room_left : count_of done actor < length (tasks_of s.lists actor) → 0 < spare
   room_left less = omega (arith, room.all, room.room, fewer s.lists done actor le room.within less)
 
   pub count_small : count_of done actor < length (tasks_of s.lists actor) → count_of done actor + 1 < 2 ^ 64
@@ -68,29 +69,28 @@ module _ {S : Type 0} (content : S → Content) (s : Session S) (done : Counts) 
       | false ↦ λ e. omega (arith, raised_other done actor a le less (eqb-false actor a e), room.within a less)
     ] refl
 
-    IsRoom-turned : Agrees (content store) vm → (content store).next ≤ (content s.store).next + 1
-        → IsRoom content (with_journal s (s.journal ++ deed ∷ []) vm store) (raised done actor) (len + 1) capacity
-    IsRoom-turned agrees koids = record {
-      legal = legal;
-      agrees = agrees;
-      koids = omega (arith, koids, room.koids);
-      few = room.few;
-      counted = counted;
-      within = within;
-      all = omega (arith, room.all, raised_all done actor le);
-      room = room.room;
-    }
+    IsRoom-turned : (spare_after : ℕ) → Agrees (content store) vm → (content store).next ≤ (content s.store).next + 1 → spare ≤ spare_after + 1
+        → IsRoom content (with_journal s (s.journal ++ deed ∷ []) vm store) (raised done actor) spare_after
+    IsRoom-turned spare_after agrees koids left =
+        let one : length (s.journal ++ deed ∷ []) ≡ length s.journal + 1 = length_push s.journal deed in
+        record {
+          legal = legal;
+          agrees = agrees;
+          koids = omega (arith, koids, room.koids, one);
+          few = room.few;
+          counted = counted;
+          within = within;
+          all = omega (arith, room.all, raised_all done actor le, one);
+          room = omega (arith, room.room, left, one);
+        }
 
     -- the same by what its parts are equal to
-    pub IsRoom-after : (journal : List Deed) (after : Counts) (len_after capacity_after : ℕ) → Agrees (content store) vm → (content store).next ≤ (content s.store).next + 1
-        → journal ≡ s.journal ++ deed ∷ [] → after ≡ raised done actor → len_after ≡ len + 1 → capacity_after ≡ capacity
-        → IsRoom content (with_journal s journal vm store) after len_after capacity_after
-    IsRoom-after journal after len_after capacity_after agrees koids e f g h =
-        subst (λ (j : List Deed). IsRoom content (with_journal s j vm store) after len_after capacity_after) (sym e)
-        (subst (λ (d : Counts). IsRoom content (with_journal s (s.journal ++ deed ∷ []) vm store) d len_after capacity_after) (sym f)
-        (subst (λ (n : ℕ). IsRoom content (with_journal s (s.journal ++ deed ∷ []) vm store) (raised done actor) n capacity_after) (sym g)
-        (subst (λ (n : ℕ). IsRoom content (with_journal s (s.journal ++ deed ∷ []) vm store) (raised done actor) (len + 1) n) (sym h)
-        (IsRoom-turned agrees koids))))
+    pub IsRoom-after : (journal : List Deed) (after : Counts) (spare_after : ℕ) → Agrees (content store) vm → (content store).next ≤ (content s.store).next + 1
+        → journal ≡ s.journal ++ deed ∷ [] → after ≡ raised done actor → spare ≤ spare_after + 1 → IsRoom content (with_journal s journal vm store) after spare_after
+    IsRoom-after journal after spare_after agrees koids e f left =
+        subst (λ (j : List Deed). IsRoom content (with_journal s j vm store) after spare_after) (sym e)
+        (subst (λ (d : Counts). IsRoom content (with_journal s (s.journal ++ deed ∷ []) vm store) d spare_after) (sym f)
+        (IsRoom-turned spare_after agrees koids left))
 
     pub TurnsOnce-after : (journal : List Deed) → journal ≡ s.journal ++ deed ∷ [] → TurnsOnce content s (with_journal s journal vm store) actor
     TurnsOnce-after journal e = record {

@@ -25,9 +25,9 @@ module _ {S : Type 0} (content : S → Content) (frames : ℕ) (lists : Lists) (
   legal : JournalRun frames lists [] (machine_of (content store) vm)
   legal = record { run = machine_of-filled frames (content store) before vm bare filled empty }
 
-  start : (capacity : ℕ) → task_count lists < 2 ^ 32 → task_count lists ≤ capacity
-      → IsRoom content (record { frames = frames; lists = lists; journal = []; vm = vm; store = store }) no_counts 0 capacity
-  start capacity few room = record {
+  start : (spare : ℕ) → task_count lists < 2 ^ 32 → task_count lists ≤ spare
+      → IsRoom content (record { frames = frames; lists = lists; journal = []; vm = vm; store = store }) no_counts spare
+  start spare few room = record {
     legal = legal;
     agrees = agrees (content store) (filled_fresh frames (content store) before filled empty).0 (omega (arith, first));
     koids = omega (arith, first);
@@ -35,16 +35,15 @@ module _ {S : Type 0} (content : S → Content) (frames : ℕ) (lists : Lists) (
     counted = none;
     within = λ actor le. omega (arith, none actor le);
     all = refl;
-    room = room;
+    room = omega (arith, room);
   }
 
   pub legal_start : (journal : List Deed) → journal ≡ [] → JournalRun frames lists journal (machine_of (content store) vm)
   legal_start journal e = subst (λ (j : List Deed). JournalRun frames lists j (machine_of (content store) vm)) (sym e) legal
 
-  pub IsRoom-start : (journal : List Deed) (done : Counts) (len capacity : ℕ) → task_count lists < 2 ^ 32 → journal ≡ [] → done ≡ no_counts → len ≡ 0 → task_count lists ≤ capacity
-      → IsRoom content (record { frames = frames; lists = lists; journal = journal; vm = vm; store = store }) done len capacity
-  IsRoom-start journal done len capacity few e f g room =
-      subst (λ (j : List Deed). IsRoom content (record { frames = frames; lists = lists; journal = j; vm = vm; store = store }) done len capacity) (sym e)
-      (subst (λ (d : Counts). IsRoom content (record { frames = frames; lists = lists; journal = []; vm = vm; store = store }) d len capacity) (sym f)
-      (subst (λ (n : ℕ). IsRoom content (record { frames = frames; lists = lists; journal = []; vm = vm; store = store }) no_counts n capacity) (sym g)
-      (start capacity few room)))
+  pub IsRoom-start : (journal : List Deed) (done : Counts) (spare : ℕ) → task_count lists < 2 ^ 32 → journal ≡ [] → done ≡ no_counts → task_count lists ≤ spare
+      → IsRoom content (record { frames = frames; lists = lists; journal = journal; vm = vm; store = store }) done spare
+  IsRoom-start journal done spare few e f room =
+      subst (λ (j : List Deed). IsRoom content (record { frames = frames; lists = lists; journal = j; vm = vm; store = store }) done spare) (sym e)
+      (subst (λ (d : Counts). IsRoom content (record { frames = frames; lists = lists; journal = []; vm = vm; store = store }) d spare) (sym f)
+      (start spare few room))

@@ -8,7 +8,7 @@ use Rattle.vm_model.specs.Language.Reading.{Reading, Blank, Order, Outside, read
 use Rattle.vm_model.specs.declared.command.Command.{Command}
 use Rattle.shared_vm.specs.declared.task.Task.{Task}
 use Rattle.shared_vm.specs.Tasks.{Lists, task_count, with_task, actor_of, with_reading, with_behind, with_words, with_line}
-use Rattle.shared_vm.specs.inside.TaskPlaces.{task_in, task_of_reading, is_silent}
+use Rattle.shared_vm.specs.inside.TaskPlaces.{task_of_line, task_of_reading, says_nothing}
 
 -- a line within the limit is read by its words
 short_test : (line : List ℕ) → length line ≤ LINE_BYTES → nat_lt LINE_BYTES (length line) ≡ false
@@ -80,7 +80,7 @@ line_words lists new line word behind result short e ok =
     (subst (λ (ws : List (List ℕ)). OnOk result (new ≡ with_words lists ws)) (sym e) ok)
 
 -- a line that says nothing gives no task
-silent_words : (lists : Lists) (actor : ℕ) (ws : List (List ℕ)) → is_silent ws ≡ true → lists ≡ with_reading lists actor (reading_of_words ws)
+silent_words : (lists : Lists) (actor : ℕ) (ws : List (List ℕ)) → says_nothing ws ≡ true → lists ≡ with_reading lists actor (reading_of_words ws)
 silent_words lists actor [] e = refl
 silent_words lists actor (word ∷ ws) e =
     ap (λ t. with_reading lists actor (cond t Blank (order_or_outside (command word ws)))) (sym e)
@@ -90,42 +90,42 @@ loud_order : (lists : Lists) (actor : ℕ) (o : Option Command) → with_task li
 loud_order lists actor None = refl
 loud_order lists actor (Some c) = refl
 
-loud_words : (lists : Lists) (actor : ℕ) (ws : List (List ℕ)) → is_silent ws ≡ false
+loud_words : (lists : Lists) (actor : ℕ) (ws : List (List ℕ)) → says_nothing ws ≡ false
     → with_task lists actor (task_of_reading (reading_of_words ws)) ≡ with_reading lists actor (reading_of_words ws)
 loud_words lists actor [] e = absurd cc
 loud_words lists actor (word ∷ ws) e =
     subst (λ t. with_task lists actor (task_of_reading (cond t Blank (order_or_outside (command word ws)))) ≡ with_reading lists actor (cond t Blank (order_or_outside (command word ws))))
     (sym e) (loud_order lists actor (command word ws))
 
-pub read_silent : (lists : Lists) (actor : ℕ) (behind : List ℕ) (test : Bool) → test ≡ is_silent (words behind) → test ≡ true
+pub read_silent : (lists : Lists) (actor : ℕ) (behind : List ℕ) (test : Bool) → test ≡ says_nothing (words behind) → test ≡ true
     → lists ≡ with_reading lists actor (reading_of_words (words behind))
 read_silent lists actor behind test is e = silent_words lists actor (words behind) (sym is ∙ e)
 
 pub read_loud : {T E : Type 0} (lists new : Lists) (actor : ℕ) (behind : List ℕ) (test : Bool) (result : Result T E) → length behind ≤ LINE_BYTES
-    → test ≡ is_silent (words behind) → test ≡ false → OnOk result (new ≡ with_task lists actor (task_in behind))
+    → test ≡ says_nothing (words behind) → test ≡ false → OnOk result (new ≡ with_task lists actor (task_of_line behind))
     → OnOk result (new ≡ with_reading lists actor (reading_of_words (words behind)))
 read_loud lists new actor behind test result short is e ok =
     let loud = loud_words lists actor (words behind) (sym is ∙ e) in
-    let same : with_task lists actor (task_in behind) ≡ with_reading lists actor (reading_of_words (words behind))
+    let same : with_task lists actor (task_of_line behind) ≡ with_reading lists actor (reading_of_words (words behind))
     = ap (λ (r : Reading). with_task lists actor (task_of_reading r)) (reading-short behind short) ∙ loud in
     subst (λ (l : Lists). OnOk result (new ≡ l)) same ok
 
 -- a line of no bytes is outside the grammar
-pub task_in-none : task_in [] ≡ Task.Outside
+pub task_of_line-none : task_of_line [] ≡ Task.Outside
 unfolding reading words
-task_in-none = refl
+task_of_line-none = refl
 
-pub pushed_none : {T E : Type 0} (lists new : Lists) (result : Result T E) → OnOk result (new ≡ with_task lists 0 (task_in [])) → OnOk result (new ≡ with_task lists 0 Task.Outside)
-pushed_none lists new result ok = subst (λ (t : Task). OnOk result (new ≡ with_task lists 0 t)) task_in-none ok
+pub pushed_none : {T E : Type 0} (lists new : Lists) (result : Result T E) → OnOk result (new ≡ with_task lists 0 (task_of_line [])) → OnOk result (new ≡ with_task lists 0 Task.Outside)
+pushed_none lists new result ok = subst (λ (t : Task). OnOk result (new ≡ with_task lists 0 t)) task_of_line-none ok
 
 -- what a line says, once it is read
-pub task_order : (line : List ℕ) (order : Command) → Order order ≡ reading line → Task.Order order ≡ task_in line
+pub task_order : (line : List ℕ) (order : Command) → Order order ≡ reading line → Task.Order order ≡ task_of_line line
 task_order line order e = ap task_of_reading e
 
-pub task_blank : (line : List ℕ) → Blank ≡ reading line → Task.Outside ≡ task_in line
+pub task_blank : (line : List ℕ) → Blank ≡ reading line → Task.Outside ≡ task_of_line line
 task_blank line e = ap task_of_reading e
 
-pub task_outside : (line : List ℕ) → Outside ≡ reading line → Task.Outside ≡ task_in line
+pub task_outside : (line : List ℕ) → Outside ≡ reading line → Task.Outside ≡ task_of_line line
 task_outside line e = ap task_of_reading e
 
 pub named : {T E : Type 0} (lists new : Lists) (word : List ℕ) (behind : List (List ℕ)) (actor : ℕ) (o : Option ℕ) (result : Result T E) → Some actor ≡ o

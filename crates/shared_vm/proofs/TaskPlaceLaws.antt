@@ -6,22 +6,22 @@ use Rattle.std.proofs.lemmas.List.Elements.{All-head, All-tail, All-push, All-we
 use Rattle.std.proofs.lemmas.Option.{slice_get-map}
 use Rattle.shared_vm.specs.declared.task.Task.{Task}
 use Rattle.shared_vm.specs.declared.place.Place.{Place}
-use Rattle.shared_vm.specs.inside.Places.{IsWithin, part_at}
-use Rattle.shared_vm.specs.inside.TaskPlaces.{AreWithin, task_at, tasks_at, task_in}
-use Rattle.shared_vm.proofs.PlaceLaws.{part-more, IsWithin-more, part-added, IsWithin-added}
+use Rattle.shared_vm.specs.inside.Places.{LiesWithin, items_at}
+use Rattle.shared_vm.specs.inside.TaskPlaces.{AreWithin, task_at, tasks_at, task_of_line}
+use Rattle.shared_vm.proofs.PlaceLaws.{part-more, LiesWithin-more, part-added, LiesWithin-added}
 
 -- the tasks stay, whatever is added behind their lines
 tasks-more : (bytes more : List ℕ) (places : List Place) → AreWithin bytes places → tasks_at (bytes ++ more) places ≡ tasks_at bytes places
 tasks-more bytes more [] within = refl
 tasks-more bytes more (place ∷ places) within =
     let first : task_at (bytes ++ more) place ≡ task_at bytes place
-    = ap task_in (part-more bytes more place (All-head (IsWithin (length bytes)) place places within)) in
+    = ap task_of_line (part-more bytes more place (All-head (LiesWithin (length bytes)) place places within)) in
     ap (λ (t : Task). t ∷ tasks_at (bytes ++ more) places) first
-    ∙ ap (λ (ts : List Task). task_at bytes place ∷ ts) (tasks-more bytes more places (All-tail (IsWithin (length bytes)) place places within))
+    ∙ ap (λ (ts : List Task). task_at bytes place ∷ ts) (tasks-more bytes more places (All-tail (LiesWithin (length bytes)) place places within))
 
 within-more : (bytes more : List ℕ) (places : List Place) → AreWithin bytes places → AreWithin (bytes ++ more) places
 within-more bytes more places within =
-    All-weaker (IsWithin (length bytes)) (IsWithin (length (bytes ++ more))) (λ place here. IsWithin-more bytes more place here) places within
+    All-weaker (LiesWithin (length bytes)) (LiesWithin (length (bytes ++ more))) (λ place here. LiesWithin-more bytes more place here) places within
 
 -- a line whose place could not be kept
 module _ (old new line : List ℕ) (places after : List Place) (within : AreWithin old places) (is_new : new ≡ old ++ line) (same : after ≡ places) where
@@ -44,18 +44,18 @@ module _ (old new line : List ℕ) (places after : List Place) (place : Place) (
   within_added =
       subst (λ (bytes : List ℕ). AreWithin bytes after) (sym is_new)
       (subst (λ (ps : List Place). AreWithin (old ++ line) ps) (sym is_after)
-      (All-push (IsWithin (length (old ++ line))) places place (within-more old line places within) (IsWithin-added old line place start ends)))
+      (All-push (LiesWithin (length (old ++ line))) places place (within-more old line places within) (LiesWithin-added old line place start ends)))
 
-  pub tasks_added : tasks_at new after ≡ tasks_at old places ++ task_in line ∷ []
+  pub tasks_added : tasks_at new after ≡ tasks_at old places ++ task_of_line line ∷ []
   tasks_added =
       ap (λ (bytes : List ℕ). tasks_at bytes after) is_new
       ∙ ap (λ (ps : List Place). tasks_at (old ++ line) ps) is_after
       ∙ map_push (task_at (old ++ line)) places place
-      ∙ ap (λ (t : Task). tasks_at (old ++ line) places ++ t ∷ []) (ap task_in (part-added old line place start ends))
-      ∙ ap (λ (ts : List Task). ts ++ task_in line ∷ []) (tasks-more old line places within)
+      ∙ ap (λ (t : Task). tasks_at (old ++ line) places ++ t ∷ []) (ap task_of_line (part-added old line place start ends))
+      ∙ ap (λ (ts : List Task). ts ++ task_of_line line ∷ []) (tasks-more old line places within)
 
 -- the task at a place that was read
-pub task_read : (bytes : List ℕ) (places : List Place) (index : ℕ) (place : Place) (line : List ℕ) → slice_get places index ≡ Some place → line ≡ part_at bytes place
-    → slice_get (tasks_at bytes places) index ≡ Some (task_in line)
+pub task_read : (bytes : List ℕ) (places : List Place) (index : ℕ) (place : Place) (line : List ℕ) → slice_get places index ≡ Some place → line ≡ items_at bytes place
+    → slice_get (tasks_at bytes places) index ≡ Some (task_of_line line)
 task_read bytes places index place line e is =
-    slice_get-map (task_at bytes) places index ∙ ap (option_map (task_at bytes)) e ∙ ap (λ (l : List ℕ). Some (task_in l)) (sym is)
+    slice_get-map (task_at bytes) places index ∙ ap (option_map (task_at bytes)) e ∙ ap (λ (l : List ℕ). Some (task_of_line l)) (sym is)

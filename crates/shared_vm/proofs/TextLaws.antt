@@ -1,8 +1,8 @@
 -- The text of a journal, line by line.
-use Rattle.std.proofs.Common.{◌≡◌, ℕ, ◌<◌, ◌≤◌, List, [], ◌∷◌, ◌++◌, length, take, map, get_or, Option, Some, refl, sym, ap, subst, ◌∙◌, arith}
+use Rattle.std.proofs.Common.{◌≡◌, ℕ, zero, suc, ◌<◌, ◌≤◌, List, [], ◌∷◌, ◌++◌, length, take, map, Option, Some, refl, sym, ap, subst, ◌∙◌, arith}
 use Rattle.std.specs.Prelude.{slice_get, option_map}
 use Rattle.std.specs.List.{concat}
-use Rattle.std.proofs.lemmas.Option.{slice_get-map, slice_get-get_or}
+use Rattle.std.proofs.lemmas.Option.{slice_get-map}
 use Rattle.std.proofs.lemmas.List.{length-map}
 use Rattle.script_io.specs.Faults.{IsCutOff}
 use Rattle.vm_model.specs.Language.Text.{reply_lines}
@@ -42,6 +42,8 @@ deeds_passed deeds i first last old new all p =
 pub deeds_cut : (deeds : List Deed) (before after : Option (List ℕ)) → IsCutOff before after (concat (map deed_text deeds)) → IsCutOff before after (journal_text deeds)
 deeds_cut deeds before after cut = subst (IsCutOff before after) (journal_pieces deeds) cut
 
--- the deed at a place
-pub deed_at : (deeds : List Deed) (i : ℕ) (deed : Deed) → deed ≡ get_or deeds i deed → i < length deeds → slice_get deeds i ≡ Some deed
-deed_at deeds i deed is less = slice_get-get_or deeds i deed less ∙ ap (λ (d : Deed). Some d) (sym is)
+-- there is a deed at each place
+pub deed_there : (deeds : List Deed) (i : ℕ) → i < length deeds → (deed : Deed) × (slice_get deeds i ≡ Some deed)
+deed_there [] i less = absurd (omega (arith, less))
+deed_there (d ∷ ds) zero less = (d, refl)
+deed_there (d ∷ ds) (suc i) less = deed_there ds i (omega (arith, less))

@@ -39,17 +39,17 @@ raised done actor =
     else (if actor == 1 then record done { a1 = done.a1 + 1 }
     else (if actor == 2 then record done { a2 = done.a2 + 1 } else record done { a3 = done.a3 + 1 }))
 
--- What holds of every room: the journal is a run, the deeds of each actor are counted, there is room for a deed for each task,
--- and the machine agrees with its store and gave a koid for a deed at most.
-pub record IsRoom {S : Type 0} (content : S → Content) (s : Session S) (done : Counts) (len capacity : ℕ) : Type 0 where
+-- What holds of every room: the journal is a run, the deeds of each actor are counted, the journal has room for the deeds of the
+-- tasks that are left, and the machine agrees with its store and gave a koid for a deed at most.
+pub record IsRoom {S : Type 0} (content : S → Content) (s : Session S) (done : Counts) (spare : ℕ) : Type 0 where
   pub legal : IsLegal content s
   pub agrees : Agrees (content s.store) s.vm
-  pub koids : (content s.store).next ≤ 1 + len
+  pub koids : (content s.store).next ≤ 1 + length s.journal
   pub few : task_count s.lists < 2 ^ 32
   pub counted : (actor : ℕ) → actor ≤ ACTOR_MAX → count_of done actor ≡ done_by actor s.journal
   pub within : (actor : ℕ) → actor ≤ ACTOR_MAX → count_of done actor ≤ length (tasks_of s.lists actor)
-  pub all : len ≡ done.a0 + done.a1 + done.a2 + done.a3
-  pub room : task_count s.lists ≤ capacity
+  pub all : length s.journal ≡ done.a0 + done.a1 + done.a2 + done.a3
+  pub room : task_count s.lists ≤ length s.journal + spare
 
 -- the actor did its next task, and one deed more tells it
 pub record TurnsOnce {S : Type 0} (content : S → Content) (old new : Session S) (actor : ℕ) : Type 0 where

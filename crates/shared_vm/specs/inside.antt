@@ -1,3 +1,4 @@
 pub mod Places
 pub mod TaskPlaces
 pub mod Pending
+pub mod Noting

@@ -7,6 +7,7 @@ ghost use Rattle.shared_vm.specs.Rooms.{IsLegal};
 ghost use Rattle.shared_vm.specs.Tasks.{Lists, no_tasks, tasks_of};
 
 use crate::gate::Gate;
+use crate::journal::Journal;
 use crate::room::Room;
 use page_store::PageStore;
 use std::marker::{Brand, PhantomData};
@@ -31,14 +32,14 @@ impl Naming for Brand {
 
 /// The value that lies under the lock. Nothing is known of it when the lock is taken but what its type says.
 #[derive(Drop)]
-struct Held<J: Naming, P: PageStore> {
-    room: Room<P>,
-    of: PhantomData<J>,
-    ghost frames: { room.frames ≡ J.frames },
-    ghost lists: { room.lists ≡ J.lists },
+struct Held<N: Naming, P: PageStore, J: Journal> {
+    room: Room<P, J>,
+    of: PhantomData<N>,
+    ghost frames: { room.frames ≡ N.frames },
+    ghost lists: { room.lists ≡ N.lists },
 }
 
-impl<J: Naming, P: PageStore> Held<J, P> {
+impl<N: Naming, P: PageStore, J: Journal> Held<N, P, J> {
     /// Does one turn of an actor.
     fn turn(&mut self, actor: u32) -> bool
         requires { actor ≤ ACTOR_MAX }
@@ -49,10 +50,10 @@ impl<J: Naming, P: PageStore> Held<J, P> {
 
 /// Does the tasks of an actor, each under the lock. The lock is not held while the gate is called. It may wait for both, and has no
 /// clause: what holds of the room stands in its type.
-fn act<J: Naming, R: Wait, P: PageStore, G: Gate>(
+fn act<N: Naming, R: Wait, P: PageStore, J: Journal, G: Gate>(
     rt: &R,
     gate: &G,
-    held: &Mutex<Held<J, P>>,
+    held: &Mutex<Held<N, P, J>>,
     actor: u32,
 )
     requires { actor ≤ ACTOR_MAX }
@@ -68,17 +69,19 @@ fn act<J: Naming, R: Wait, P: PageStore, G: Gate>(
 }
 
 /// Puts the room under a lock, has each actor act on a thread of its own, and takes the room out when all have ended.
-fn act_on<J: Naming + Send + Sync, R: Threads + Wait + Sync, P: PageStore + Send, G: Gate>(
-    rt: &R,
-    gate: &G,
-    room: Room<P>,
-) -> Room<P>
-    requires frames { room.frames ≡ J.frames }
-    requires lists { room.lists ≡ J.lists }
+fn act_on<
+    N: Naming + Send + Sync,
+    R: Threads + Wait + Sync,
+    P: PageStore + Send,
+    J: Journal + Send,
+    G: Gate,
+>(rt: &R, gate: &G, room: Room<P, J>) -> Room<P, J>
+    requires frames { room.frames ≡ N.frames }
+    requires lists { room.lists ≡ N.lists }
     ensures frames { result.frames ≡ room.frames }
     ensures lists { result.lists ≡ room.lists }
 {
-    let lock: Mutex<Held<J, P>> = Mutex::new(Held {
+    let lock: Mutex<Held<N, P, J>> = Mutex::new(Held {
         room,
         of: PhantomData,
     });
@@ -96,7 +99,7 @@ fn act_on<J: Naming + Send + Sync, R: Threads + Wait + Sync, P: PageStore + Send
 }
 
 /// Does the turns that an actor has left.
-fn finish<P: PageStore>(room: &mut Room<P>, actor: u32)
+fn finish<P: PageStore, J: Journal>(room: &mut Room<P, J>, actor: u32)
     requires { actor ≤ ACTOR_MAX }
     ensures frames { room.new.frames ≡ room.old.frames }
     ensures lists { room.new.lists ≡ room.old.lists }
@@ -114,17 +117,17 @@ fn finish<P: PageStore>(room: &mut Room<P>, actor: u32)
 ///
 /// The call may wait for the lock, for the gate and for the actors, so it is not proved to end: its clauses hold if it returns.
 /// They do not say that the actors run side by side, nor what the gate is called with.
-pub fn act_all<R: Threads + Wait + Sync, P: PageStore + Send, G: Gate>(
+pub fn act_all<R: Threads + Wait + Sync, P: PageStore + Send, J: Journal + Send, G: Gate>(
     rt: &R,
     gate: &G,
-    room: Room<P>,
-) -> Room<P>
+    room: Room<P, J>,
+) -> Room<P, J>
     ensures frames { result.frames ≡ room.frames }
     ensures lists { result.lists ≡ room.lists }
     ensures whole { IsWhole result.lists result.journal }
     ensures legal { IsLegal P.content result }
 {
-    let mut room = act_on::<Brand, R, P, G>(rt, gate, room);
+    let mut room = act_on::<Brand, R, P, J, G>(rt, gate, room);
     finish(&mut room, 0);
     finish(&mut room, 1);
     finish(&mut room, 2);

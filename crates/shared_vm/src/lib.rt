@@ -5,6 +5,9 @@
 //! is a run of the machine, in which each actor's tasks stand in its own order, and that the machine is what this run led to.
 //! `run_actors` reads an input, hands the room to four threads under a lock, and writes the journal.
 //!
+//! Tasks are the bytes of their lines, which a turn reads and has answered as a line of a script. A room keeps its deeds by a
+//! `Journal`: whole, or as notes with the data of all replies in one place.
+//!
 //! It stands on `vm_core` for the machine, on `page_store` for the store, on `script_io`, `script_text` and `reply_text` for
 //! lines and replies, and on `served` for the words of the command line. `Scripts` and `Room` know nothing of threads. The
 //! program above calls `run_actors`.
@@ -13,7 +16,9 @@
 mod acting;
 mod counts;
 mod gate;
+mod journal;
 mod line_room;
+mod notes;
 mod pending;
 mod place;
 mod reading;
@@ -27,6 +32,7 @@ mod writing;
 
 pub use acting::act_all;
 pub use gate::{Gate, OpenGate};
+pub use journal::Journal;
 pub use room::Room;
 pub use running::run_actors;
 pub use scripts::Scripts;

@@ -3,15 +3,17 @@
 ghost use Rattle.std.specs.Prelude.{◌≡◌, ◌+◌, ◌^◌, ◌<◌, ◌≤◌, [], length, vec_len, vec_capacity, IfOk};
 ghost use Rattle.vm_base.specs.declared.limits.TheConstants.{ACTOR_MAX, DATA_BYTES, FRAMES, KOIDS, PIN_PAGES};
 ghost use Rattle.vm_model.specs.Contents.Content.{nothing};
+ghost use Rattle.vm_model.specs.Machine.Lent.{reply_for};
 ghost use Rattle.vm_core.specs.Vm.{Agrees, machine_of};
 ghost use Rattle.shared_vm.specs.Journal.{done_by, Does};
 ghost use Rattle.shared_vm.specs.Rooms.{IsLegal, Turns};
 ghost use Rattle.shared_vm.specs.Tasks.{task_count, tasks_of};
-ghost use Rattle.shared_vm.specs.inside.TaskPlaces.{task_in};
-ghost use Rattle.vm_model.specs.Machine.Lent.{reply_for};
+ghost use Rattle.shared_vm.specs.inside.TaskPlaces.{task_of_line};
 
 use crate::counts::Counts;
+use crate::journal::Journal;
 use crate::line_room::LineRoom;
+use crate::notes::Notes;
 use crate::scripts::Scripts;
 use crate::task::Deed;
 use page_store::PageStore;
@@ -26,7 +28,7 @@ use vm_model::Answer;
 /// page frames that the machine began with. In every room the journal is a run of the machine from nothing but its frames,
 /// and the machine and its store stand for the state in which this run ends. Each deed is the next task of its actor.
 #[derive(Drop)]
-pub struct Room<P: PageStore> {
+pub struct Room<P: PageStore, J: Journal = Vec<Deed>> {
     frames: u32,
     vm: Vm,
     store: P,
@@ -34,21 +36,20 @@ pub struct Room<P: PageStore> {
     /// The number of tasks that each actor did.
     done: Counts,
     /// It has room for a deed for each task.
-    journal: Vec<Deed>,
+    journal: J,
     data: LineRoom,
 }
 
-impl<P: PageStore> Model for Room<P> {
-    ghost use Rattle.std.specs.Prelude.{vec_len, vec_capacity};
+impl<P: PageStore, J: Journal> Model for Room<P, J> {
     ghost use Rattle.shared_vm.specs.Rooms.{Session, IsRoom};
 
     ghost Value = { Session P };
 
-    ghost view = { λ r. record { frames = r.frames; lists = r.scripts; journal = r.journal.items; vm = r.vm; store = r.store } };
+    ghost view = { λ r. record { frames = r.frames; lists = r.scripts; journal = J.deeds r.journal; vm = r.vm; store = r.store } };
 
     ghost invariant = { λ r. IsRoom P.content
-        (record { frames = r.frames; lists = r.scripts; journal = r.journal.items; vm = r.vm; store = r.store })
-        r.done (vec_len r.journal) (vec_capacity r.journal) };
+        (record { frames = r.frames; lists = r.scripts; journal = J.deeds r.journal; vm = r.vm; store = r.store })
+        r.done (J.spare r.journal) };
 }
 
 impl<P: PageStore> Room<P> {
@@ -69,20 +70,49 @@ impl<P: PageStore> Room<P> {
         ensures journal { IfOk result (λ r. r.journal ≡ []) }
         ensures legal { IfOk result (λ r. IsLegal P.content r) }
     {
-        let mut store = store;
         let journal = journal_for(alloc, scripts.count())?;
-        store.fill(frames)?;
-        Ok(Room {
-            frames,
-            vm: Vm::new(alloc),
-            store,
-            scripts,
-            done: Counts::none(),
-            journal,
-            data: LineRoom::new(),
-        })
+        with_journal(alloc, frames, scripts, store, journal)
     }
 
+    /// Returns what the actors did, the first deed first.
+    pub fn journal(&self) -> &[Deed]
+        ensures journal { result.now ≡ self.now.journal }
+        ensures legal { IsLegal P.content self.now }
+    {
+        self.journal.as_slice()
+    }
+}
+
+impl<P: PageStore> Room<P, Notes> {
+    /// Does what `new` does, for a room whose journal takes little memory.
+    pub(crate) fn with_notes(
+        alloc: Global,
+        frames: u32,
+        scripts: Scripts,
+        store: P,
+    ) -> Result<Room<P, Notes>, HostMemory>
+        requires few { task_count scripts < 2 ^ 32 }
+        requires frames { 1 ≤ frames × frames ≤ FRAMES }
+        requires empty { P.content store ≡ nothing }
+        ensures frames { IfOk result (λ r. r.frames ≡ frames) }
+        ensures lists { IfOk result (λ r. r.lists ≡ scripts) }
+        ensures journal { IfOk result (λ r. r.journal ≡ []) }
+        ensures legal { IfOk result (λ r. IsLegal P.content r) }
+    {
+        let notes = Notes::new(alloc, scripts.count())?;
+        with_journal(alloc, frames, scripts, store, notes)
+    }
+
+    /// Returns what the actors did, the first deed first.
+    pub(crate) fn notes(&self) -> &Notes
+        ensures journal { result.now.deeds ≡ self.now.journal }
+        ensures legal { IsLegal P.content self.now }
+    {
+        &self.journal
+    }
+}
+
+impl<P: PageStore, J: Journal> Room<P, J> {
     /// Does the next task of an actor, from 0 to 3, and notes it in the journal, which has room for it. `false` if the actor has
     /// no task left, and then nothing changes.
     pub fn turn(&mut self, actor: u32) -> bool
@@ -104,8 +134,7 @@ impl<P: PageStore> Room<P> {
             &mut self.data.read,
             &mut self.data.pinned,
         );
-        let reply = answer.into_reply();
-        self.journal.push_reserved(Deed { actor, reply });
+        self.journal.note(actor, answer);
         self.done = self.done.raised(actor);
         true
     }
@@ -119,14 +148,6 @@ impl<P: PageStore> Room<P> {
         self.scripts.tasks(actor).len() as u64 - self.done.of(actor)
     }
 
-    /// Returns what the actors did, the first deed first.
-    pub fn journal(&self) -> &[Deed]
-        ensures journal { result.now ≡ self.now.journal }
-        ensures legal { IsLegal P.content self.now }
-    {
-        self.journal.as_slice()
-    }
-
     /// Returns the store, as the last deed left it.
     pub fn into_store(self) -> P
         ensures { result ≡ self.store }
@@ -137,6 +158,37 @@ impl<P: PageStore> Room<P> {
         drop(self.journal);
         self.store
     }
+}
+
+/// Makes a room with a journal that has no deeds, and room for one of each task.
+fn with_journal<P: PageStore, J: Journal>(
+    alloc: Global,
+    frames: u32,
+    scripts: Scripts,
+    store: P,
+    journal: J,
+) -> Result<Room<P, J>, HostMemory>
+    requires few { task_count scripts < 2 ^ 32 }
+    requires frames { 1 ≤ frames × frames ≤ FRAMES }
+    requires empty { P.content store ≡ nothing }
+    requires bare { J.deeds journal ≡ [] }
+    requires room { task_count scripts ≤ J.spare journal }
+    ensures frames { IfOk result (λ r. r.frames ≡ frames) }
+    ensures lists { IfOk result (λ r. r.lists ≡ scripts) }
+    ensures journal { IfOk result (λ r. r.journal ≡ []) }
+    ensures legal { IfOk result (λ r. IsLegal P.content r) }
+{
+    let mut store = store;
+    store.fill(frames)?;
+    Ok(Room {
+        frames,
+        vm: Vm::new(alloc),
+        store,
+        scripts,
+        done: Counts::none(),
+        journal,
+        data: LineRoom::new(),
+    })
 }
 
 /// Makes an empty journal with room for so many deeds.
@@ -163,7 +215,7 @@ fn answer_to<'a, P: PageStore>(
     requires pinned { PIN_PAGES ≤ length pinned.old }
     requires agrees { Agrees (P.content store.old) vm.old }
     requires next { (P.content store.old).next < KOIDS }
-    ensures does { Does (task_in line.now) (reply_for result) (machine_of (P.content store.old) vm.old)
+    ensures does { Does (task_of_line line.now) (reply_for result) (machine_of (P.content store.old) vm.old)
         (machine_of (P.content store.new) vm.new) }
     ensures agrees { Agrees (P.content store.new) vm.new }
     ensures next { (P.content store.new).next ≤ (P.content store.old).next + 1 }

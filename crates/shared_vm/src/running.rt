@@ -53,11 +53,11 @@ fn run_on<R: Threads + Wait + Sync, P: PageStore + Send, G: Gate, S: Source, K: 
         Ok(scripts) => scripts,
         Err(status) => return (status, Some(store)),
     };
-    let Ok(room) = Room::new(alloc, frames, scripts, store) else {
+    let Ok(room) = Room::with_notes(alloc, frames, scripts, store) else {
         return (Status::HostMemory, None);
     };
     let room = act_all(rt, gate, room);
-    let status = status_of(push_journal(sink, room.journal()));
+    let status = status_of(push_journal(sink, room.notes()));
     (status, Some(room.into_store()))
 }
 

@@ -4,7 +4,7 @@ ghost use Rattle.std.specs.Prelude.{◌≡◌, ◌+◌, ◌^◌, ◌<◌, ◌≤
 ghost use Rattle.vm_base.specs.declared.limits.TheConstants.{LINE_BYTES};
 ghost use Rattle.vm_model.specs.Language.Reading.{reading_of_words, words, is_comment};
 ghost use Rattle.shared_vm.specs.Tasks.{actor_of, no_tasks, task_count, tasks_of, with_behind, with_line, with_reading, with_task};
-ghost use Rattle.shared_vm.specs.inside.TaskPlaces.{is_silent, task_in};
+ghost use Rattle.shared_vm.specs.inside.TaskPlaces.{says_nothing, task_of_line};
 ghost use Rattle.shared_vm.specs.declared.task.Task.TheVariants.{Outside};
 
 use crate::task_list::TaskList;
@@ -88,7 +88,7 @@ impl Scripts {
         ensures ok { OnOk result (self.new ≡ with_reading self.old actor (reading_of_words (words behind.now))) }
         ensures err { OnErr result (self.new ≡ self.old) }
     {
-        if is_silent(behind) {
+        if says_nothing(behind) {
             return Ok(());
         }
         self.push(actor, behind)
@@ -96,7 +96,7 @@ impl Scripts {
 
     /// Adds the task of a line to an actor.
     fn push(&mut self, actor: u32, line: &[u8]) -> Result<(), HostMemory>
-        ensures ok { OnOk result (self.new ≡ with_task self.old actor (task_in line.now)) }
+        ensures ok { OnOk result (self.new ≡ with_task self.old actor (task_of_line line.now)) }
         ensures err { OnErr result (self.new ≡ self.old) }
     {
         match actor {
@@ -153,8 +153,8 @@ fn is_comment(word: &[u8]) -> bool
 }
 
 /// Reports whether a line says nothing: it has no word, or it is a comment.
-fn is_silent(line: &[u8]) -> bool
-    ensures { result ≡ is_silent (words line.now) }
+fn says_nothing(line: &[u8]) -> bool
+    ensures { result ≡ says_nothing (words line.now) }
 {
     match next_word(line) {
         Some((word, _)) => is_comment(word),

@@ -1,7 +1,7 @@
 //! The tasks of one actor.
 
 ghost use Rattle.std.specs.Prelude.{◌≡◌, ◌<◌, [], ◌∷◌, ◌++◌, length, slice_get, Some, OnOk, OnErr};
-ghost use Rattle.shared_vm.specs.inside.TaskPlaces.{task_in};
+ghost use Rattle.shared_vm.specs.inside.TaskPlaces.{task_of_line};
 
 use crate::place::Place;
 use std::alloc::Global;
@@ -42,7 +42,7 @@ impl TaskList {
 
     /// Adds the task of a line behind the others. `HostMemory` if the host has too little memory, and then the list stays.
     pub(crate) fn push(&mut self, line: &[u8]) -> Result<(), HostMemory>
-        ensures ok { OnOk result (self.new ≡ self.old ++ task_in line.now ∷ []) }
+        ensures ok { OnOk result (self.new ≡ self.old ++ task_of_line line.now ∷ []) }
         ensures err { OnErr result (self.new ≡ self.old) }
     {
         let start = self.bytes.len();
@@ -66,7 +66,7 @@ impl TaskList {
     /// Returns the line of a task.
     pub(crate) fn line(&self, index: usize) -> &[u8]
         requires { index < length self.now }
-        ensures { slice_get self.now index ≡ Some (task_in result.now) }
+        ensures { slice_get self.now index ≡ Some (task_of_line result.now) }
     {
         let place = self.places[index];
         &self.bytes[place.start..place.end]

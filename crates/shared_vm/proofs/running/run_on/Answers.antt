@@ -11,9 +11,9 @@ returns-in_default-clause-ends g c = EndsAs-gone c.args.frames _ _ _ _ c.in-Ok.e
 
 pub returns-clause-ends : goal.returns-clause-ends
 returns-clause-ends g c =
-    EndsAs-acted g.P.PageStore.content c.act_all-room.result c.into_store.result c.journal.result.now c.args.frames c.in-Ok.scripts _ _ _ _
-    c.in-Ok.ensures.read (c.act_all-room.ensures.frames ∙ c.in-Ok-new.ensures.frames) (c.act_all-room.ensures.lists ∙ c.in-Ok-new.ensures.lists)
-    c.act_all-room.ensures.legal c.act_all-room.ensures.whole c.journal.ensures.journal c.into_store.ensures c.push_journal.result
+    EndsAs-acted g.P.PageStore.content c.act_all-room.result c.into_store.result c.notes.result.now.deeds c.args.frames c.in-Ok.scripts _ _ _ _
+    c.in-Ok.ensures.read (c.act_all-room.ensures.frames ∙ c.in-Ok-with_notes.ensures.frames) (c.act_all-room.ensures.lists ∙ c.in-Ok-with_notes.ensures.lists)
+    c.act_all-room.ensures.legal c.act_all-room.ensures.whole c.notes.ensures.journal c.into_store.ensures c.push_journal.result
     c.status_of-status.result c.status_of-status.ensures c.push_journal.ensures.ok c.push_journal.ensures.err
 
 pub returns-clause-write_cause : goal.returns-clause-write_cause

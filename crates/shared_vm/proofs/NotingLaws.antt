@@ -1,0 +1,203 @@
+-- A journal that takes little memory, and one deed more.
+use Rattle.std.proofs.Common.{◌≡◌, ℕ, ◌+◌, ◌*◌, ◌<◌, ◌≤◌, List, [], ◌∷◌, ◌++◌, length, get_or, Option, Some, Result, refl, sym, ap, subst, ◌∙◌, append-nil, arith}
+use Rattle.std.specs.Prelude.{slice_get, option_map, OnOk, OnErr}
+use Rattle.std.specs.List.{All}
+use Rattle.std.proofs.lemmas.List.{length-append, map_push}
+use Rattle.std.proofs.lemmas.List.Elements.{All-nil, All-head, All-tail, All-push, All-weaker, All-get_or}
+use Rattle.std.proofs.lemmas.Option.{slice_get-map, slice_get_read, same_Some}
+use Rattle.script_io.specs.Faults.{IsCutOff}
+use Rattle.vm_base.specs.declared.limits.TheConstants.{DATA_BYTES, PIN_PAGES}
+use Rattle.vm_model.specs.declared.answer.Answer.{Answer}
+use Rattle.vm_model.specs.declared.reply.Reply.{Reply}
+use Rattle.vm_model.specs.Machine.Lent.{reply_for}
+use Rattle.shared_vm.specs.declared.task.Deed.{Deed}
+use Rattle.shared_vm.specs.declared.place.Place.{Place}
+use Rattle.shared_vm.specs.declared.notes.Kept.{Kept}
+use Rattle.shared_vm.specs.declared.notes.Note.{Note}
+use Rattle.shared_vm.specs.Texts.{deed_text}
+use Rattle.shared_vm.specs.inside.Pending.{PassesOn}
+use Rattle.shared_vm.specs.inside.Places.{items_at, LiesWithin}
+use Rattle.shared_vm.specs.inside.Noting.{reply_at, deed_of, deed_at, deeds_at, IsDataPlace, IsKept, IsNoteKept, IsJournal, Keeps}
+use Rattle.shared_vm.proofs.PlaceLaws.{part-more, LiesWithin-more, part-added, LiesWithin-added}
+
+module _ (bytes numbers bytes_more numbers_more : List ℕ) where
+  -- what was kept stays, whatever is added behind its data
+  reply-more : (kept : Kept) → IsKept (length bytes) (length numbers) kept → reply_at (bytes ++ bytes_more) (numbers ++ numbers_more) kept ≡ reply_at bytes numbers kept
+  reply-more (Kept.Plain answer) is = refl
+  reply-more (Kept.Bytes place) is = ap (λ (bs : List ℕ). Reply.Bytes bs) (part-more bytes bytes_more place is.within)
+  reply-more (Kept.Access faults place) is = ap (λ (bs : List ℕ). Reply.Access faults bs) (part-more bytes bytes_more place is.within)
+  reply-more (Kept.Pins place) is = ap (λ (ns : List ℕ). Reply.Pins ns) (part-more numbers numbers_more place is.within)
+
+  kept-more : (kept : Kept) → IsKept (length bytes) (length numbers) kept → IsKept (length (bytes ++ bytes_more)) (length (numbers ++ numbers_more)) kept
+  kept-more (Kept.Plain answer) is = tt
+  kept-more (Kept.Bytes place) is = record { within = LiesWithin-more bytes bytes_more place is.within; few = is.few }
+  kept-more (Kept.Access faults place) is = record { within = LiesWithin-more bytes bytes_more place is.within; few = is.few }
+  kept-more (Kept.Pins place) is = record { within = LiesWithin-more numbers numbers_more place is.within; few = is.few }
+
+  deeds-more : (notes : List Note) → All (IsNoteKept (length bytes) (length numbers)) notes → deeds_at (bytes ++ bytes_more) (numbers ++ numbers_more) notes ≡ deeds_at bytes numbers notes
+  deeds-more [] all = refl
+  deeds-more (note ∷ notes) all =
+      let first : deed_at (bytes ++ bytes_more) (numbers ++ numbers_more) note ≡ deed_at bytes numbers note
+      = ap (deed_of note.actor) (reply-more note.kept (All-head (IsNoteKept (length bytes) (length numbers)) note notes all)) in
+      ap (λ (d : Deed). d ∷ deeds_at (bytes ++ bytes_more) (numbers ++ numbers_more) notes) first
+      ∙ ap (λ (ds : List Deed). deed_at bytes numbers note ∷ ds) (deeds-more notes (All-tail (IsNoteKept (length bytes) (length numbers)) note notes all))
+
+  all-more : (notes : List Note) → All (IsNoteKept (length bytes) (length numbers)) notes → All (IsNoteKept (length (bytes ++ bytes_more)) (length (numbers ++ numbers_more))) notes
+  all-more notes all =
+      All-weaker (IsNoteKept (length bytes) (length numbers)) (IsNoteKept (length (bytes ++ bytes_more)) (length (numbers ++ numbers_more)))
+      (λ note is. kept-more note.kept is) notes all
+
+-- one deed more
+module _ (reply : Reply) (bytes_old numbers_old bytes_new numbers_new : List ℕ) (kept : Kept) (keeps : Keeps reply bytes_old numbers_old kept bytes_new numbers_new)
+    (notes after : List Note) (actor : ℕ) (is_after : after ≡ notes ++ record { actor = actor; kept = kept } ∷ []) (spare bytes_room numbers_room : ℕ)
+    (old : IsJournal bytes_old numbers_old notes spare bytes_room numbers_room) where
+  abbrev note : Note
+  note = record { actor = actor; kept = kept }
+
+  abbrev bytes : List ℕ
+  bytes = bytes_old ++ keeps.bytes_more
+
+  abbrev numbers : List ℕ
+  numbers = numbers_old ++ keeps.numbers_more
+
+  is_kept : IsKept (length bytes) (length numbers) kept
+  is_kept = subst (λ (bs : List ℕ). IsKept (length bs) (length numbers) kept) keeps.bytes
+      (subst (λ (ns : List ℕ). IsKept (length bytes_new) (length ns) kept) keeps.numbers keeps.is_kept)
+
+  reply_is : reply_at bytes numbers kept ≡ reply
+  reply_is = subst (λ (bs : List ℕ). reply_at bs numbers kept ≡ reply) keeps.bytes
+      (subst (λ (ns : List ℕ). reply_at bytes_new ns kept ≡ reply) keeps.numbers keeps.reply_is)
+
+  pub deeds_added : deeds_at bytes_new numbers_new after ≡ deeds_at bytes_old numbers_old notes ++ deed_of actor reply ∷ []
+  deeds_added =
+      ap (λ (bs : List ℕ). deeds_at bs numbers_new after) keeps.bytes
+      ∙ ap (λ (ns : List ℕ). deeds_at bytes ns after) keeps.numbers
+      ∙ ap (λ (all : List Note). deeds_at bytes numbers all) is_after
+      ∙ map_push (deed_at bytes numbers) notes note
+      ∙ ap (λ (r : Reply). deeds_at bytes numbers notes ++ deed_of actor r ∷ []) reply_is
+      ∙ ap (λ (ds : List Deed). ds ++ deed_of actor reply ∷ []) (deeds-more bytes_old numbers_old keeps.bytes_more keeps.numbers_more notes old.kept)
+
+  all_kept : All (IsNoteKept (length bytes_new) (length numbers_new)) after
+  all_kept =
+      subst (λ (bs : List ℕ). All (IsNoteKept (length bs) (length numbers_new)) after) (sym keeps.bytes)
+      (subst (λ (ns : List ℕ). All (IsNoteKept (length bytes) (length ns)) after) (sym keeps.numbers)
+      (subst (λ (all : List Note). All (IsNoteKept (length bytes) (length numbers)) all) (sym is_after)
+      (All-push (IsNoteKept (length bytes) (length numbers)) notes note (all-more bytes_old numbers_old keeps.bytes_more keeps.numbers_more notes old.kept) is_kept)))
+
+  pub IsJournal-added : (left bytes_after numbers_after : ℕ) → spare ≡ left + 1 → bytes_room ≤ bytes_after → numbers_room ≤ numbers_after
+      → IsJournal bytes_new numbers_new after left bytes_after numbers_after
+  IsJournal-added left bytes_after numbers_after e f g = record {
+    kept = all_kept;
+    bytes_left = omega (arith, e, f, old.bytes_left, keeps.bytes_few, ap (length {A = ℕ}) keeps.bytes, length-append bytes_old keeps.bytes_more);
+    numbers_left = omega (arith, e, g, old.numbers_left, keeps.numbers_few, ap (length {A = ℕ}) keeps.numbers, length-append numbers_old keeps.numbers_more);
+  }
+
+-- a journal of no deeds
+pub IsJournal-none : (bytes numbers : List ℕ) (notes : List Note) (spare bytes_room numbers_room : ℕ) → bytes ≡ [] → numbers ≡ [] → notes ≡ []
+    → spare * DATA_BYTES ≤ bytes_room → spare * PIN_PAGES ≤ numbers_room → IsJournal bytes numbers notes spare bytes_room numbers_room
+IsJournal-none bytes numbers notes spare bytes_room numbers_room e f g roomy many = record {
+  kept = subst (λ (all : List Note). All (IsNoteKept (length bytes) (length numbers)) all) (sym g) (All-nil (IsNoteKept (length bytes) (length numbers)));
+  bytes_left = omega (arith, roomy, ap (length {A = ℕ}) e);
+  numbers_left = omega (arith, many, ap (length {A = ℕ}) f);
+}
+
+-- ---- what is kept of one answer
+
+-- an answer without data
+pub Keeps-plain : (answer kept : Answer) (bytes numbers : List ℕ) → answer ≡ kept → Keeps (reply_for answer) bytes numbers (Kept.Plain kept) bytes numbers
+Keeps-plain answer kept bytes numbers is = record {
+  bytes_more = [];
+  numbers_more = [];
+  bytes = sym (append-nil bytes);
+  numbers = sym (append-nil numbers);
+  bytes_few = omega arith;
+  numbers_few = omega arith;
+  reply_is = ap reply_for (sym is);
+  is_kept = tt;
+}
+
+-- an answer whose data was added behind the other data
+module _ (old new lent added : List ℕ) (most : ℕ) (place : Place) (same : lent ≡ added) (few : length lent ≤ most) (grown : new ≡ old ++ lent)
+    (start : place.start ≡ length old) (end : place.end ≡ length new) where
+  is_grown : new ≡ old ++ added
+  is_grown = grown ∙ ap (λ (xs : List ℕ). old ++ xs) same
+
+  is_few : length added ≤ most
+  is_few = subst (λ (xs : List ℕ). length xs ≤ most) same few
+
+  at_end : place.end ≡ length (old ++ added)
+  at_end = end ∙ ap (length {A = ℕ}) is_grown
+
+  is_part : items_at new place ≡ added
+  is_part = ap (λ (xs : List ℕ). items_at xs place) is_grown ∙ part-added old added place start at_end
+
+  is_place : IsDataPlace (length new) most place
+  is_place = record {
+    within = subst (λ (xs : List ℕ). LiesWithin (length xs) place) (sym is_grown) (LiesWithin-added old added place start at_end);
+    few = omega (arith, is_few, start, at_end, length-append old added);
+  }
+
+module _ (answer : Answer) (bytes bytes_new numbers lent added : List ℕ) (place : Place) (same : lent ≡ added) (few : length lent ≤ DATA_BYTES)
+    (grown : bytes_new ≡ bytes ++ lent) (start : place.start ≡ length bytes) (end : place.end ≡ length bytes_new) where
+  pub Keeps-bytes : answer ≡ Answer.Bytes added → Keeps (reply_for answer) bytes numbers (Kept.Bytes place) bytes_new numbers
+  Keeps-bytes is = record {
+    bytes_more = added;
+    numbers_more = [];
+    bytes = is_grown bytes bytes_new lent added DATA_BYTES place same few grown start end;
+    numbers = sym (append-nil numbers);
+    bytes_few = is_few bytes bytes_new lent added DATA_BYTES place same few grown start end;
+    numbers_few = omega arith;
+    reply_is = ap (λ (xs : List ℕ). Reply.Bytes xs) (is_part bytes bytes_new lent added DATA_BYTES place same few grown start end) ∙ ap reply_for (sym is);
+    is_kept = is_place bytes bytes_new lent added DATA_BYTES place same few grown start end;
+  }
+
+  pub Keeps-access : (faults : ℕ) → answer ≡ Answer.Access faults added → Keeps (reply_for answer) bytes numbers (Kept.Access faults place) bytes_new numbers
+  Keeps-access faults is = record {
+    bytes_more = added;
+    numbers_more = [];
+    bytes = is_grown bytes bytes_new lent added DATA_BYTES place same few grown start end;
+    numbers = sym (append-nil numbers);
+    bytes_few = is_few bytes bytes_new lent added DATA_BYTES place same few grown start end;
+    numbers_few = omega arith;
+    reply_is = ap (λ (xs : List ℕ). Reply.Access faults xs) (is_part bytes bytes_new lent added DATA_BYTES place same few grown start end) ∙ ap reply_for (sym is);
+    is_kept = is_place bytes bytes_new lent added DATA_BYTES place same few grown start end;
+  }
+
+pub Keeps-pins : (answer : Answer) (bytes numbers numbers_new lent added : List ℕ) (place : Place) → lent ≡ added → length lent ≤ PIN_PAGES → numbers_new ≡ numbers ++ lent
+    → place.start ≡ length numbers → place.end ≡ length numbers_new → answer ≡ Answer.Pins added → Keeps (reply_for answer) bytes numbers (Kept.Pins place) bytes numbers_new
+Keeps-pins answer bytes numbers numbers_new lent added place same few grown start end is = record {
+  bytes_more = [];
+  numbers_more = added;
+  bytes = sym (append-nil bytes);
+  numbers = is_grown numbers numbers_new lent added PIN_PAGES place same few grown start end;
+  bytes_few = omega arith;
+  numbers_few = is_few numbers numbers_new lent added PIN_PAGES place same few grown start end;
+  reply_is = ap (λ (xs : List ℕ). Reply.Pins xs) (is_part numbers numbers_new lent added PIN_PAGES place same few grown start end) ∙ ap reply_for (sym is);
+  is_kept = is_place numbers numbers_new lent added PIN_PAGES place same few grown start end;
+}
+
+-- ---- the deed of a note
+
+module _ (bytes numbers : List ℕ) (notes : List Note) (index : ℕ) (note : Note) (is : note ≡ get_or notes index note) (less : index < length notes) (kept : Kept) (same : note.kept ≡ kept) where
+  -- its data is there
+  pub note_kept : All (IsNoteKept (length bytes) (length numbers)) notes → IsKept (length bytes) (length numbers) kept
+  note_kept all =
+      let here : IsNoteKept (length bytes) (length numbers) note
+      = subst (IsNoteKept (length bytes) (length numbers)) (sym is) (All-get_or (IsNoteKept (length bytes) (length numbers)) notes index note less all) in
+      subst (IsKept (length bytes) (length numbers)) same here
+
+  -- and this is its deed
+  pub note_deed : (reply : Reply) (deed : Deed) → reply ≡ reply_at bytes numbers kept → slice_get (deeds_at bytes numbers notes) index ≡ Some deed → deed_of note.actor reply ≡ deed
+  note_deed reply deed e f =
+      let read : slice_get (deeds_at bytes numbers notes) index ≡ Some (deed_at bytes numbers note)
+      = slice_get-map (deed_at bytes numbers) notes index ∙ ap (option_map (deed_at bytes numbers)) (slice_get_read notes (length notes) index note refl less is) in
+      ap (deed_of note.actor) (e ∙ ap (reply_at bytes numbers) (sym same)) ∙ same_Some _ _ (sym read ∙ f)
+
+-- what was added is the text of the deed
+pub deed_ok : {T E : Type 0} (result : Result T E) (first last : Option (List ℕ)) (old new : List ℕ) (deed same : Deed) → same ≡ deed → OnOk result (PassesOn first old (deed_text same) last new)
+    → OnOk result (PassesOn first old (deed_text deed) last new)
+deed_ok result first last old new deed same e ok = subst (λ (d : Deed). OnOk result (PassesOn first old (deed_text d) last new)) e ok
+
+pub deed_err : {T E : Type 0} (result : Result T E) (first last : Option (List ℕ)) (old : List ℕ) (deed same : Deed) → same ≡ deed → OnErr result (IsCutOff first last (old ++ deed_text same))
+    → OnErr result (IsCutOff first last (old ++ deed_text deed))
+deed_err result first last old deed same e err = subst (λ (d : Deed). OnErr result (IsCutOff first last (old ++ deed_text d))) e err
