@@ -198,11 +198,11 @@ filled_at frames old tells own is off machine numbers =
     (subst (λ (ts : List Told). Stands frames (machine_of own.machine) (number_of own.numbers) ts) (sym h.0) stands)
 
 -- a line that says nothing
-pub blank_at : (frames : ℕ) (old : Checker) (written : List ℕ) (tells : List Told) (script : List ℕ) → IsAt frames old tells → old.filled ≡ true → old.phase ≡ Idle → reading script ≡ Blank
-    → IsAt frames (record old { written = written }) (tells ++ Asked script ∷ [])
-blank_at frames old written tells script is filled phase e =
+pub blank_at : (frames : ℕ) (old : Checker) (tells : List Told) (script : List ℕ) → IsAt frames old tells → old.filled ≡ true → old.phase ≡ Idle → reading script ≡ Blank
+    → IsAt frames old (tells ++ Asked script ∷ [])
+blank_at frames old tells script is filled phase e =
     let h = in_phase frames old tells Idle is filled phase in
-    at_from frames (record old { written = written }) (tells ++ Asked script ∷ []) Idle is.some is.few is.frames_are filled phase h.0
+    at_from frames old (tells ++ Asked script ∷ []) Idle is.some is.few is.frames_are filled phase h.0
     (blank_stands frames (machine_of old.own.machine) (number_of old.own.numbers) tells script h.1 e)
 
 -- the first line of runs

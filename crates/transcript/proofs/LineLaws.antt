@@ -1,6 +1,10 @@
 -- Laws of lines of bytes and of what they tell.
-use Rattle.std.proofs.Common.{◌≡◌, ℕ, suc, List, [], ◌∷◌, ◌++◌, length, Some, refl, sym, ap, subst, ◌∙◌}
+use Rattle.std.proofs.Common.{◌≡◌, ℕ, suc, ◌≤◌, Bool, true, false, cond, List, [], ◌∷◌, ◌++◌, length, Option, None, Some, refl, sym, ap, subst, ◌∙◌}
+use Rattle.std.proofs.lemmas.Bool.{le-ltb}
+use Rattle.vm_base.specs.declared.limits.TheConstants.{LINE_BYTES}
 use Rattle.vm_base.proofs.EntryLaws.{some_same}
+use Rattle.vm_model.specs.declared.command.Command.{Command}
+use Rattle.vm_model.specs.Language.Reading.{Blank, Outside, order_or_outside, command, is_comment, reading_of_words, words, reading}
 use Rattle.vm_model.specs.Machine.Machine.{Machine}
 use Rattle.moving_machine.specs.Transcript.{Told, told, IsWhole, MayBegin, AllTold, ArePossible, AreWhole}
 
@@ -42,3 +46,32 @@ whole_from frames lines tells all last whole = record { tells = tells; told_are 
 
 pub is_whole : (frames : ℕ) (lines : List (List ℕ)) (tells : List Told) → AllTold lines tells → AreWhole frames lines → (last : Machine) × IsWhole frames tells last
 is_whole frames lines tells all whole = (whole.last, subst (λ (ts : List Told). IsWhole frames ts whole.last) (all_told-same lines whole.tells tells whole.told_are all) whole.whole)
+
+-- ---- lines of a script that say nothing
+
+-- a line that is not too long is read by its words
+by_words : (line : List ℕ) → length line ≤ LINE_BYTES → reading line ≡ reading_of_words (words line)
+unfolding reading
+by_words line short = ap (λ (over : Bool). cond over Outside (reading_of_words (words line))) (le-ltb LINE_BYTES (length line) short)
+
+-- one with no word says nothing
+pub blank_none : (line : List ℕ) → length line ≤ LINE_BYTES → words line ≡ [] → reading line ≡ Blank
+blank_none line short none = by_words line short ∙ ap reading_of_words none
+
+-- and one with a word says nothing exactly if this begins a comment
+pub blank_first : (line word : List ℕ) (rest : List (List ℕ)) (r : Bool) → length line ≤ LINE_BYTES → words line ≡ word ∷ rest → r ≡ is_comment word
+    → (r ≡ true → reading line ≡ Blank) × (reading line ≡ Blank → r ≡ true)
+blank_first line word rest r short first = go r where
+  read : reading line ≡ cond (is_comment word) Blank (order_or_outside (command word rest))
+  read = by_words line short ∙ ap reading_of_words first
+
+  no_blank : (o : Option Command) → order_or_outside o ≡ Blank → ⊥
+  no_blank None e = cc
+  no_blank (Some c) e = cc
+
+  as_read : (b : Bool) → b ≡ is_comment word → reading line ≡ cond b Blank (order_or_outside (command word rest))
+  as_read b e = read ∙ ap (λ (c : Bool). cond c Blank (order_or_outside (command word rest))) (sym e)
+
+  go : (b : Bool) → b ≡ is_comment word → (b ≡ true → reading line ≡ Blank) × (reading line ≡ Blank → b ≡ true)
+  go true e = (λ h. as_read true e, λ h. refl)
+  go false e = (λ h. absurd cc, λ blank. absurd (no_blank (command word rest) (sym (as_read false e) ∙ blank)))

@@ -3,6 +3,7 @@
 ghost use Rattle.std.specs.Prelude.{◌≡◌, ◌≢◌, ◌<◌, ◌≤◌, ◌++◌, ◌∷◌, [], ℕ, List, Option, true, false, codes, length, if◌then◌else◌, IsTrue, MatchResult};
 ghost use Rattle.std.specs.List.{AllByRecursion};
 ghost use Rattle.vm_base.specs.declared.limits.TheConstants.{KOIDS, TEXT_ROOM, DATA_BYTES};
+ghost use Rattle.vm_model.specs.declared.call.Call.{Call};
 ghost use Rattle.vm_model.specs.declared.reply.Reply.{Reply};
 ghost use Rattle.vm_model.specs.Language.Reading.{reading, Order, Blank};
 ghost use Rattle.vm_model.specs.Language.Text.{reply_lines};
@@ -41,17 +42,6 @@ pub(crate) enum Heard {
     Begins(Runs),
     /// A line that never comes.
     Never,
-}
-
-/// Returns the frames of the pages of a pin that a call takes away, in ascending order of the pages. None for other
-/// calls.
-fn freed_by(machine: &EagerMachine, call: &Call<'_>) -> ArrayVec<u32, PIN_PAGES>
-    ensures { IsGoodMachine (machine_of machine.now) → Frees (machine_of machine.now) (command_of call.now) result.items }
-{
-    match call {
-        Call::VmoUnpin { pin } => frames_of(machine, *pin),
-        _ => ArrayVec::new(),
-    }
 }
 
 /// Returns the frames of the pages of a pin, in ascending order of the pages.
@@ -107,7 +97,9 @@ fn hear_answer(answer: Answer<'_>, line: &[u8], room: &mut [u8]) -> Heard
     }
 }
 
-/// Reports whether a line has numbers that these frames of a pin may have. If so, they are seen.
+/// Reports whether a line has numbers that these frames of a pin may have. If so, they are seen. The function is not
+/// inlined, since the numbers of a line have 2 KB, and few lines have any.
+#[inline(never)]
 fn hear_frames(numbers: &mut Numbers, frames: &[u64], line: &[u8]) -> bool
     requires { AllByRecursion (λ frame. frame < length numbers.old) frames.now }
     ensures heard { AreHeard (length numbers.old) (number_of numbers.old) (number_of numbers.new) frames.now (line.now ++ codes "\n") result }
@@ -143,7 +135,48 @@ fn hear_call(
     ensures heard { (frames : ℕ) (before : List Told) (pending : List ℕ) → OwnStands frames own.old before → reading pending ≡ Order (command_of call.now)
         → MatchResult result (λ heard. IsHeard frames own.old own.new pending before (line.now ++ codes "\n") heard) (λ lack. IsSame own.old own.new) }
 {
-    let freed = freed_by(&own.machine, call);
+    match call {
+        Call::VmoUnpin { pin } => hear_unpin(own, call, *pin, line, rooms),
+        _ => hear_reply(own, call, &[], line, rooms),
+    }
+}
+
+/// Does the same for a call that takes a pin away. The function is not inlined, since the frames of the pin have 1 KB, and
+/// no other call needs them.
+#[inline(never)]
+fn hear_unpin(
+    own: &mut Own,
+    call: &Call<'_>,
+    pin: PinName,
+    line: &[u8],
+    rooms: &mut Rooms,
+) -> Result<Heard, HostMemory>
+    requires stands { (frames : ℕ) × (before : List Told) × OwnStands frames own.old before × ((machine_of own.old.machine).state.content.next < KOIDS) }
+    requires unpins { call.now ≡ Call.VmoUnpin pin }
+    requires gives { GivesName (command_of call.now) }
+    requires other { line.now ≢ codes "HOST_MEMORY" }
+    ensures heard { (frames : ℕ) (before : List Told) (pending : List ℕ) → OwnStands frames own.old before → reading pending ≡ Order (command_of call.now)
+        → MatchResult result (λ heard. IsHeard frames own.old own.new pending before (line.now ++ codes "\n") heard) (λ lack. IsSame own.old own.new) }
+{
+    let freed = frames_of(&own.machine, pin);
+    hear_reply(own, call, freed.as_slice(), line, rooms)
+}
+
+/// Does the same for a call that takes no pin away but one of whose pages these are the frames.
+fn hear_reply(
+    own: &mut Own,
+    call: &Call<'_>,
+    freed: &[u32],
+    line: &[u8],
+    rooms: &mut Rooms,
+) -> Result<Heard, HostMemory>
+    requires stands { (frames : ℕ) × (before : List Told) × OwnStands frames own.old before × ((machine_of own.old.machine).state.content.next < KOIDS) }
+    requires gives { GivesName (command_of call.now) }
+    requires freed { IsGoodMachine (machine_of own.old.machine) → Frees (machine_of own.old.machine) (command_of call.now) freed.now }
+    requires other { line.now ≢ codes "HOST_MEMORY" }
+    ensures heard { (frames : ℕ) (before : List Told) (pending : List ℕ) → OwnStands frames own.old before → reading pending ≡ Order (command_of call.now)
+        → MatchResult result (λ heard. IsHeard frames own.old own.new pending before (line.now ++ codes "\n") heard) (λ lack. IsSame own.old own.new) }
+{
     let told = address_in(line);
     let Some(answer) = own
         .machine
@@ -154,7 +187,7 @@ fn hear_call(
     match answer {
         Answer::Pins(frames) => Ok(ends_if(hear_frames(&mut own.numbers, frames.as_slice(), line))),
         other => {
-            forget(&own.machine, &mut own.numbers, freed.as_slice());
+            forget(&own.machine, &mut own.numbers, freed);
             Ok(hear_answer(other, line, &mut rooms.reply))
         }
     }

@@ -150,7 +150,7 @@ impl Checker {
         requires short { length script.now ≤ LINE_BYTES }
         ensures { (frames : ℕ) (tells : List Told) → IsAt frames self.old tells → IsAt frames self.new (tells ++ Asked script.now ∷ []) }
     {
-        if is_blank(script, &mut self.written) {
+        if is_blank(script) {
             return;
         }
         copy(&mut self.pending, script);

@@ -1,16 +1,16 @@
 //! What the lines of a transcript say, and what the reply lines among them do.
 
 ghost use Rattle.std.specs.Prelude.{◌≡◌, ◌≢◌, ◌≤◌, ◌<◌, ◌^◌, ◌++◌, ◌∷◌, [], ℕ, List, Option, Some, None, codes, length, take, IfSome, MatchOption, IsTrue, ◌↔◌, slice_get};
-ghost use Rattle.vm_base.specs.declared.limits.TheConstants.{LINE_BYTES, TEXT_ROOM, DATA_BYTES};
+ghost use Rattle.vm_base.specs.declared.limits.TheConstants.{LINE_BYTES, TEXT_ROOM};
 ghost use Rattle.vm_model.specs.declared.reply.Reply.{Reply};
-ghost use Rattle.vm_model.specs.Language.Reading.{reading, Blank};
+ghost use Rattle.vm_model.specs.Language.Reading.{reading, is_comment, Blank};
 ghost use Rattle.vm_model.specs.Language.Text.{reply_lines};
 ghost use Rattle.vm_model.specs.Machine.Lent.{reply_for};
 ghost use Rattle.moving_machine.specs.Transcript.{told, Asked, Answered};
 ghost use Rattle.moving_machine.specs.Following.{first_line};
 
 use reply_text::{read_address, write_answer_line};
-use script_text::read_call;
+use script_text::next_word;
 use vm_model::Answer;
 
 /// Returns the line of a script that a line of a transcript has, behind `> `.
@@ -34,12 +34,22 @@ pub(crate) fn reply_in(line: &[u8]) -> Option<&[u8]>
     line.strip_prefix(b"< ")
 }
 
-/// Reports whether a line of a script says nothing.
-pub(crate) fn is_blank(line: &[u8], room: &mut [u8]) -> bool
-    requires { DATA_BYTES ≤ length room.old }
+/// Reports whether a line of a script says nothing. Its first word says so, and no more of it is read.
+pub(crate) fn is_blank(line: &[u8]) -> bool
+    requires { length line.now ≤ LINE_BYTES }
     ensures { IsTrue result ↔ (reading line.now ≡ Blank) }
 {
-    matches!(read_call(line, room), Ok(None))
+    match next_word(line) {
+        Some((word, _)) => is_comment(word),
+        None => true,
+    }
+}
+
+/// Reports whether a word is the first of a comment.
+fn is_comment(word: &[u8]) -> bool
+    ensures { result ≡ is_comment word.now }
+{
+    matches!(word, [b'#', ..])
 }
 
 /// Reports whether line `index` of an answer, counted from 0, is this one.
