@@ -97,15 +97,17 @@ pub(crate) fn on_memory<'a>(
             region,
             addr,
             bytes: written,
-        } => mem_write(
-            vmos,
-            regions,
+        } => match eager_access::write(
+            &mut vmos.pages,
             maps,
             ready,
             *region,
             *addr,
             written.as_slice(),
-        ),
+        ) {
+            Ok(faults) => Ok(Answer::Faults(faults)),
+            Err(lack) => Err(lack),
+        },
         _ => unreachable!(),
     }
 }
@@ -137,33 +139,6 @@ fn mem_read<'a>(
             faults,
             bytes: LentBytes::new(out),
         }),
-        Err(lack) => Err(lack),
-    }
-}
-
-// Writes bytes from an address on through the mappings of an address space.
-fn mem_write(
-    vmos: &mut EagerVmos,
-    regions: &Regions,
-    maps: &MappingSet,
-    ready: &mut ReadyMap,
-    region: RegionName,
-    addr: u64,
-    bytes: &[u8],
-) -> Result<Answer<'static>, HostMemory>
-    requires sound { AreSound vmos.old (spaces_of (regions_of regions.now) (table_of maps.now)) (rows_of ready.old) }
-    requires may { MayDoAll vmos.old (spaces_of (regions_of regions.now) (table_of maps.now))
-        (Command.MemWrite region addr bytes.now) }
-    requires bytes { length bytes.now ≤ DATA_BYTES }
-    ensures { MatchResult result
-        (λ answer. Acts vmos.old (spaces_of (regions_of regions.now) (table_of maps.now)) (rows_of ready.old)
-        (Command.MemWrite region addr bytes.now) (reply_for answer)
-        vmos.new (spaces_of (regions_of regions.now) (table_of maps.now)) (rows_of ready.new))
-        (λ lack. AreAllKept vmos.old (spaces_of (regions_of regions.now) (table_of maps.now)) (rows_of ready.old)
-        vmos.new (spaces_of (regions_of regions.now) (table_of maps.now)) (rows_of ready.new)) }
-{
-    match eager_access::write(&mut vmos.pages, maps, ready, region, addr, bytes) {
-        Ok(faults) => Ok(Answer::Faults(faults)),
         Err(lack) => Err(lack),
     }
 }

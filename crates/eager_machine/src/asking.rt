@@ -11,6 +11,7 @@ ghost use Rattle.region_tree.specs.Tree.{regions_of, spaces_of, AreNoted};
 ghost use Rattle.eager_vmos.specs.Vmos.{AreCounted, IsRefusalOf};
 ghost use Rattle.eager_machine.specs.Machine.{state_in};
 ghost use Rattle.eager_machine.specs.inside.Groups.{group_of};
+ghost use Rattle.eager_machine.specs.inside.Reaching.{named_in};
 ghost use Rattle.eager_machine.specs.declared.groups.Group.{Group};
 
 use crate::accessing::refusal_in_memory;
@@ -23,15 +24,17 @@ use eager_vmos::EagerVmos;
 use mapping_set::MappingSet;
 use region_tree::Regions;
 use vm_base::{Refusal, VmoName};
-use vm_model::{Call, ChildKind};
+use vm_model::{Call, ChildKind, Target};
 
-/// Returns what refuses a command: the first of its refusals whose condition holds.
+/// Returns what refuses a command: the first of its refusals whose condition holds. `target` is the answer of `named_in`.
 pub(crate) fn refusal_to(
     vmos: &EagerVmos,
     regions: &Regions,
     maps: &MappingSet,
     call: &Call<'_>,
+    target: Option<Target>,
 ) -> Option<Refusal>
+    requires named { target ≡ named_in vmos.now (command_of call.now) }
     requires well { IsWellCounted vmos.now.vmos (state_in vmos.now (spaces_of (regions_of regions.now) (table_of maps.now))) }
     requires noted { AreNoted (regions_of regions.now) (places_of maps.now) }
     ensures { result ≡ first_of (refusals (state_in vmos.now (spaces_of (regions_of regions.now) (table_of maps.now)))
@@ -39,10 +42,10 @@ pub(crate) fn refusal_to(
 {
     match group_of(call) {
         Group::Naming => refusal_in_naming(vmos, call),
-        Group::Pages => refusal_in_pages(vmos, call),
+        Group::Pages => refusal_in_pages(vmos, call, target),
         Group::Region => refusal_in_region(vmos, regions, maps, call),
         Group::Memory => refusal_in_memory(vmos, regions, maps, call),
-        Group::Telling => refusal_in_telling(vmos, regions, call),
+        Group::Telling => refusal_in_telling(vmos, regions, call, target),
     }
 }
 
@@ -94,8 +97,9 @@ fn refusal_to_child(
     }
 }
 
-fn refusal_in_pages(vmos: &EagerVmos, call: &Call<'_>) -> Option<Refusal>
+fn refusal_in_pages(vmos: &EagerVmos, call: &Call<'_>, target: Option<Target>) -> Option<Refusal>
     requires group { group_of call.now ≡ Group.Pages }
+    requires named { target ≡ named_in vmos.now (command_of call.now) }
     requires counted { AreCounted vmos.now }
     ensures { IsRefusalOf vmos.now (command_of call.now) result }
 {
@@ -104,23 +108,25 @@ fn refusal_in_pages(vmos: &EagerVmos, call: &Call<'_>) -> Option<Refusal>
             name,
             offset,
             bytes,
-        } => vmos.refusal_to_own(*name, *offset, bytes.as_slice().len() as u64),
+        } => vmos.refusal_to_own(*name, target, *offset, bytes.as_slice().len() as u64),
         Call::VmoFill {
             name,
             offset,
             len,
             ..
-        } => vmos.refusal_to_own(*name, *offset, *len),
-        Call::VmoCommit { name, offset, len } => vmos.refusal_to_own(*name, *offset, *len),
-        Call::VmoZero { name, offset, len } => vmos.refusal_to_zero(*name, *offset, *len),
-        Call::VmoDecommit { name, offset, len } => vmos.refusal_to_decommit(*name, *offset, *len),
-        Call::VmoSetSize { name, size } => vmos.refusal_to_set_size(*name, *size),
+        } => vmos.refusal_to_own(*name, target, *offset, *len),
+        Call::VmoCommit { name, offset, len } => vmos.refusal_to_own(*name, target, *offset, *len),
+        Call::VmoZero { name, offset, len } => vmos.refusal_to_zero(*name, target, *offset, *len),
+        Call::VmoDecommit { name, offset, len } => vmos.refusal_to_decommit(
+            *name, target, *offset, *len,
+        ),
+        Call::VmoSetSize { name, size } => vmos.refusal_to_set_size(*name, target, *size),
         Call::VmoPin {
             pin,
             name,
             offset,
             len,
-        } => vmos.refusal_to_pin(*pin, *name, *offset, *len),
+        } => vmos.refusal_to_pin(*pin, *name, target, *offset, *len),
         _ => unreachable!(),
     }
 }
@@ -182,14 +188,20 @@ fn refusal_in_region(
     }
 }
 
-fn refusal_in_telling(vmos: &EagerVmos, regions: &Regions, call: &Call<'_>) -> Option<Refusal>
+fn refusal_in_telling(
+    vmos: &EagerVmos,
+    regions: &Regions,
+    call: &Call<'_>,
+    target: Option<Target>,
+) -> Option<Refusal>
     requires group { group_of call.now ≡ Group.Telling }
+    requires named { target ≡ named_in vmos.now (command_of call.now) }
     requires counted { AreCounted vmos.now }
     ensures { (table : ℕ → ℕ → Option Entry) →
         result ≡ first_of (refusals (state_in vmos.now (spaces_of (regions_of regions.now) table)) (command_of call.now)) }
 {
     match call {
-        Call::VmoRead { name, offset, len } => vmos.refusal_to_read(*name, *offset, *len),
+        Call::VmoRead { name, offset, len } => vmos.refusal_to_read(*name, target, *offset, *len),
         Call::VmoSize { name } => vmos.refusal_by_name(*name),
         Call::VmoInfo { name } => vmos.refusal_by_name(*name),
         Call::Maps { region } => refusal_by_region(regions, *region),

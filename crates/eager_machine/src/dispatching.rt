@@ -13,6 +13,7 @@ ghost use Rattle.ready_map.specs.Notes.{rows_of};
 ghost use Rattle.eager_vmos.specs.Vmos.{content_in};
 ghost use Rattle.eager_machine.specs.inside.Acting.{AreSound, MayDoAll, DoesAll, Acts, AreAllKept, HasNoSuch, IsTold};
 ghost use Rattle.eager_machine.specs.inside.Groups.{group_of};
+ghost use Rattle.eager_machine.specs.inside.Reaching.{named_in};
 ghost use Rattle.eager_machine.specs.declared.groups.Group.{Group};
 
 use crate::accessing::on_memory;
@@ -28,10 +29,10 @@ use ready_map::ReadyMap;
 use region_tree::Regions;
 use std::alloc::Global;
 use vm_base::HostMemory;
-use vm_model::{Answer, Call};
+use vm_model::{Answer, Call, Target};
 
-/// Does a command that nothing refuses. `None`, with nothing changed, if it asks for a place and can't be at the address `told`.
-/// `HostMemory`, with nothing changed, if the host has too little memory.
+/// Does a command that nothing refuses. `target` is the answer of `named_in`. `None`, with nothing changed, if the command asks
+/// for a place and can't be at the address `told`. `HostMemory`, with nothing changed, if the host has too little memory.
 pub(crate) fn perform<'a>(
     alloc: Global,
     vmos: &mut EagerVmos,
@@ -39,12 +40,14 @@ pub(crate) fn perform<'a>(
     maps: &mut MappingSet,
     ready: &mut ReadyMap,
     call: &Call<'_>,
+    target: Option<Target>,
     told: u64,
     bytes: &'a mut [u8],
     numbers: &'a mut [u64],
 ) -> Result<Option<Answer<'a>>, HostMemory>
     requires sound { AreSound vmos.old (spaces_of (regions_of regions.old) (table_of maps.old)) (rows_of ready.old) }
     requires may { MayDoAll vmos.old (spaces_of (regions_of regions.old) (table_of maps.old)) (command_of call.now) }
+    requires named { target ≡ named_in vmos.old (command_of call.now) }
     requires noted { AreNoted (regions_of regions.old) (places_of maps.old) }
     requires next { (content_in vmos.old).next < KOIDS }
     requires given { GivesName (command_of call.now) }
@@ -63,10 +66,10 @@ pub(crate) fn perform<'a>(
 {
     match group_of(call) {
         Group::Naming => some(on_naming(vmos, ready, call)),
-        Group::Pages => some(on_pages(vmos, ready, call, numbers)),
+        Group::Pages => some(on_pages(vmos, ready, call, target, numbers)),
         Group::Region => on_region(vmos, regions, maps, ready, call, told),
         Group::Memory => some(on_memory(vmos, regions, maps, ready, call, bytes)),
-        Group::Telling => some(on_telling(alloc, vmos, regions, maps, call, bytes)),
+        Group::Telling => some(on_telling(alloc, vmos, regions, maps, call, target, bytes)),
     }
 }
 

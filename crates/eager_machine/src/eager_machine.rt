@@ -13,6 +13,7 @@ ghost use Rattle.moving_machine.specs.Moving.{tells_place};
 use crate::asking::refusal_to;
 use crate::dispatching::perform;
 use crate::groups::know_given;
+use crate::reaching::named_in;
 use crate::wanting::wants_memory;
 use eager_vmos::EagerVmos;
 use mapping_set::MappingSet;
@@ -88,9 +89,17 @@ impl EagerMachine {
         ensures { result ≡ (not (is_some (first_of (refusals (machine_of self.now).state (command_of call.now))))
             && may_want_memory (machine_of self.now) (command_of call.now)) }
     {
-        match refusal_to(&self.vmos, &self.regions, &self.maps, call) {
+        let target = named_in(&self.vmos, call);
+        match refusal_to(&self.vmos, &self.regions, &self.maps, call, target) {
             Some(_) => false,
-            None => wants_memory(&self.vmos, &self.regions, &self.maps, &self.ready, call),
+            None => wants_memory(
+                &self.vmos,
+                &self.regions,
+                &self.maps,
+                &self.ready,
+                call,
+                target,
+            ),
         }
     }
 
@@ -124,7 +133,8 @@ impl EagerMachine {
         ensures frames { (machine_of self.new).state.content.frames ≡ (machine_of self.old).state.content.frames }
     {
         know_given(call);
-        if let Some(refusal) = refusal_to(&self.vmos, &self.regions, &self.maps, call) {
+        let target = named_in(&self.vmos, call);
+        if let Some(refusal) = refusal_to(&self.vmos, &self.regions, &self.maps, call, target) {
             return Ok(Some(Answer::Refused(refusal)));
         }
         perform(
@@ -134,6 +144,7 @@ impl EagerMachine {
             &mut self.maps,
             &mut self.ready,
             call,
+            target,
             told,
             bytes,
             numbers,

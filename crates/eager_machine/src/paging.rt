@@ -1,5 +1,6 @@
 //! The commands that change pages of a VMO, or its size: `vmo_write`, `vmo_fill`, `vmo_commit`, `vmo_zero`, `vmo_decommit`,
-//! `vmo_set_size`, `vmo_pin`. The pages of address spaces that show a page with another frame are ready no more.
+//! `vmo_set_size`, `vmo_pin`. The caller has looked up what the name stands for (`named_in`). The pages of address spaces that
+//! show a page with another frame are ready no more.
 
 ghost use Rattle.std.specs.Prelude.{◌≡◌, ◌≤◌, length, MatchResult};
 ghost use Rattle.vm_base.specs.declared.limits.TheConstants.{PIN_PAGES};
@@ -10,13 +11,14 @@ ghost use Rattle.ready_map.specs.Notes.{rows_of};
 ghost use Rattle.eager_vmos.specs.Vmos.{AreSame, Does};
 ghost use Rattle.eager_machine.specs.inside.Acting.{MayDo, DoesVmos, AreKept};
 ghost use Rattle.eager_machine.specs.inside.Groups.{group_of};
+ghost use Rattle.eager_machine.specs.inside.Reaching.{named_in};
 ghost use Rattle.eager_machine.specs.declared.groups.Group.{Group};
 
 use crate::reaching::reach_of;
 use eager_vmos::EagerVmos;
 use ready_map::ReadyMap;
 use vm_base::HostMemory;
-use vm_model::{Answer, Call, LentNumbers};
+use vm_model::{Answer, Call, LentNumbers, Target};
 
 /// Does a command on pages, which nothing refuses. The frames of pinned pages are written to `numbers`, and lent from there.
 /// The call costs the pages of the range. `HostMemory`, with nothing changed, if the host has too little memory.
@@ -24,18 +26,20 @@ pub(crate) fn on_pages<'a>(
     vmos: &mut EagerVmos,
     ready: &mut ReadyMap,
     call: &Call<'_>,
+    target: Option<Target>,
     numbers: &'a mut [u64],
 ) -> Result<Answer<'a>, HostMemory>
     requires group { group_of call.now ≡ Group.Pages }
     requires may { MayDo vmos.old (command_of call.now) }
+    requires named { target ≡ named_in vmos.old (command_of call.now) }
     requires given { GivesName (command_of call.now) }
     requires numbers { PIN_PAGES ≤ length numbers.old }
     ensures { MatchResult result
         (λ answer. DoesVmos vmos.old (rows_of ready.old) (command_of call.now) (reply_for answer) vmos.new (rows_of ready.new))
         (λ lack. AreKept vmos.old (rows_of ready.old) vmos.new (rows_of ready.new)) }
 {
-    let reach = reach_of(vmos, call);
-    match change(vmos, call, numbers) {
+    let reach = reach_of(vmos, call, target);
+    match change(vmos, call, target, numbers) {
         Ok(answer) => {
             ready.settle(&vmos.pages, reach.koid, reach.first, reach.end);
             Ok(answer)
@@ -48,10 +52,12 @@ pub(crate) fn on_pages<'a>(
 fn change<'a>(
     vmos: &mut EagerVmos,
     call: &Call<'_>,
+    target: Option<Target>,
     numbers: &'a mut [u64],
 ) -> Result<Answer<'a>, HostMemory>
     requires group { group_of call.now ≡ Group.Pages }
     requires may { MayDo vmos.old (command_of call.now) }
+    requires named { target ≡ named_in vmos.old (command_of call.now) }
     requires numbers { PIN_PAGES ≤ length numbers.old }
     ensures { MatchResult result (λ answer. Does vmos.old (command_of call.now) (reply_for answer) vmos.new)
         (λ lack. AreSame vmos.old vmos.new) }
@@ -61,18 +67,20 @@ fn change<'a>(
             name,
             offset,
             bytes,
-        } => done(vmos.write(*name, *offset, bytes.as_slice())),
+        } => done(vmos.write(*name, target, *offset, bytes.as_slice())),
         Call::VmoFill {
             name,
             offset,
             len,
             byte,
-        } => done(vmos.fill(*name, *offset, *len, *byte)),
-        Call::VmoCommit { name, offset, len } => done(vmos.commit(*name, *offset, *len)),
-        Call::VmoZero { name, offset, len } => done(vmos.zero(*name, *offset, *len)),
-        Call::VmoDecommit { name, offset, len } => done(vmos.decommit(*name, *offset, *len)),
+        } => done(vmos.fill(*name, target, *offset, *len, *byte)),
+        Call::VmoCommit { name, offset, len } => done(vmos.commit(*name, target, *offset, *len)),
+        Call::VmoZero { name, offset, len } => done(vmos.zero(*name, target, *offset, *len)),
+        Call::VmoDecommit { name, offset, len } => done(vmos.decommit(
+            *name, target, *offset, *len,
+        )),
         Call::VmoSetSize { name, size } => {
-            vmos.set_size(*name, *size);
+            vmos.set_size(*name, target, *size);
             Ok(Answer::Done)
         }
         Call::VmoPin {
@@ -80,7 +88,7 @@ fn change<'a>(
             name,
             offset,
             len,
-        } => pinned(vmos.pin(*pin, *name, *offset, *len, numbers)),
+        } => pinned(vmos.pin(*pin, *name, target, *offset, *len, numbers)),
         _ => unreachable!(),
     }
 }

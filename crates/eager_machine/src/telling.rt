@@ -11,6 +11,7 @@ ghost use Rattle.region_tree.specs.Tree.{regions_of, spaces_of};
 ghost use Rattle.eager_machine.specs.Machine.{state_in};
 ghost use Rattle.eager_machine.specs.inside.Acting.{MayDoAll, IsLiveAt};
 ghost use Rattle.eager_machine.specs.inside.Groups.{group_of};
+ghost use Rattle.eager_machine.specs.inside.Reaching.{named_in};
 ghost use Rattle.eager_machine.specs.declared.groups.Group.{Group};
 
 use crate::spaces::live_region;
@@ -20,7 +21,7 @@ use mapping_set::MappingSet;
 use region_tree::Regions;
 use std::alloc::Global;
 use vm_base::{HostMemory, RegionName};
-use vm_model::{Answer, Call};
+use vm_model::{Answer, Call, Target};
 
 /// Does a command that changes nothing, and that nothing refuses. Bytes that are read are written to `bytes`, and lent from
 /// there. `HostMemory` if the host has too little memory, which only `maps` wants.
@@ -30,10 +31,12 @@ pub(crate) fn on_telling<'a>(
     regions: &Regions,
     maps: &MappingSet,
     call: &Call<'_>,
+    target: Option<Target>,
     bytes: &'a mut [u8],
 ) -> Result<Answer<'a>, HostMemory>
     requires group { group_of call.now ≡ Group.Telling }
     requires may { MayDoAll vmos.now (spaces_of (regions_of regions.now) (table_of maps.now)) (command_of call.now) }
+    requires named { target ≡ named_in vmos.now (command_of call.now) }
     requires bytes { DATA_BYTES ≤ length bytes.old }
     ensures { MatchResult result
         (λ answer. Effect (state_in vmos.now (spaces_of (regions_of regions.now) (table_of maps.now))) (command_of call.now)
@@ -42,7 +45,7 @@ pub(crate) fn on_telling<'a>(
 {
     match call {
         Call::VmoRead { name, offset, len } => {
-            Ok(Answer::Bytes(vmos.read(*name, *offset, *len, bytes)))
+            Ok(Answer::Bytes(vmos.read(*name, target, *offset, *len, bytes)))
         }
         Call::VmoSize { name } => Ok(Answer::Number(vmos.size(*name))),
         Call::VmoInfo { name } => Ok(Answer::Info(vmos.info(*name))),

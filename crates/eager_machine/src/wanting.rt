@@ -15,6 +15,7 @@ ghost use Rattle.eager_vmos.specs.Vmos.{state_with};
 ghost use Rattle.eager_machine.specs.Machine.{state_in, machine_in};
 ghost use Rattle.eager_machine.specs.inside.Acting.{MayDo, MayDoAll};
 ghost use Rattle.eager_machine.specs.inside.Groups.{group_of};
+ghost use Rattle.eager_machine.specs.inside.Reaching.{named_in};
 ghost use Rattle.eager_machine.specs.declared.groups.Group.{Group};
 
 use crate::accessing::wants_in_memory;
@@ -28,7 +29,7 @@ use ready_map::ReadyMap;
 use region_ops::is_mapped_in;
 use region_tree::Regions;
 use vm_base::{page_count, page_of};
-use vm_model::Call;
+use vm_model::{Call, Target};
 
 /// Returns whether a command that nothing refuses may want memory of the host. The call costs the pages of a range that
 /// are owned.
@@ -38,14 +39,16 @@ pub(crate) fn wants_memory(
     maps: &MappingSet,
     ready: &ReadyMap,
     call: &Call<'_>,
+    target: Option<Target>,
 ) -> bool
-    requires { MayDoAll vmos.now (spaces_of (regions_of regions.now) (table_of maps.now)) (command_of call.now) }
+    requires may { MayDoAll vmos.now (spaces_of (regions_of regions.now) (table_of maps.now)) (command_of call.now) }
+    requires named { target ≡ named_in vmos.now (command_of call.now) }
     ensures { result ≡ may_want_memory
         (machine_in vmos.now (spaces_of (regions_of regions.now) (table_of maps.now)) (rows_of ready.now)) (command_of call.now) }
 {
     match group_of(call) {
         Group::Naming => wants_in_naming(call),
-        Group::Pages => wants_in_pages(vmos, call),
+        Group::Pages => wants_in_pages(vmos, call, target),
         Group::Region => wants_in_region(vmos, regions, maps, call),
         Group::Memory => wants_in_memory(ready, call),
         Group::Telling => wants_in_telling(vmos, regions, maps, call),
@@ -63,12 +66,13 @@ fn wants_in_naming(call: &Call<'_>) -> bool
     }
 }
 
-fn wants_in_pages(vmos: &EagerVmos, call: &Call<'_>) -> bool
+fn wants_in_pages(vmos: &EagerVmos, call: &Call<'_>, target: Option<Target>) -> bool
     requires group { group_of call.now ≡ Group.Pages }
     requires may { MayDo vmos.now (command_of call.now) }
+    requires named { target ≡ named_in vmos.now (command_of call.now) }
     ensures { (s : State) → result ≡ may_lack_memory (state_with s vmos.now) (command_of call.now) }
 {
-    let reach = reach_of(vmos, call);
+    let reach = reach_of(vmos, call, target);
     match call {
         Call::VmoWrite { .. } => has_shared(&vmos.pages, reach),
         Call::VmoFill { .. } => has_shared(&vmos.pages, reach),

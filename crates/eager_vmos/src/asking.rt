@@ -1,4 +1,5 @@
-//! What refuses a command on pages or pins of a VMO. Nothing changes.
+//! What refuses a command on pages or pins of a VMO. Nothing changes. The caller has looked up what the name stands for: `target`,
+//! which is `None` if the name is not open.
 
 ghost use Rattle.std.specs.Prelude.{◌≡◌, ◌+◌, ◌*◌, ◌%◌, ◌≤◌, ◌==◌, ◌&&◌, ◌||◌, not, nat_lt, is_some, IsSome};
 ghost use Rattle.vm_base.specs.declared.limits.TheConstants.{PAGE, PIN_PAGES, VMO_PAGES};
@@ -10,6 +11,7 @@ ghost use Rattle.vm_model.specs.Contents.Writing.{touched};
 ghost use Rattle.vm_model.specs.Machine.State.{State, place_of};
 ghost use Rattle.vm_model.specs.Machine.Refusals.{change_refusals, first_of};
 ghost use Rattle.pin_table.specs.Table.{pins_of};
+ghost use Rattle.vmo_table.specs.Table.{names_of};
 ghost use Rattle.eager_pages.specs.Eager.{content_of};
 ghost use Rattle.eager_vmos.specs.Vmos.{state_with, AreCounted, IsRefusalOf};
 
@@ -19,6 +21,7 @@ use vm_base::{
     DATA_BYTES, Koid, PAGE, PIN_PAGES, PinName, Refusal, VMO_PAGES, VmoName, in_page, page_count,
     page_of, round_up,
 };
+use vm_model::Target;
 use vmo_ops::{cost_to_zero, is_pinned_past, need_of, place_in_vmo, touched_pages};
 
 impl EagerVmos {
@@ -29,12 +32,19 @@ impl EagerVmos {
     /// - `AccessDenied` if it may not write;
     /// - `OutOfRange` if the range passes its end;
     /// - `NoMemory` if the pages that are not sole are more than the free frames.
-    pub fn refusal_to_own(&self, name: VmoName, offset: u64, len: u64) -> Option<Refusal>
-        requires { AreCounted self.now }
+    pub fn refusal_to_own(
+        &self,
+        name: VmoName,
+        target: Option<Target>,
+        offset: u64,
+        len: u64,
+    ) -> Option<Refusal>
+        requires counted { AreCounted self.now }
+        requires named { target ≡ names_of self.now.vmos name.0 }
         ensures { (s : State) → result ≡ first_of (change_refusals (state_with s self.now) name.0 offset len
             (touched (place_of (state_with s self.now) name.0 offset) len)) }
     {
-        let found = match self.find_to_change(name, offset, len) {
+        let found = match self.find_to_change(name, target, offset, len) {
             Ok(found) => found,
             Err(refusal) => return Some(refusal),
         };
@@ -46,11 +56,18 @@ impl EagerVmos {
 
     /// Returns what refuses to make a range zero. This is as for a write, but `NoMemory` only if the pages that are to be
     /// written with zeros and are not sole are more than the free frames.
-    pub fn refusal_to_zero(&self, name: VmoName, offset: u64, len: u64) -> Option<Refusal>
-        requires { AreCounted self.now }
+    pub fn refusal_to_zero(
+        &self,
+        name: VmoName,
+        target: Option<Target>,
+        offset: u64,
+        len: u64,
+    ) -> Option<Refusal>
+        requires counted { AreCounted self.now }
+        requires named { target ≡ names_of self.now.vmos name.0 }
         ensures { IsRefusalOf self.now (Command.VmoZero name offset len) result }
     {
-        let found = match self.find_to_change(name, offset, len) {
+        let found = match self.find_to_change(name, target, offset, len) {
             Ok(found) => found,
             Err(refusal) => return Some(refusal),
         };
@@ -69,11 +86,18 @@ impl EagerVmos {
     /// - `NotSupported` if the VMO is a snapshot, has a VMO as child, or has a reference;
     /// - `OutOfRange` if the range passes the name's end;
     /// - `BadState` if a page of the range is pinned.
-    pub fn refusal_to_decommit(&self, name: VmoName, offset: u64, len: u64) -> Option<Refusal>
-        requires { AreCounted self.now }
+    pub fn refusal_to_decommit(
+        &self,
+        name: VmoName,
+        target: Option<Target>,
+        offset: u64,
+        len: u64,
+    ) -> Option<Refusal>
+        requires counted { AreCounted self.now }
+        requires named { target ≡ names_of self.now.vmos name.0 }
         ensures { IsRefusalOf self.now (Command.VmoDecommit name offset len) result }
     {
-        let Some(target) = self.vmos.resolve(name) else {
+        let Some(target) = target else {
             return Some(Refusal::BadHandle);
         };
         if !target.may_write {
@@ -103,11 +127,17 @@ impl EagerVmos {
     /// - `Unavailable` if it may not resize;
     /// - `OutOfRange` if the size is over 2^48 bytes;
     /// - `BadState` if a page past the new end is pinned.
-    pub fn refusal_to_set_size(&self, name: VmoName, size: u64) -> Option<Refusal>
-        requires { AreCounted self.now }
+    pub fn refusal_to_set_size(
+        &self,
+        name: VmoName,
+        target: Option<Target>,
+        size: u64,
+    ) -> Option<Refusal>
+        requires counted { AreCounted self.now }
+        requires named { target ≡ names_of self.now.vmos name.0 }
         ensures { IsRefusalOf self.now (Command.VmoSetSize name size) result }
     {
-        let Some(target) = self.vmos.resolve(name) else {
+        let Some(target) = target else {
             return Some(Refusal::BadHandle);
         };
         if !target.may_write {
@@ -127,11 +157,18 @@ impl EagerVmos {
 
     /// Returns what refuses to read `len` bytes from `offset` bytes into the name on. In this order, it is `BadHandle` if
     /// the name is not open, `InvalidArgs` if `len` is over `DATA_BYTES`, `OutOfRange` if the range passes the name's end.
-    pub fn refusal_to_read(&self, name: VmoName, offset: u64, len: u64) -> Option<Refusal>
-        requires { AreCounted self.now }
+    pub fn refusal_to_read(
+        &self,
+        name: VmoName,
+        target: Option<Target>,
+        offset: u64,
+        len: u64,
+    ) -> Option<Refusal>
+        requires counted { AreCounted self.now }
+        requires named { target ≡ names_of self.now.vmos name.0 }
         ensures { IsRefusalOf self.now (Command.VmoRead name offset len) result }
     {
-        let Some(target) = self.vmos.resolve(name) else {
+        let Some(target) = target else {
             return Some(Refusal::BadHandle);
         };
         if len > DATA_BYTES as u64 {
@@ -155,13 +192,15 @@ impl EagerVmos {
         &self,
         pin: PinName,
         name: VmoName,
+        target: Option<Target>,
         offset: u64,
         len: u64,
     ) -> Option<Refusal>
-        requires { AreCounted self.now }
+        requires counted { AreCounted self.now }
+        requires named { target ≡ names_of self.now.vmos name.0 }
         ensures { IsRefusalOf self.now (Command.VmoPin pin name offset len) result }
     {
-        let Some(target) = self.vmos.resolve(name) else {
+        let Some(target) = target else {
             return Some(Refusal::BadHandle);
         };
         if self.has_pin(pin) {
@@ -221,7 +260,8 @@ fn is_too_large(size: u64) -> bool
     round_up(size, VMO_PAGES * PAGE).is_none()
 }
 
-// Whether owning the pages that a range inside a VMO touches takes more frames than are free.
+// Whether owning the pages that a range inside a VMO touches takes more frames than are free. No page takes more than one, so
+// none is looked at if there is a free frame for each.
 fn lacks_frames(pages: &EagerPages, v: Koid, offset: u64, len: u64) -> bool
     requires good { IsGood (content_of pages.now) }
     requires vmo { IsSome ((content_of pages.now).count v.0) }
@@ -230,5 +270,9 @@ fn lacks_frames(pages: &EagerPages, v: Koid, offset: u64, len: u64) -> bool
         (used (content_of pages.now) + need (content_of pages.now) v.0 (touched offset len)) }
 {
     let (first, end) = touched_pages(offset, len);
-    need_of(pages, v, first, end) > u64::from(pages.free())
+    let free = pages.free() as u64;
+    if end - first <= free {
+        return false;
+    }
+    need_of(pages, v, first, end) > free
 }

@@ -3,11 +3,13 @@
 ghost use Rattle.std.specs.Prelude.{◌≡◌, List, ℕ, Some, MatchResult};
 ghost use Rattle.vm_model.specs.Machine.State.{State};
 ghost use Rattle.vm_model.specs.Machine.Refusals.{change_refusals, first_of};
+ghost use Rattle.vmo_table.specs.Table.{names_of};
 ghost use Rattle.eager_vmos.specs.Vmos.{state_with, AreCounted};
 ghost use Rattle.eager_vmos.specs.inside.Found.{IsFound};
 
 use crate::eager_vmos::EagerVmos;
 use vm_base::{Koid, Refusal, VmoName};
+use vm_model::Target;
 use vmo_ops::place_in_vmo;
 
 /// A range of a VMO: the VMO, and where the range begins in it, in bytes.
@@ -24,15 +26,17 @@ impl EagerVmos {
     pub(crate) fn find_to_change(
         &self,
         name: VmoName,
+        target: Option<Target>,
         offset: u64,
         len: u64,
     ) -> Result<Found, Refusal>
-        requires { AreCounted self.now }
+        requires counted { AreCounted self.now }
+        requires named { target ≡ names_of self.now.vmos name.0 }
         ensures { MatchResult result (IsFound self.now name.0 offset len)
             (λ refusal. (s : State) (owned : List ℕ)
             → first_of (change_refusals (state_with s self.now) name.0 offset len owned) ≡ Some refusal) }
     {
-        let Some(target) = self.vmos.resolve(name) else {
+        let Some(target) = target else {
             return Err(Refusal::BadHandle);
         };
         if !target.may_write {

@@ -1,34 +1,35 @@
 //! The commands that change nothing: `vmo_read`, `vmo_size`, `vmo_info`, `stat`. The caller has asked whether they are
 //! refused. None takes memory.
 
-ghost use Rattle.std.specs.Prelude.{◌≤◌, length};
+ghost use Rattle.std.specs.Prelude.{◌≡◌, ◌≤◌, length};
 ghost use Rattle.vm_base.specs.declared.limits.TheConstants.{DATA_BYTES};
 ghost use Rattle.vm_model.specs.declared.command.Command.{Command};
 ghost use Rattle.vm_model.specs.declared.reply.Reply.{Reply};
+ghost use Rattle.vmo_table.specs.Table.{names_of};
 ghost use Rattle.eager_vmos.specs.Vmos.{Allows, AreCounted, Does};
 
 use crate::eager_vmos::EagerVmos;
 use pages::size_of_name;
 use vm_base::{DATA_BYTES, VmoName};
-use vm_model::{Info, LentBytes, Stat};
+use vm_model::{Info, LentBytes, Stat, Target};
 
 impl EagerVmos {
     /// Reads `len` bytes from `offset` bytes into the name on (`zx_vmo_read`), into `room`, and lends them from there.
     pub fn read<'a>(
         &self,
         name: VmoName,
+        target: Option<Target>,
         offset: u64,
         len: u64,
         room: &'a mut [u8],
     ) -> LentBytes<'a>
         requires parts { AreCounted self.now }
         requires allowed { Allows self.now (Command.VmoRead name offset len) }
+        requires named { target ≡ names_of self.now.vmos name.0 }
         requires room { DATA_BYTES ≤ length room.old }
         ensures { Does self.now (Command.VmoRead name offset len) (Reply.Bytes result) self.now }
     {
-        let Some(target) = self.vmos.resolve(name) else {
-            unreachable!()
-        };
+        let Some(target) = target else { unreachable!() };
         match vmo_ops::read_into(&self.pages, &target, offset, len, room) {
             Ok(bytes) => bytes,
             Err(_) => unreachable!(),

@@ -1,10 +1,11 @@
 -- The pages of a VMO whose frames a command may change.
-use Rattle.std.specs.Prelude.{◌≡◌, ℕ, ◌+◌, ◌*◌, ◌/◌, ◌≤◌, length, Some}
+use Rattle.std.specs.Prelude.{◌≡◌, ℕ, ◌+◌, ◌*◌, ◌/◌, ◌≤◌, length, Option, None, Some}
 use Rattle.vm_base.specs.Pages.{rounded}
 use Rattle.vm_base.specs.declared.limits.TheConstants.{PAGE, VMO_PAGES}
 use Rattle.vm_base.specs.declared.names.Koid.{Koid}
+use Rattle.vm_base.specs.declared.names.VmoName.{VmoName}
 use Rattle.vm_model.specs.declared.command.Command.{Command}
-use Rattle.vm_model.specs.declared.command.Command.TheVariants.{VmoSetSize, VmoWrite, VmoFill, VmoCommit, VmoDecommit, VmoZero, VmoPin}
+use Rattle.vm_model.specs.declared.command.Command.TheVariants.{VmoRead, VmoSetSize, VmoWrite, VmoFill, VmoCommit, VmoDecommit, VmoZero, VmoPin}
 use Rattle.vm_model.specs.declared.names.Target.{Target}
 use Rattle.vm_model.specs.Contents.Writing.{touched}
 use Rattle.vm_model.specs.Machine.State.{State, target_of, place_of, name_pages, seen_pages}
@@ -13,6 +14,26 @@ use Rattle.vmo_table.specs.Table.{names_of}
 use Rattle.eager_vmos.specs.Vmos.{content_in}
 use Rattle.eager_vmos.specs.declared.eager_vmos.EagerVmos.{EagerVmos}
 use Rattle.eager_machine.specs.declared.reaching.Reach.{Reach}
+
+-- the name by which a command reads or changes pages of a VMO
+abbrev pub name_for_pages : Command → Option VmoName
+name_for_pages (VmoRead name offset len) = Some name
+name_for_pages (VmoWrite name offset bytes) = Some name
+name_for_pages (VmoFill name offset len byte) = Some name
+name_for_pages (VmoCommit name offset len) = Some name
+name_for_pages (VmoDecommit name offset len) = Some name
+name_for_pages (VmoZero name offset len) = Some name
+name_for_pages (VmoPin pin name offset len) = Some name
+name_for_pages (VmoSetSize name size) = Some name
+name_for_pages command = None
+
+-- what this name stands for, if there is one and it is open
+abbrev pub resolved_in : EagerVmos → Option VmoName → Option Target
+resolved_in e (Some name) = names_of e.vmos name.0
+resolved_in e None = None
+
+abbrev pub named_in : EagerVmos → Command → Option Target
+named_in e command = resolved_in e (name_for_pages command)
 
 -- the pages that a range of `len` bytes, `at` bytes into a VMO, touches
 abbrev pub reach_at : Koid → (at len : ℕ) → Reach

@@ -8,7 +8,7 @@ use Rattle.eager_machine.proofs.WantLaws.{lack_want}
 use Rattle.eager_machine.proofs.wanting.wants_memory.Goals as goal
 
 pub wants_in_pages-requires-clause-may : goal.wants_in_pages-requires-clause-may
-wants_in_pages-requires-clause-may c = may_do c.requires
+wants_in_pages-requires-clause-may c = may_do c.requires.may
 
 pub returns-in-Naming : goal.returns-in-Naming
 returns-in-Naming c =

@@ -3,7 +3,7 @@ use Rattle.eager_vmos.proofs.FoundLaws.{found_vmo, own_rows}
 use Rattle.eager_vmos.proofs.eager_vmos.EagerVmos.refusal_to_own.Goals as goal
 
 pub lacks_frames-requires-clause-vmo : goal.lacks_frames-requires-clause-vmo
-lacks_frames-requires-clause-vmo c = found_vmo c.in-Ok.ensures c.requires
+lacks_frames-requires-clause-vmo c = found_vmo c.in-Ok.ensures c.requires.counted
 
 pub returns-then-lacks_frames : goal.returns-then-lacks_frames
 returns-then-lacks_frames c = λ s. sym (own_rows c.in-Ok.ensures s _ (sym c.if-lacks_frames.true ∙ c.lacks_frames.ensures))

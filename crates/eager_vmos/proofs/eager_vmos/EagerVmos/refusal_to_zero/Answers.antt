@@ -4,7 +4,7 @@ use Rattle.eager_vmos.proofs.FoundLaws.{found_vmo, zero_rows}
 use Rattle.eager_vmos.proofs.eager_vmos.EagerVmos.refusal_to_zero.Goals as goal
 
 pub cost_to_zero-cost-requires-clause-vmo : goal.cost_to_zero-cost-requires-clause-vmo
-cost_to_zero-cost-requires-clause-vmo c = found_vmo c.in-Ok.ensures c.requires
+cost_to_zero-cost-requires-clause-vmo c = found_vmo c.in-Ok.ensures c.requires.counted
 
 pub returns-then-cost-from : goal.returns-then-cost-from
 returns-then-cost-from c = λ s.
