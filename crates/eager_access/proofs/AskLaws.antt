@@ -1,22 +1,23 @@
 -- What refuses an access, by the one or two pages that it touches.
-use Rattle.std.proofs.Common.{◌≡◌, ℕ, ◌+◌, ◌/◌, ◌%◌, ◌≤◌, Bool, true, false, cond, ◌||◌, List, [], ◌∷◌, length, ◌<◌, Option, None, Some, refl, sym, ap, subst, ◌∙◌}
-use Rattle.std.specs.Prelude.{is_some, unwrap_or, IsSome}
+use Rattle.std.proofs.Common.{◌≡◌, ℕ, zero, suc, ◌+◌, ◌/◌, ◌%◌, ◌≤◌, Bool, true, false, cond, ◌||◌, List, [], ◌∷◌, length, ◌<◌, Option, None, Some, refl, sym, ap, subst, ◌∙◌, inl, inr, arith}
+use Rattle.std.specs.Prelude.{nat_lt, is_some, unwrap_or, IsSome}
 use Rattle.std.specs.Option.{option_or}
 use Rattle.std.specs.List.{list_any}
-use Rattle.std.proofs.lemmas.Bool.{le-ltb, lt-ltb, ltb-false}
+use Rattle.std.proofs.lemmas.Bool.{cases_lt, le-ltb, lt-ltb, ltb-false}
+use Rattle.std.proofs.lemmas.List.{length-map}
 use Rattle.vm_base.specs.declared.limits.TheConstants.{PAGE}
 use Rattle.vm_base.specs.declared.names.RegionName.{RegionName}
 use Rattle.vm_base.specs.declared.refusal.Refusal.{Refusal}
-use Rattle.vm_base.specs.declared.refusal.Refusal.TheVariants.{NotFound, OutOfRange}
+use Rattle.vm_base.specs.declared.refusal.Refusal.TheVariants.{NotFound, NoMemory, OutOfRange}
 use Rattle.vm_base.proofs.EntryLaws.{none_is, some_same}
 use Rattle.vm_model.specs.declared.command.Command.TheVariants.{MemRead, MemWrite}
 use Rattle.vm_model.specs.declared.space.Entry.{Entry}
-use Rattle.vm_model.specs.Contents.Content.{Content, used, pages_of}
-use Rattle.vm_model.specs.Contents.Owning.{need_each}
+use Rattle.vm_model.specs.Contents.Content.{Content, used, sole, pages_of}
+use Rattle.vm_model.specs.Contents.Owning.{VmoPage, need_from, need_each}
 use Rattle.vm_model.specs.Contents.Writing.{touched}
 use Rattle.vm_model.specs.Space.Rights.{has, reading, writing}
-use Rattle.vm_model.specs.Machine.Access.{refusal_at, access_refusal, pages_shown}
-use Rattle.vm_model.specs.Machine.Refusals.{refusals, read_refusals, first_of}
+use Rattle.vm_model.specs.Machine.Access.{refusal_at, access_refusal, entry_at, page_shown, pages_shown}
+use Rattle.vm_model.specs.Machine.Refusals.{refusals, read_refusals, write_refusals, first_of}
 use Rattle.vm_model.proofs.AccessLaws.{refusal_at-entry, access_refusal-parts}
 use Rattle.vm_model.proofs.ContentLaws.{pages_of-at}
 use Rattle.vm_model.proofs.RangeLaws.{touched-nil}
@@ -86,12 +87,44 @@ read_row c entries ps = go (access_refusal c reading entries ps) where
 
 -- ---- the pages that an access touches
 
+-- they are two at most
+touched_few : (addr len : ℕ) → len ≤ PAGE → length (touched addr len) ≤ 2
+touched_few addr zero few = subst (λ (ps : List ℕ). length ps ≤ 2) (sym (touched-nil addr)) (omega arith)
+touched_few addr (suc len) few = elim (cases_lt PAGE (addr % PAGE + suc len)) [
+  | inl two ↦ subst (λ (ps : List ℕ). length ps ≤ 2) (sym (touched-two addr (suc len) two few)) (omega arith)
+  | inr one ↦ subst (λ (ps : List ℕ). length ps ≤ 2) (sym (touched-one addr (suc len) (omega arith) one)) (omega arith)
+]
+
 module _ (addr len p : ℕ) (start : p ≡ addr / PAGE) where
   pub touches_one : 0 < len → addr % PAGE + len ≤ PAGE → touched addr len ≡ p ∷ []
   touches_one some fits = rw start (touched-one addr len some fits)
 
   pub touches_two : PAGE < addr % PAGE + len → len ≤ PAGE → touched addr len ≡ p ∷ (p + 1) ∷ []
   touches_two passes few = rw start (touched-two addr len passes few)
+
+-- ---- a write that no page refuses
+
+-- each page takes one frame at most
+need_from-most : (fresh : ℕ) (c : Content) (ws : List VmoPage) → need_from fresh c ws ≤ length ws
+unfolding need_from
+need_from-most fresh c [] = omega arith
+need_from-most fresh c (w ∷ ws) = go (sole c w.koid w.page) (need_from-most fresh c ws) (need_from-most (fresh + 1) _ ws) where
+  go : (b : Bool) {x y n : ℕ} → x ≤ n → y ≤ n → cond b x (suc y) ≤ suc n
+  go true h g = omega (arith, h)
+  go false h g = omega (arith, g)
+
+need_two : (c : Content) (entries : ℕ → Option Entry) (ps : List ℕ) → length ps ≤ 2 → need_each c (pages_shown entries ps) ≤ 2
+unfolding pages_shown
+need_two c entries ps few = omega (arith, need_from-most c.frames c (pages_shown entries ps), length-map ps (λ p. page_shown (entry_at entries p)), few)
+
+-- so it has the frames that it takes if two are free
+pub two_free : (c : Content) (entries : ℕ → Option Entry) (addr len free : ℕ) → len ≤ PAGE → None ≡ access_refusal c writing entries (touched addr len) → 2 ≤ free → free + used c ≡ c.frames
+    → None ≡ first_of (write_refusals c entries (touched addr len))
+two_free c entries addr len free few none two are =
+    let need = need_two c entries (touched addr len) (touched_few addr len few) in
+    let enough = le-ltb c.frames (used c + need_each c (pages_shown entries (touched addr len))) (omega (arith, need, two, are)) in
+    sym (ap (λ (o : Option Refusal). cond (is_some o) (Some (unwrap_or o NotFound)) (cond (nat_lt c.frames (used c + need_each c (pages_shown entries (touched addr len)))) (Some NoMemory) None)) (sym none)
+    ∙ ap (λ (b : Bool). cond b (Some NoMemory) None) enough)
 
 -- ---- an access that nothing refuses
 

@@ -166,7 +166,8 @@ fn denied_read(
     denied_access(pages, maps, region, addr, len, Perm::READ)
 }
 
-// What refuses a write of `len` bytes on the pages that it touches.
+// What refuses a write of `len` bytes on the pages that it touches. They are two at most, so the frames that it takes are
+// counted only if fewer than two are free.
 fn denied_write(
     pages: &EagerPages,
     maps: &MappingSet,
@@ -181,7 +182,11 @@ fn denied_write(
     if let Some(refusal) = denied_access(pages, maps, region, addr, len, Perm::WRITE) {
         return Some(refusal);
     }
-    if frames_to_write(pages, maps, region, addr, len) > pages.free() as u64 {
+    let free = pages.free() as u64;
+    if free >= 2 {
+        return None;
+    }
+    if frames_to_write(pages, maps, region, addr, len) > free {
         return Some(Refusal::NoMemory);
     }
     None

@@ -1,6 +1,6 @@
 //! Writing through mappings.
 
-ghost use Rattle.std.specs.Prelude.{◌≡◌, ℕ, ◌+◌, ◌%◌, ◌/◌, ◌<◌, ◌≤◌, length, Option, MatchResult, OnOk};
+ghost use Rattle.std.specs.Prelude.{◌≡◌, ℕ, ◌+◌, ◌%◌, ◌/◌, ◌<◌, ◌≤◌, true, length, Option, Some, MatchResult, OnOk};
 ghost use Rattle.vm_base.specs.declared.limits.TheConstants.{DATA_BYTES, PAGE};
 ghost use Rattle.vm_model.specs.declared.command.Command.{Command};
 ghost use Rattle.vm_model.specs.declared.reply.Reply.{Reply};
@@ -154,7 +154,7 @@ fn faults_to_write(ready: &ReadyMap, root: RegionName, page: PageNo) -> u64
 }
 
 // Notes that a page that was written is ready for writing. What showed its page of a VMO in another frame is ready for
-// nothing. There is room for a note.
+// nothing. There is room for a note. If the page was ready for writing and has kept its frame, all is noted already.
 fn note_written(
     pages: &EagerPages,
     ready: &mut ReadyMap,
@@ -164,7 +164,7 @@ fn note_written(
 )
     requires { 1 ≤ spare_of ready.old }
     ensures notes { IsNoted Readiness.Write (content_of pages.now) root.0 page entry (rows_of ready.old) (rows_of ready.new) }
-    ensures room { spare_of ready.new + 1 ≡ spare_of ready.old }
+    ensures room { spare_of ready.old ≤ spare_of ready.new + 1 }
 {
     let row = ReadyPage {
         koid: entry.koid,
@@ -172,5 +172,17 @@ fn note_written(
         frame: pages.frame(entry.koid, entry.page),
         readiness: Readiness::Write,
     };
-    ready.set(root, page, row);
+    if !is_noted(ready, root, page, row) {
+        ready.set(root, page, row);
+    }
+}
+
+// Whether this is noted of a page.
+fn is_noted(ready: &ReadyMap, root: RegionName, page: PageNo, row: ReadyPage) -> bool
+    ensures { result ≡ true → rows_of ready.now root.0 page ≡ Some row }
+{
+    match ready.at(root, page) {
+        Some(noted) => noted == row,
+        None => false,
+    }
 }
