@@ -40,7 +40,7 @@ class Call(NamedTuple):
 def crate_names(top=TOP):
     """Returns the names of all crates, lowest first."""
     lines = (top / "crates.txt").read_text().splitlines()
-    return [it.partition(":")[0] for it in lines if it.strip() and not it.startswith("#")]
+    return [it.partition(":")[0].split()[0] for it in lines if it.strip() and not it.startswith("#")]
 
 
 def rt_files(crate, top=TOP):
@@ -137,7 +137,7 @@ def calls_of(path, every=False):
             is_trait = re.match(r"^(pub )?trait\b", line) is not None
         elif line.startswith("}"):
             subject, trait, is_trait = None, None, False
-        found = re.match(r"^(\s*)(pub )?(?:pub\(crate\) )?fn (\w+)", line) if "fn " in line else None
+        found = re.match(r"^(\s*)(pub )?(?:pub\(crate\) )?(?:extern \"C\" )?fn (\w+)", line) if "fn " in line else None
         if found and len(found[1]) == (4 if subject else 0) and (every or found[2] or is_trait or trait):
             yield Call(path, subject, trait, found[3], *split_call(lines_of_call(lines, at, found[1])), comment_above(lines, at))
 

@@ -1,0 +1,98 @@
+//! What a call tells C.
+
+ghost use Rattle.std.specs.Prelude.{◌≡◌};
+ghost use Rattle.vmosim_c.specs.Calls.{line_told, script_told, refusal_told};
+
+use crate::opening::OpenError;
+use crate::script::ScriptError;
+use held_vm::AnswerError;
+
+/// The call did what it was asked.
+pub const DONE: u8 = 0;
+
+const _: () = prove!(DONE == 0);
+
+/// The reply, or the text of the replies, is longer than the caller's bytes.
+pub const OUT_OF_ROOM: u8 = 1;
+
+const _: () = prove!(OUT_OF_ROOM == 1);
+
+/// The host has too little memory.
+pub const OUT_OF_MEMORY: u8 = 2;
+
+const _: () = prove!(OUT_OF_MEMORY == 2);
+
+/// The machine has given all koids.
+pub const OUT_OF_KOIDS: u8 = 3;
+
+const _: () = prove!(OUT_OF_KOIDS == 3);
+
+/// The machine is closed.
+pub const CLOSED: u8 = 4;
+
+const _: () = prove!(CLOSED == 4);
+
+/// A machine has from 1 to `FRAMES` page frames.
+pub const FRAME_COUNT: u8 = 5;
+
+const _: () = prove!(FRAME_COUNT == 5);
+
+/// The length of the text at the front of the caller's bytes, and a status: what a call tells of a line or a script.
+#[repr(C)]
+#[derive(Clone, Copy)]
+pub struct Answered {
+    pub len: usize,
+    pub status: u8,
+}
+
+/// Tells what became of a line.
+pub(crate) fn tell_line(answer: Result<usize, AnswerError>) -> Answered
+    ensures { result ≡ line_told answer }
+{
+    match answer {
+        Ok(len) => Answered { len, status: DONE },
+        Err(AnswerError::OutOfRoom) => Answered {
+            len: 0,
+            status: OUT_OF_ROOM,
+        },
+        Err(AnswerError::OutOfMemory) => Answered {
+            len: 0,
+            status: OUT_OF_MEMORY,
+        },
+        Err(AnswerError::OutOfKoids) => Answered {
+            len: 0,
+            status: OUT_OF_KOIDS,
+        },
+    }
+}
+
+/// Tells what became of a script.
+pub(crate) fn tell_script(answer: Result<usize, ScriptError>) -> Answered
+    ensures { result ≡ script_told answer }
+{
+    match answer {
+        Ok(len) => Answered { len, status: DONE },
+        Err(ScriptError::OutOfRoom) => Answered {
+            len: 0,
+            status: OUT_OF_ROOM,
+        },
+        Err(ScriptError::OutOfMemory) => Answered {
+            len: 0,
+            status: OUT_OF_MEMORY,
+        },
+        Err(ScriptError::FrameCount) => Answered {
+            len: 0,
+            status: FRAME_COUNT,
+        },
+    }
+}
+
+/// Tells why a machine was not opened.
+pub(crate) fn tell_refusal(refusal: OpenError) -> u8
+    ensures { result ≡ refusal_told refusal }
+{
+    match refusal {
+        OpenError::FrameCount => FRAME_COUNT,
+        OpenError::OutOfMemory => OUT_OF_MEMORY,
+    }
+}

@@ -1,0 +1,41 @@
+//! A machine that is opened.
+
+ghost use Rattle.std.specs.Prelude.{◌≡◌, MatchResult};
+ghost use Rattle.vm_model.specs.Machine.Machine.{empty_machine};
+ghost use Rattle.vmosim_c.specs.Calls.{machine_kept, IsFrameCount, IsRefusal};
+
+use cow_forest::CowForest;
+use held_vm::HeldVm;
+use std::alloc::Global;
+use vm_base::FRAMES;
+
+/// The machine that C keeps, over the clone tree.
+#[derive(Drop)]
+pub struct KeptVm {
+    pub(crate) held: HeldVm<CowForest>,
+}
+
+/// Why a machine was not opened.
+pub enum OpenError {
+    /// A machine has from 1 to `FRAMES` page frames.
+    FrameCount,
+    /// The host has too little memory.
+    OutOfMemory,
+}
+
+/// Returns a machine with `frames` page frames and nothing else, in a box.
+pub(crate) fn opened(alloc: Global, frames: u32) -> Result<Box<KeptVm>, OpenError>
+    ensures { MatchResult result (λ b. machine_kept b.value ≡ empty_machine frames) (λ e. IsRefusal e frames) }
+{
+    if frames < 1 || frames > FRAMES {
+        return Err(OpenError::FrameCount);
+    }
+    let held = match HeldVm::new(alloc, frames, CowForest::new(alloc)) {
+        Ok(held) => held,
+        Err(_lack) => return Err(OpenError::OutOfMemory),
+    };
+    match Box::new(alloc, KeptVm { held }) {
+        Ok(machine) => Ok(machine),
+        Err(_lack) => Err(OpenError::OutOfMemory),
+    }
+}

@@ -1,0 +1,54 @@
+//! A whole script that is answered at once.
+
+ghost use Rattle.vmosim_c.specs.Calls.{AnswersScript};
+
+use cow_forest::CowForest;
+use script_io::{BoundedSink, SureSource};
+use std::alloc::Global;
+use vm_base::FRAMES;
+use vm_session::{Status, answered_lines_are_a_legal_run, serve};
+
+/// Why `answer_script` did not write the whole text.
+pub enum ScriptError {
+    /// A machine has from 1 to `FRAMES` page frames.
+    FrameCount,
+    /// The host has too little memory.
+    OutOfMemory,
+    /// The text is longer than the bytes of the caller.
+    OutOfRoom,
+}
+
+/// Answers the lines of a script on a machine of its own with `frames` page frames, and writes the text of the replies to the front of
+/// `out`. Returns the length of the text in bytes.
+pub(crate) fn answer_script(
+    alloc: Global,
+    frames: u32,
+    script: &[u8],
+    out: &mut [u8],
+) -> Result<usize, ScriptError>
+    ensures { AnswersScript result frames script.now out.old out.new }
+{
+    // So what `serve` says of the lines is said of one legal run.
+    answered_lines_are_a_legal_run();
+    if frames < 1 || frames > FRAMES {
+        return Err(ScriptError::FrameCount);
+    }
+    let mut text = BoundedSink::new(alloc);
+    let Ok(()) = text.restart(out.len()) else {
+        return Err(ScriptError::OutOfMemory);
+    };
+    let mut source = SureSource::new(script);
+    let mut store = CowForest::new(alloc);
+    let limit = script.len() as u64;
+    let status = serve(alloc, frames, limit, &mut store, &mut source, &mut text);
+    // By one call: at the end of the body its tables would be let go, and that proved, one by one.
+    drop(store);
+    let bytes = text.bytes();
+    out[..bytes.len()].copy_from_slice(bytes);
+    match status {
+        Status::Done => Ok(bytes.len()),
+        Status::WriteFault => Err(ScriptError::OutOfRoom),
+        Status::HostMemory => Err(ScriptError::OutOfMemory),
+        Status::Usage | Status::ReadFault | Status::ScriptLimit => unreachable!(),
+    }
+}
