@@ -1,6 +1,6 @@
 -- A VMO leaves the forest: its node is closed, and the tables no longer lead to it.
 use Rattle.std.proofs.Common.{◌≡◌, ◌≢◌, ℕ, ◌+◌, ◌-◌, ◌*◌, ◌≤◌, ◌==◌, not, cond, Option, None, Some, refl, sym, ap, subst, ◌∙◌, inl, inr, arith}
-use Rattle.std.specs.Prelude.{is_some, IfSome, IfNone}
+use Rattle.std.specs.Prelude.{is_some, IsSome, IfSome, IfNone}
 use Rattle.std.proofs.lemmas.Bool.{cases_eq, cases_lt, eq-eqb}
 use Rattle.balanced_tree.specs.Rows.{Rows}
 use Rattle.vm_base.specs.Entries.{without_key}
@@ -27,6 +27,11 @@ use Rattle.cow_forest.specs.Tables.{NodeEntries, node_in, IsDisowned, AreMerged,
 use Rattle.cow_forest.specs.Store.{Forest, tree, content_of, count_from, pages_in, frame_from, page_showing, HasNode, IsNodeOf, IsStore}
 use Rattle.cow_forest.proofs.ContentLaws.{node-visible, node-of, one-node, one-vmo, vmo-below, page-of, count-of, frame-past}
 use Rattle.cow_forest.proofs.ResizingLaws.{showing-given}
+
+-- the node to which the table leads is there
+pub node-found : (f : Forest) → IsStore f → (v : ℕ) (o : Option NodeId) → node_in f.nodes v ≡ o → IfSome o (λ at. IsSome (nodes_of f.arena at.0))
+node-found f s v None e = tt
+node-found f s v (Some at) e = ap is_some (s.named v at e).is.at
 
 -- the forest with one VMO less, and these nodes, rows, frames and tables
 abbrev pub with_less : Forest → Arena → Rows Row → Pool → NodeEntries → NodeEntries → Forest

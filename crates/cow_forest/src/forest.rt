@@ -1,6 +1,6 @@
 //! The clone tree as a store of pages.
 
-ghost use Rattle.std.specs.Prelude.{◌≡◌, ℕ, ◌+◌, ◌*◌, ◌<◌, ◌≤◌, ◌⊎◌, true, IsSome, None, IfOk, OnOk, OnErr};
+ghost use Rattle.std.specs.Prelude.{◌≡◌, ℕ, ◌+◌, ◌*◌, ◌<◌, ◌≤◌, ◌⊎◌, true, IsSome, None, IfSome, IfOk, OnOk, OnErr};
 ghost use Rattle.vm_base.specs.declared.limits.TheConstants.{VMO_PAGES, KOIDS};
 ghost use Rattle.vm_model.specs.Contents.Content.{nothing, used, sole, pages_of, created, vmos_of};
 ghost use Rattle.vm_model.specs.Contents.Owning.{Owns};
@@ -15,7 +15,7 @@ ghost use Rattle.cow_split.specs.Cost.{IsMostOfLookUp, depth};
 ghost use Rattle.page_store.specs.Pages.{look_at};
 ghost use Rattle.page_store.specs.Held.{held_from};
 ghost use Rattle.cow_forest.specs.Tables.{node_in};
-ghost use Rattle.cow_forest.specs.Store.{Forest, tree, content_of};
+ghost use Rattle.cow_forest.specs.Store.{Forest, tree, content_of, IsStore};
 ghost use Rattle.cow_forest.specs.Owning.{HasOwnRow};
 ghost use Rattle.cow_forest.specs.Counting.{frame_row_count};
 ghost use Rattle.cow_forest.specs.Ranges.{rows_reached};
@@ -26,7 +26,7 @@ use crate::owning::own_page;
 use crate::ranges::zero_pages;
 use crate::tables::{disown, leave_other, make_room, renew_merged};
 use crate::viewing::{least_koid_of, lesser_koid_of, viewer_count_of};
-use cow_arena::CowArena;
+use cow_arena::{CowArena, NodeId};
 use cow_fork::{share, zero_by_jumps};
 use cow_jump::{JumpTable, note_pair, retire_pair};
 use cow_merge::{close_by_jumps, shrink_by_jumps};
@@ -119,6 +119,29 @@ impl CowForest {
         // The number of each node is below this.
         let _room = self.arena.capacity();
         self.arena.hidden()
+    }
+
+    /// Returns the nodes of the clone tree. What always holds of the forest is said here, for whoever goes over them.
+    pub fn arena(&self) -> &CowArena
+        ensures arena { result.now ≡ self.now.arena }
+        ensures store { IsStore self.now }
+    {
+        &self.arena
+    }
+
+    /// Returns the rows of the nodes' lists.
+    pub fn lists(&self) -> &PageLists
+        ensures { result.now ≡ self.now.rows }
+    {
+        &self.lists
+    }
+
+    /// Returns the node of a VMO. `None` if there is no VMO with this koid.
+    pub fn node_of(&self, v: Koid) -> Option<NodeId>
+        ensures node { node_in self.now.nodes v.0 ≡ result }
+        ensures there { IfSome result (λ at. IsSome (nodes_of self.now.arena at.0)) }
+    {
+        self.nodes.look(v.0)
     }
 
     /// Does what `look` does, and counts the steps of its look-ups on the way from the VMO's node upwards. For each

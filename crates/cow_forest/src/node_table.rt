@@ -68,8 +68,19 @@ impl NodeTable {
         requires { IsSome (node_in self.now number) }
         ensures { node_in self.now number ≡ Some result }
     {
-        match own_node(self.recent[place_of(number)], number) {
+        match self.look(number) {
             Some(node) => node,
+            None => unreachable!(),
+        }
+    }
+
+    /// Returns the node of a number. `None` if it has no entry.
+    #[inline(always)]
+    pub(crate) fn look(&self, number: u64) -> Option<NodeId>
+        ensures { node_in self.now number ≡ result }
+    {
+        match own_node(self.recent[place_of(number)], number) {
+            Some(node) => Some(node),
             None => find(&self.displaced, number),
         }
     }
@@ -195,14 +206,13 @@ fn take_out(displaced: &mut HashMap<u64, NodeId>, number: u64)
     let _left = displaced.remove(&number);
 }
 
-/// Returns the node of a number, by a look-up in the map.
+/// Returns the node of a number, by a look-up in the map. `None` if it is not there.
 #[inline(never)]
-fn find(displaced: &HashMap<u64, NodeId>, number: u64) -> NodeId
-    requires { IsSome (displaced_in displaced.now.entries number) }
-    ensures { displaced_in displaced.now.entries number ≡ Some result }
+fn find(displaced: &HashMap<u64, NodeId>, number: u64) -> Option<NodeId>
+    ensures { displaced_in displaced.now.entries number ≡ result }
 {
     match displaced.get(&number) {
-        Some(node) => *node,
-        None => unreachable!(),
+        Some(node) => Some(*node),
+        None => None,
     }
 }

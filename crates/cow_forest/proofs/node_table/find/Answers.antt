@@ -1,11 +1,11 @@
-use Rattle.std.proofs.Common.{◌≡◌, true, false, is_some, sym, ap, ◌∙◌}
+use Rattle.std.proofs.Common.{sym}
 use Rattle.cow_forest.specs.Tables.{displaced_in}
 use Rattle.cow_forest.proofs.node_table.find.Goals as goal
 
-pub returns : goal.returns
+pub returns-in-Some : goal.returns-in-Some
 unfolding displaced_in
-returns c = sym c.in-Some.ensures.value
+returns-in-Some c = sym c.in-Some.ensures.value
 
-pub unreachable-requires : goal.unreachable-requires
+pub returns-in-None : goal.returns-in-None
 unfolding displaced_in
-unreachable-requires c = absurd (let bad : false ≡ true = ap is_some c.in-None.ensures.value ∙ c.requires in cc)
+returns-in-None c = sym c.in-None.ensures.value

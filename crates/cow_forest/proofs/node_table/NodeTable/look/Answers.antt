@@ -1,14 +1,7 @@
-use Rattle.std.proofs.Common.{sym, ap, ◌∙◌}
-use Rattle.std.specs.Prelude.{is_some}
+use Rattle.std.proofs.Common.{sym, ◌∙◌}
 use Rattle.cow_forest.specs.inside.TableFields.{entries_of}
 use Rattle.cow_forest.proofs.PlaceLaws.{found-own, found-displaced}
-use Rattle.cow_forest.proofs.node_table.NodeTable.get.Goals as goal
-
-pub find-requires : goal.find-requires
-find-requires c =
-    let none = sym c.own_node.ensures ∙ c.in-None.is in
-    let there = rw (← c.self.view_is) at c.requires in
-    sym (ap is_some (found-displaced (entries_of c.self.inside) c.args.number (rw c.place_of.ensures at none))) ∙ there
+use Rattle.cow_forest.proofs.node_table.NodeTable.look.Goals as goal
 
 pub returns-in-Some : goal.returns-in-Some
 returns-in-Some c =

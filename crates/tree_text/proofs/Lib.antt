@@ -1,0 +1,5 @@
+pub mod PlaceLaws
+pub mod WalkLaws
+pub mod RowLaws
+pub mod LineLaws
+pub mod PushLaws

@@ -1,0 +1,93 @@
+-- Laws of the lines of nodes.
+use Rattle.std.proofs.Common.{◌≡◌, ℕ, zero, suc, ◌+◌, ◌-◌, ◌^◌, ◌<◌, List, [], ◌∷◌, ◌++◌, Option, None, Some, refl, sym, ap, ◌∙◌, arith, append_assoc, append-nil}
+use Rattle.std.specs.Prelude.{codes}
+use Rattle.cow_arena.specs.declared.node.Node.{Node}
+use Rattle.cow_arena.specs.Nodes.{Nodes, nodes_of}
+use Rattle.cow_arena.specs.Walk.{Tree}
+use Rattle.cow_forest.specs.Store.{Forest, tree}
+use Rattle.tree_text.specs.Order.{Place, place_in, root_of, nodes_below, tree_nodes, nodes_from, all_nodes}
+use Rattle.tree_text.specs.Text.{rail, rails, head_text, rows_text, text_of_node, lines_text, counts_text, forest_text}
+use Rattle.tree_text.proofs.PlaceLaws.{climb-zero, climb-root, climb-level}
+use Rattle.tree_text.proofs.WalkLaws.{over-none}
+
+-- ---- rails
+
+module _ (nodes : Nodes) (n k : ℕ) (front : List ℕ) where
+  behind-none : rails nodes n k ≡ [] → front ≡ front ++ rails nodes n k
+  behind-none none = sym (ap (λ list. front ++ list) none ∙ append-nil front)
+
+  -- no level is left
+  pub rails-zero : n ≡ 0 → front ≡ front ++ rails nodes n k
+  rails-zero none =
+      behind-none (ap (λ m. rails nodes m k) none ∙ climb-zero nodes (λ j. []) (λ place above. above ++ rail place.1) k)
+
+  -- the node has no parent
+  pub rails-root : place_in nodes k ≡ None → front ≡ front ++ rails nodes n k
+  rails-root none = behind-none (climb-root nodes (λ j. []) (λ place above. above ++ rail place.1) n k none)
+
+  -- one level more
+  pub rails-more : (place : Place) (whole mid piece : List ℕ) → 0 < n → place_in nodes k ≡ Some place → whole ≡ mid ++ piece →
+      mid ≡ front ++ rails nodes (n - 1) place.0.0 → piece ≡ rail place.1 → whole ≡ front ++ rails nodes n k
+  rails-more place whole mid piece some is last before text =
+      let above = rails nodes (n - 1) place.0.0 in
+      last ∙ (ap (λ list. list ++ piece) before ∙ (append_assoc front above piece ∙ (ap (λ list. front ++ (above ++ list)) text
+      ∙ ap (λ list. front ++ list) (sym (climb-level nodes (λ j. []) (λ place above. above ++ rail place.1) n k place some is)))))
+
+-- ---- lines
+
+module _ (t : Tree) where
+  pub lines-none : lines_text t [] ≡ []
+  unfolding lines_text
+  lines-none = refl
+
+  pub lines-cons : (k : ℕ) (nodes : List ℕ) → lines_text t (k ∷ nodes) ≡ text_of_node t k (t.nodes k) ++ lines_text t nodes
+  unfolding lines_text
+  lines-cons k nodes = refl
+
+  pub lines-append : (a b : List ℕ) → lines_text t (a ++ b) ≡ lines_text t a ++ lines_text t b
+  unfolding lines_text
+  lines-append [] b = refl
+  lines-append (k ∷ a) b =
+      ap (λ list. text_of_node t k (t.nodes k) ++ list) (lines-append a b) ∙ sym (append_assoc (text_of_node t k (t.nodes k)) (lines_text t a) (lines_text t b))
+
+  -- the line of a node is its head, its rows, and what ends it
+  pub line-parts : (k : ℕ) (node : Node) (piece : List ℕ) → t.nodes k ≡ Some node → piece ≡ head_text t.nodes k node →
+      text_of_node t k (t.nodes k) ≡ piece ++ (rows_text (t.slots node.list.0) (2 ^ 64) 0 ++ codes " ]\n")
+  line-parts k node piece at head =
+      let rows = rows_text (t.slots node.list.0) (2 ^ 64) 0 in
+      ap (text_of_node t k) at ∙ (append_assoc (head_text t.nodes k node) rows (codes " ]\n")
+      ∙ ap (λ list. list ++ (rows ++ codes " ]\n")) (sym head))
+
+-- ---- trees
+
+module _ (f : Forest) where
+  -- the text of the forest is what is counted, and its lines
+  pub forest-parts : (piece : List ℕ) → piece ≡ counts_text f → forest_text f ≡ piece ++ lines_text (tree f) (all_nodes f)
+  forest-parts piece counts = ap (λ list. list ++ lines_text (tree f) (all_nodes f)) (sym counts)
+
+  -- no tree begins at this VMO
+  pub tree-none : (v : ℕ) → None ≡ root_of f v → [] ≡ lines_text (tree f) (tree_nodes f v)
+  tree-none v none =
+      sym (ap (λ o. lines_text (tree f) (nodes_below (nodes_of f.arena) f.arena.lists o)) (sym none)
+      ∙ (ap (lines_text (tree f)) (over-none (nodes_of f.arena) f.arena.lists) ∙ lines-none (tree f)))
+
+  pub from-none : (n v : ℕ) → n ≡ 0 → nodes_from f n v ≡ []
+  unfolding nodes_from
+  from-none zero v none = refl
+  from-none (suc n) v none = absurd (omega arith)
+
+  pub from-step : (n m v w : ℕ) → n ≡ m + 1 → w ≡ v + 1 → nodes_from f n v ≡ tree_nodes f v ++ nodes_from f m w
+  unfolding nodes_from
+  from-step zero m v w count next = absurd (omega arith)
+  from-step (suc n) m v w count next =
+      let one : n ≡ m = omega arith in
+      let same : suc v ≡ w = omega arith in
+      ap (λ k. tree_nodes f v ++ nodes_from f k (suc v)) one ∙ ap (λ k. tree_nodes f v ++ nodes_from f m k) same
+
+  -- the lines of one tree more
+  pub lines-step : (n m v w : ℕ) → n ≡ m + 1 → w ≡ v + 1 →
+      lines_text (tree f) (nodes_from f n v) ≡ lines_text (tree f) (tree_nodes f v) ++ lines_text (tree f) (nodes_from f m w)
+  lines-step n m v w count next = ap (lines_text (tree f)) (from-step n m v w count next) ∙ lines-append (tree f) (tree_nodes f v) (nodes_from f m w)
+
+  pub lines-end : (n v : ℕ) → n ≡ 0 → lines_text (tree f) (nodes_from f n v) ≡ []
+  lines-end n v none = ap (lines_text (tree f)) (from-none n v none) ∙ lines-none (tree f)
