@@ -1,0 +1,55 @@
+-- The words of the command line.
+use Rattle.std.specs.Prelude.{ℕ, Bool, true, false, List, [], ◌∷◌, map, codes, if◌then◌else◌, Option, None, Some, option_map}
+use Rattle.std.specs.String.{string_bytes}
+use Rattle.std.specs.declared.string.String.{String}
+use Rattle.std.specs.declared.alloc.Global.{Global}
+use Rattle.vm_base.specs.declared.limits.TheConstants.{DEFAULT_FRAMES}
+use Rattle.vm_model.specs.Language.Reading.{◌>>=◌}
+use Rattle.served.specs.Words.{is_text, frames_of_word}
+use Rattle.vmotree.specs.declared.request.Request.{Request}
+use Rattle.vmotree.specs.declared.request.Wanted.{Wanted}
+use Rattle.vmotree.specs.declared.request.Wanted.TheVariants as wanted
+
+-- what no words ask for
+abbrev pub first_request : Request
+first_request = record { frames = DEFAULT_FRAMES; each = false; replies = false; wanted = wanted.Flag }
+
+-- a word that is a flag of its own, or wants a value behind it
+abbrev pub with_flag : Request → List ℕ → Option Request
+with_flag r word =
+    if is_text word (codes "--text") then Some r
+    else if is_text word (codes "--replies") then Some (record r { replies = true })
+    else if is_text word (codes "--frames") then Some (record r { wanted = wanted.Frames })
+    else if is_text word (codes "--at") then Some (record r { wanted = wanted.When })
+    else None
+
+-- when the tree is drawn
+abbrev pub with_time : Request → List ℕ → Option Request
+with_time r word =
+    if is_text word (codes "end") then Some (record r { each = false; wanted = wanted.Flag })
+    else if is_text word (codes "each") then Some (record r { each = true; wanted = wanted.Flag })
+    else None
+
+abbrev pub with_word : Request → Wanted → List ℕ → Option Request
+with_word r wanted.Flag word = with_flag r word
+with_word r wanted.Frames word = option_map (λ (n : ℕ). record r { frames = n; wanted = wanted.Flag }) (frames_of_word word)
+with_word r wanted.When word = with_time r word
+
+abbrev pub with_all_words : Request → List (List ℕ) → Option Request
+with_all_words r [] = Some r
+with_all_words r (word ∷ words) = do
+  next ← with_word r r.wanted word
+  with_all_words next words
+
+-- a request in which no value is wanted any more
+abbrev pub if_complete : Request → Wanted → Option Request
+if_complete r wanted.Flag = Some r
+if_complete r wanted.Frames = None
+if_complete r wanted.When = None
+
+abbrev pub complete : Request → Option Request
+complete r = if_complete r r.wanted
+
+-- what the words ask for. None if they are outside the grammar
+abbrev pub request_in : List (String Global) → Option Request
+request_in words = with_all_words first_request (map string_bytes words) >>= complete

@@ -1,0 +1,156 @@
+//! Answering a line of a script by the clone tree.
+
+ghost use Rattle.std.specs.Prelude.{◌≡◌, ◌+◌, ◌<◌, ◌≤◌, Bool};
+ghost use Rattle.script_io.specs.Faults.{HasCause};
+ghost use Rattle.vm_base.specs.declared.limits.TheConstants.{KOIDS};
+ghost use Rattle.vm_model.specs.Machine.Machine.{IsGoodMachine};
+ghost use Rattle.vm_core.specs.Vm.{Agrees, machine_of};
+ghost use Rattle.served.specs.Outcome.{AnswersLine};
+ghost use Rattle.cow_forest.specs.Store.{content_of};
+ghost use Rattle.vm_model.specs.Language.Reading.{reading};
+ghost use Rattle.vmotree.specs.Drawing.{drawing_rules, kind_of, TellsLine};
+
+use cow_forest::CowForest;
+use script_io::{CountSink, Sink};
+use script_text::read_call;
+use served::{Interpreter, push_syntax};
+use tree_text::write_forest;
+use vm_base::{DATA_BYTES, Failed, KOIDS};
+use vm_session::VmInterpreter;
+
+/// The machine of `run`, whose answer to a command is its reply, if `REPLIES` says so, and the clone tree then, if `EACH` says so.
+#[derive(Drop)]
+pub(crate) struct Drawer<const REPLIES: bool, const EACH: bool> {
+    pub(crate) vm: VmInterpreter,
+}
+
+impl<const REPLIES: bool, const EACH: bool> Interpreter<CowForest> for Drawer<REPLIES, EACH> {
+    ghost use Rattle.std.specs.Prelude.{refl};
+    ghost use Rattle.vm_model.specs.Machine.Machine.{Machine};
+    ghost use Rattle.vmotree.specs.Drawing.{GivesDrawing-long};
+
+    ghost State = { Machine };
+
+    ghost rules = { drawing_rules REPLIES EACH };
+
+    ghost state = { λ x c. machine_of c x.vm };
+
+    ghost Agrees = { λ x c. Agrees c x.vm };
+
+    fn answer_line<K: Sink>(
+        &mut self,
+        store: &mut CowForest,
+        sink: &mut K,
+        line: &[u8],
+    ) -> Result<(), Failed> {
+        answer_line(store, &mut self.vm, sink, line, REPLIES, EACH)
+    }
+
+    ghost holds = { λ x c. refl };
+
+    ghost long = { GivesDrawing-long REPLIES EACH };
+}
+
+/// What a line of a script is.
+#[derive(Clone, Copy)]
+pub(crate) enum Kind {
+    /// A comment, or a line without a word.
+    Blank,
+    /// A command.
+    Order,
+    /// A line outside the grammar.
+    Outside,
+}
+
+/// Returns what a line is.
+fn read_kind(line: &[u8]) -> Kind
+    ensures { result ≡ kind_of (reading line.now) }
+{
+    let mut room = [0; DATA_BYTES];
+    match read_call(line, &mut room) {
+        Ok(None) => Kind::Blank,
+        Ok(Some(_)) => Kind::Order,
+        Err(_) => Kind::Outside,
+    }
+}
+
+/// Answers one line. `Failed` if the sink failed; the line was done all the same.
+fn answer_line<K: Sink>(
+    store: &mut CowForest,
+    vm: &mut VmInterpreter,
+    sink: &mut K,
+    line: &[u8],
+    replies: bool,
+    each: bool,
+) -> Result<(), Failed>
+    requires agrees { Agrees (content_of store.old) vm.old }
+    requires next { (content_of store.old).next < KOIDS }
+    ensures answer { AnswersLine (drawing_rules replies each) line.now (machine_of (content_of store.old) vm.old)
+        (machine_of (content_of store.new) vm.new) (K.contents sink.old) (K.contents sink.new) result }
+    ensures agrees { Agrees (content_of store.new) vm.new }
+    ensures good { IsGoodMachine (machine_of (content_of store.new) vm.new) }
+    ensures next { (content_of store.new).next ≤ (content_of store.old).next + 1 }
+    ensures cause { HasCause (K.faults sink.old) (K.faults sink.new) result }
+{
+    match read_kind(line) {
+        Kind::Blank => Ok(()),
+        Kind::Order => draw_order(store, vm, sink, line, replies, each),
+        Kind::Outside => push_syntax(sink),
+    }
+}
+
+/// Answers a line that is a command.
+fn draw_order<K: Sink>(
+    store: &mut CowForest,
+    vm: &mut VmInterpreter,
+    sink: &mut K,
+    line: &[u8],
+    replies: bool,
+    each: bool,
+) -> Result<(), Failed>
+    requires agrees { Agrees (content_of store.old) vm.old }
+    requires next { (content_of store.old).next < KOIDS }
+    requires order { kind_of (reading line.now) ≡ Kind.Order }
+    ensures answer { AnswersLine (drawing_rules replies each) line.now (machine_of (content_of store.old) vm.old)
+        (machine_of (content_of store.new) vm.new) (K.contents sink.old) (K.contents sink.new) result }
+    ensures agrees { Agrees (content_of store.new) vm.new }
+    ensures good { IsGoodMachine (machine_of (content_of store.new) vm.new) }
+    ensures next { (content_of store.new).next ≤ (content_of store.old).next + 1 }
+    ensures cause { HasCause (K.faults sink.old) (K.faults sink.new) result }
+{
+    let told = tell(store, vm, sink, line, replies);
+    // What always holds of the tree is said here.
+    let _nodes = store.arena();
+    let Ok(()) = told else {
+        return Err(Failed);
+    };
+    if !each {
+        return Ok(());
+    }
+    write_forest(store, sink)
+}
+
+/// Has a line done, and pushes its reply, if replies are asked for.
+fn tell<K: Sink>(
+    store: &mut CowForest,
+    vm: &mut VmInterpreter,
+    sink: &mut K,
+    line: &[u8],
+    replies: bool,
+) -> Result<(), Failed>
+    requires agrees { Agrees (content_of store.old) vm.old }
+    requires next { (content_of store.old).next < KOIDS }
+    ensures told { TellsLine replies line.now (machine_of (content_of store.old) vm.old)
+        (machine_of (content_of store.new) vm.new) (K.contents sink.old) (K.contents sink.new) result }
+    ensures agrees { Agrees (content_of store.new) vm.new }
+    ensures good { IsGoodMachine (machine_of (content_of store.new) vm.new) }
+    ensures next { (content_of store.new).next ≤ (content_of store.old).next + 1 }
+    ensures cause { HasCause (K.faults sink.old) (K.faults sink.new) result }
+{
+    if replies {
+        return vm.answer_line(store, sink, line);
+    }
+    let mut unheard = CountSink::new();
+    let _counted = vm.answer_line(store, &mut unheard, line);
+    Ok(())
+}
