@@ -1,4 +1,4 @@
--- The text of a clone tree: a line that counts, and a line for each node, indented by where it stands.
+-- The text of a clone tree: a line that counts, and a line for each node. It is a drawing by indented lines, or a graph.
 use Rattle.std.specs.Prelude.{ℕ, zero, suc, ◌^◌, Bool, true, false, List, [], ◌∷◌, ◌++◌, codes, decimal, Option, None, Some}
 use Rattle.vm_base.specs.declared.names.Koid.{Koid}
 use Rattle.vm_model.specs.Contents.Content.{vmos_of}
@@ -9,11 +9,13 @@ use Rattle.page_list.specs.Lists.{row_count}
 use Rattle.cow_arena.specs.declared.node.Node.{Node}
 use Rattle.cow_arena.specs.declared.node.Side.{Side}
 use Rattle.cow_arena.specs.declared.node.Side.TheVariants as side
-use Rattle.cow_arena.specs.Nodes.{Nodes}
+use Rattle.cow_arena.specs.Nodes.{Nodes, node_above}
 use Rattle.cow_arena.specs.Counts.{hidden_count}
 use Rattle.cow_arena.specs.Walk.{Tree}
 use Rattle.cow_forest.specs.Store.{Forest, tree, content_of}
 use Rattle.tree_text.specs.Order.{Place, place_in, climb, all_nodes}
+use Rattle.tree_text.specs.declared.lines.Form.{Form}
+use Rattle.tree_text.specs.declared.lines.Form.TheVariants as form
 use Rattle.tree_text.specs.declared.lines.TheConstants.{LEVELS}
 
 -- ---- rows
@@ -71,17 +73,32 @@ abbrev pub indented : Nodes → Option Place → List ℕ
 indented nodes None = []
 indented nodes (Some place) = rails nodes LEVELS place.0.0 ++ branch place.1
 
-abbrev pub head_text : Nodes → (k : ℕ) → Node → List ℕ
-head_text nodes k node = codes "#    " ++ indented nodes (place_in nodes k) ++ node_text node
+-- In a graph the name of a node stands before it, and behind it a line that leads to it from its parent.
+abbrev pub before_text : Form → Nodes → (k : ℕ) → Node → List ℕ
+before_text form.Drawing nodes k node = codes "#    " ++ indented nodes (place_in nodes k)
+before_text form.Graph nodes k node = codes "\"" ++ name_text node.list.0 node.koid ++ codes "\" [label=\""
+
+abbrev pub edge_text : Node → Option Node → List ℕ
+edge_text node None = []
+edge_text node (Some above) =
+    codes "\"" ++ name_text above.list.0 above.koid ++ codes "\" -> \"" ++ name_text node.list.0 node.koid ++ codes "\"\n"
+
+abbrev pub head_text : Form → Nodes → (k : ℕ) → Node → List ℕ
+head_text form nodes k node = before_text form nodes k node ++ node_text node
+
+abbrev pub tail_text : Form → Nodes → (k : ℕ) → Node → List ℕ
+tail_text form.Drawing nodes k node = codes " ]\n"
+tail_text form.Graph nodes k node = codes " ]\"]\n" ++ edge_text node (node_above nodes k)
 
 -- the line of node k, with its rows. A page number is less than 2 ^ 64
-abbrev pub text_of_node : Tree → (k : ℕ) → Option Node → List ℕ
-text_of_node t k None = []
-text_of_node t k (Some node) = head_text t.nodes k node ++ rows_text (t.slots node.list.0) (2 ^ 64) 0 ++ codes " ]\n"
+abbrev pub text_of_node : Form → Tree → (k : ℕ) → Option Node → List ℕ
+text_of_node form t k None = []
+text_of_node form t k (Some node) =
+    head_text form t.nodes k node ++ rows_text (t.slots node.list.0) (2 ^ 64) 0 ++ tail_text form t.nodes k node
 
-unfoldable pub lines_text : Tree → List ℕ → List ℕ
-lines_text t [] = []
-lines_text t (k ∷ nodes) = text_of_node t k (t.nodes k) ++ lines_text t nodes
+unfoldable pub lines_text : Form → Tree → List ℕ → List ℕ
+lines_text form t [] = []
+lines_text form t (k ∷ nodes) = text_of_node form t k (t.nodes k) ++ lines_text form t nodes
 
 -- ---- the forest
 
@@ -90,5 +107,13 @@ abbrev pub counts_text : Forest → List ℕ
 counts_text f = codes "#" ++ field (codes "vmos") (vmos_of (content_of f)) ++ field (codes "hidden") (hidden_count f.arena)
     ++ field (codes "rows") (row_count f.rows) ++ codes "\n"
 
-abbrev pub forest_text : Forest → List ℕ
-forest_text f = counts_text f ++ lines_text (tree f) (all_nodes f)
+abbrev pub open_text : Form → List ℕ
+open_text form.Drawing = []
+open_text form.Graph = codes "digraph {\nnode [shape=box]\n"
+
+abbrev pub close_text : Form → List ℕ
+close_text form.Drawing = []
+close_text form.Graph = codes "}\n"
+
+abbrev pub forest_text : Form → Forest → List ℕ
+forest_text form f = (counts_text f ++ open_text form) ++ lines_text form (tree f) (all_nodes f) ++ close_text form

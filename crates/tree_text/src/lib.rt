@@ -9,4 +9,5 @@ mod lines;
 mod walking;
 mod writing;
 
+pub use lines::Form;
 pub use writing::write_forest;

@@ -2,10 +2,10 @@
 
 ghost use Rattle.std.specs.Prelude.{◌≡◌, ℕ, ◌+◌, ◌*◌, ◌≤◌, ◌++◌, length, take, Some, IsSome};
 ghost use Rattle.cow_arena.specs.declared.node.Node.{Node};
-ghost use Rattle.cow_arena.specs.Nodes.{nodes_of};
+ghost use Rattle.cow_arena.specs.Nodes.{Nodes, nodes_of, node_above};
 ghost use Rattle.cow_arena.specs.Forest.{IsForest};
 ghost use Rattle.tree_text.specs.Order.{place_in};
-ghost use Rattle.tree_text.specs.Text.{bits_text, slot_text, row_text, name_text, node_text, branch, rail, rails, indented, head_text, counts_text};
+ghost use Rattle.tree_text.specs.Text.{bits_text, slot_text, row_text, name_text, node_text, branch, rail, rails, indented, before_text, edge_text, head_text, tail_text, counts_text, open_text, close_text};
 
 use crate::walking::place;
 use cow_arena::{CowArena, Node, NodeId, Side};
@@ -14,6 +14,15 @@ use page_list::Slot;
 use page_store::PageStore;
 use vm_base::PageNo;
 use word_text::{put, put_decimal, put_field, put_number};
+
+/// The form of the text.
+#[derive(Clone, Copy, Debug, PartialEq, Eq)]
+pub enum Form {
+    /// A drawing by indented lines, which are comments in a script.
+    Drawing,
+    /// A graph, as graphviz reads it.
+    Graph,
+}
 
 /// How many levels above a node its line is indented by. Deeper ones read as these do. That loses nothing: a hidden node has two
 /// children and a VMO's node none, so the order of the lines alone says which node stands below which.
@@ -25,11 +34,42 @@ pub(crate) const HEAD_ROOM: usize = 256;
 /// The bytes that a row takes, at most.
 pub(crate) const ROW_ROOM: usize = 64;
 
+/// Writes what stands before all nodes: what is counted, and what opens a graph. Returns where it ends.
+pub(crate) fn write_opening(form: Form, forest: &CowForest, out: &mut [u8]) -> usize
+    requires { HEAD_ROOM ≤ length out.old }
+    ensures text { take result out.new ≡ counts_text forest.now ++ open_text form }
+    ensures end { result ≤ length out.new }
+{
+    let end = write_counts(forest, out);
+    put(opening(form), out, end)
+}
+
+/// Returns what opens the text behind the counts.
+fn opening(form: Form) -> &'static [u8]
+    ensures text { result.now ≡ open_text form }
+    ensures short { length result.now ≤ 40 }
+{
+    match form {
+        Form::Drawing => b"",
+        Form::Graph => b"digraph {\nnode [shape=box]\n",
+    }
+}
+
+/// Returns what closes the text.
+pub(crate) fn closing(form: Form) -> &'static [u8]
+    ensures { result.now ≡ close_text form }
+{
+    match form {
+        Form::Drawing => b"",
+        Form::Graph => b"}\n",
+    }
+}
+
 /// Writes what is counted, with its line feed, and returns where it ends.
-pub(crate) fn write_counts(forest: &CowForest, out: &mut [u8]) -> usize
+fn write_counts(forest: &CowForest, out: &mut [u8]) -> usize
     requires { HEAD_ROOM ≤ length out.old }
     ensures line { take result out.new ≡ counts_text forest.now }
-    ensures end { result ≤ length out.new }
+    ensures end { result ≤ 128 }
 {
     let (vmos, hidden, rows) = (forest.vmos(), forest.hidden(), forest.rows());
     let at = put(b"#", out, 0);
@@ -40,17 +80,93 @@ pub(crate) fn write_counts(forest: &CowForest, out: &mut [u8]) -> usize
 }
 
 /// Writes the line of a node up to its rows, and returns where that ends.
-pub(crate) fn write_head(arena: &CowArena, at: NodeId, out: &mut [u8]) -> usize
+pub(crate) fn write_head(form: Form, arena: &CowArena, at: NodeId, out: &mut [u8]) -> usize
     requires forest { IsForest (nodes_of arena.now) arena.now.lists }
     requires node { IsSome (nodes_of arena.now at.0) }
     requires room { HEAD_ROOM ≤ length out.old }
     ensures head { (node : Node) → nodes_of arena.now at.0 ≡ Some node →
-        take result out.new ≡ head_text (nodes_of arena.now) at.0 node }
+        take result out.new ≡ head_text form (nodes_of arena.now) at.0 node }
     ensures end { result ≤ length out.new }
 {
-    let end = put(b"#    ", out, 0);
-    let end = put_indent(arena, at, out, end);
+    let end = write_before(form, arena, at, out);
     put_node(arena.node(at), out, end)
+}
+
+/// Writes what stands before a node, and returns where it ends.
+fn write_before(form: Form, arena: &CowArena, at: NodeId, out: &mut [u8]) -> usize
+    requires forest { IsForest (nodes_of arena.now) arena.now.lists }
+    requires node { IsSome (nodes_of arena.now at.0) }
+    requires room { HEAD_ROOM ≤ length out.old }
+    ensures text { (node : Node) → nodes_of arena.now at.0 ≡ Some node →
+        take result out.new ≡ before_text form (nodes_of arena.now) at.0 node }
+    ensures end { result ≤ 128 }
+{
+    match form {
+        Form::Drawing => write_indent(arena, at, out),
+        Form::Graph => write_label(arena.node(at), out),
+    }
+}
+
+/// Writes what stands before a node in a drawing, and returns where it ends.
+fn write_indent(arena: &CowArena, at: NodeId, out: &mut [u8]) -> usize
+    requires forest { IsForest (nodes_of arena.now) arena.now.lists }
+    requires node { IsSome (nodes_of arena.now at.0) }
+    requires room { HEAD_ROOM ≤ length out.old }
+    ensures text { (node : Node) → take result out.new ≡ before_text Form.Drawing (nodes_of arena.now) at.0 node }
+    ensures end { result ≤ 128 }
+{
+    let end = put(b"#    ", out, 0);
+    put_indent(arena, at, out, end)
+}
+
+/// Writes what stands before a node in a graph, and returns where it ends.
+fn write_label(node: Node, out: &mut [u8]) -> usize
+    requires { HEAD_ROOM ≤ length out.old }
+    ensures text { (nodes : Nodes) (k : ℕ) → take result out.new ≡ before_text Form.Graph nodes k node }
+    ensures end { result ≤ 128 }
+{
+    let end = put(b"\"", out, 0);
+    let end = put_name(node, out, end);
+    put(b"\" [label=\"", out, end)
+}
+
+/// Writes what stands behind the rows of a node, and returns where it ends.
+pub(crate) fn write_tail(form: Form, arena: &CowArena, at: NodeId, out: &mut [u8]) -> usize
+    requires forest { IsForest (nodes_of arena.now) arena.now.lists }
+    requires node { IsSome (nodes_of arena.now at.0) }
+    requires room { HEAD_ROOM ≤ length out.old }
+    ensures tail { (node : Node) → nodes_of arena.now at.0 ≡ Some node →
+        take result out.new ≡ tail_text form (nodes_of arena.now) at.0 node }
+    ensures end { result ≤ length out.new }
+{
+    match form {
+        Form::Drawing => put(b" ]\n", out, 0),
+        Form::Graph => {
+            let end = put(b" ]\"]\n", out, 0);
+            put_edge(arena, at, out, end)
+        }
+    }
+}
+
+/// Writes the line that leads to a node from its parent, if it has one.
+fn put_edge(arena: &CowArena, at: NodeId, out: &mut [u8], end: usize) -> usize
+    requires forest { IsForest (nodes_of arena.now) arena.now.lists }
+    requires node { IsSome (nodes_of arena.now at.0) }
+    requires room { end + 128 ≤ length out.old }
+    ensures written { (node : Node) → nodes_of arena.now at.0 ≡ Some node →
+        take result out.new ≡ take end out.old ++ edge_text node (node_above (nodes_of arena.now) at.0) }
+    ensures end { result ≤ end + 128 }
+{
+    let node = arena.node(at);
+    let Some(parent) = node.parent else {
+        return end;
+    };
+    let above = arena.node(parent);
+    let end = put(b"\"", out, end);
+    let end = put_name(above, out, end);
+    let end = put(b"\" -> \"", out, end);
+    let end = put_name(node, out, end);
+    put(b"\"\n", out, end)
 }
 
 /// Writes what stands before a node, behind the first `end` bytes of `out`, which stay, and returns where it ends.

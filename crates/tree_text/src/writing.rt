@@ -11,7 +11,9 @@ ghost use Rattle.cow_forest.specs.Store.{tree};
 ghost use Rattle.tree_text.specs.Order.{place_in, nodes_below, tree_nodes, all_nodes};
 ghost use Rattle.tree_text.specs.Text.{row_text, rows_text, text_of_node, lines_text, forest_text};
 
-use crate::lines::{HEAD_ROOM, ROW_ROOM, write_counts, write_head, write_row};
+use crate::lines::{
+    Form, HEAD_ROOM, ROW_ROOM, closing, write_head, write_opening, write_row, write_tail,
+};
 use crate::walking::{first_root, next_node};
 use cow_arena::{CowArena, NodeId};
 use cow_forest::CowForest;
@@ -20,31 +22,34 @@ use page_store::PageStore;
 use script_io::{Sink, push_all};
 use vm_base::{Failed, Koid, PageNo};
 
-/// Pushes the text of the clone tree: a line of counts, and a line for each node. The trees come by the koid of the leaf that is
+/// Pushes the text of the clone tree in a form: a line of counts, and a line for each node. The trees come by the koid of the leaf that is
 /// furthest to the left, and no number in the text depends on where a node stands in memory. `Failed` if the sink failed, and then
 /// it took a front part of the text.
 ///
 /// It takes no memory. For each koid that was given it costs a look-up, for each node a few calls of the sink, and for each row one.
-pub fn write_forest<K: Sink>(forest: &CowForest, sink: &mut K) -> Result<(), Failed>
-    ensures text { SinkTakes result (K.contents sink.old) (K.contents sink.new) (forest_text forest.now) }
+pub fn write_forest<K: Sink>(form: Form, forest: &CowForest, sink: &mut K) -> Result<(), Failed>
+    ensures text { SinkTakes result (K.contents sink.old) (K.contents sink.new) (forest_text form forest.now) }
     ensures cause { HasCause (K.faults sink.old) (K.faults sink.new) result }
 {
     let mut out = [0; HEAD_ROOM];
-    let end = write_counts(forest, &mut out);
+    let end = write_opening(form, forest, &mut out);
     let Ok(()) = push_all(sink, &out[..end]) else {
         return Err(Failed);
     };
-    write_trees(forest, sink)
+    let Ok(()) = write_trees(form, forest, sink) else {
+        return Err(Failed);
+    };
+    push_all(sink, closing(form))
 }
 
 /// Pushes the lines of all nodes, tree by tree.
-fn write_trees<K: Sink>(forest: &CowForest, sink: &mut K) -> Result<(), Failed>
-    ensures text { SinkTakes result (K.contents sink.old) (K.contents sink.new) (lines_text (tree forest.now) (all_nodes forest.now)) }
+fn write_trees<K: Sink>(form: Form, forest: &CowForest, sink: &mut K) -> Result<(), Failed>
+    ensures text { SinkTakes result (K.contents sink.old) (K.contents sink.new) (lines_text form (tree forest.now) (all_nodes forest.now)) }
     ensures cause { HasCause (K.faults sink.old) (K.faults sink.new) result }
 {
     let next = forest.next_koid().0;
     for v in 0..next {
-        let Ok(()) = write_tree(forest, Koid(v), sink) else {
+        let Ok(()) = write_tree(form, forest, Koid(v), sink) else {
             return Err(Failed);
         };
     }
@@ -52,18 +57,19 @@ fn write_trees<K: Sink>(forest: &CowForest, sink: &mut K) -> Result<(), Failed>
 }
 
 /// Pushes the lines of the tree whose leaf furthest to the left is the node of a VMO, if there is one.
-fn write_tree<K: Sink>(forest: &CowForest, v: Koid, sink: &mut K) -> Result<(), Failed>
-    ensures text { SinkTakes result (K.contents sink.old) (K.contents sink.new) (lines_text (tree forest.now) (tree_nodes forest.now v.0)) }
+fn write_tree<K: Sink>(form: Form, forest: &CowForest, v: Koid, sink: &mut K) -> Result<(), Failed>
+    ensures text { SinkTakes result (K.contents sink.old) (K.contents sink.new) (lines_text form (tree forest.now) (tree_nodes forest.now v.0)) }
     ensures cause { HasCause (K.faults sink.old) (K.faults sink.new) result }
 {
     match first_root(forest, v) {
-        Some(root) => write_nodes(forest.arena(), forest.lists(), root, sink),
+        Some(root) => write_nodes(form, forest.arena(), forest.lists(), root, sink),
         None => Ok(()),
     }
 }
 
 /// Pushes the lines of a root and of all nodes below it.
 fn write_nodes<K: Sink>(
+    form: Form,
     arena: &CowArena,
     lists: &PageLists,
     root: NodeId,
@@ -73,13 +79,13 @@ fn write_nodes<K: Sink>(
     requires node { IsSome (nodes_of arena.now root.0) }
     requires top { place_in (nodes_of arena.now) root.0 ≡ None }
     ensures text { SinkTakes result (K.contents sink.old) (K.contents sink.new)
-        (lines_text (tree_of arena.now lists.now) (nodes_below (nodes_of arena.now) arena.now.lists (link_to root.0))) }
+        (lines_text form (tree_of arena.now lists.now) (nodes_below (nodes_of arena.now) arena.now.lists (link_to root.0))) }
     ensures cause { HasCause (K.faults sink.old) (K.faults sink.new) result }
 {
     let mut here = Some(root);
     while let Some(at) = here {
         let next = next_node(arena, at);
-        let Ok(()) = write_node(arena, lists, at, sink) else {
+        let Ok(()) = write_node(form, arena, lists, at, sink) else {
             return Err(Failed);
         };
         here = next;
@@ -89,6 +95,7 @@ fn write_nodes<K: Sink>(
 
 /// Pushes the line of a node.
 fn write_node<K: Sink>(
+    form: Form,
     arena: &CowArena,
     lists: &PageLists,
     at: NodeId,
@@ -97,19 +104,20 @@ fn write_node<K: Sink>(
     requires forest { IsForest (nodes_of arena.now) arena.now.lists }
     requires node { IsSome (nodes_of arena.now at.0) }
     ensures text { SinkTakes result (K.contents sink.old) (K.contents sink.new)
-        (text_of_node (tree_of arena.now lists.now) at.0 (nodes_of arena.now at.0)) }
+        (text_of_node form (tree_of arena.now lists.now) at.0 (nodes_of arena.now at.0)) }
     ensures cause { HasCause (K.faults sink.old) (K.faults sink.new) result }
 {
     let list = arena.node(at).list;
     let mut out = [0; HEAD_ROOM];
-    let end = write_head(arena, at, &mut out);
+    let end = write_head(form, arena, at, &mut out);
     let Ok(()) = push_all(sink, &out[..end]) else {
         return Err(Failed);
     };
     let Ok(()) = write_rows(lists, list, sink) else {
         return Err(Failed);
     };
-    push_all(sink, b" ]\n")
+    let end = write_tail(form, arena, at, &mut out);
+    push_all(sink, &out[..end])
 }
 
 /// Pushes the rows of a list.

@@ -16,7 +16,7 @@ use Rattle.vmotree.specs.Outcome.{last_text, Draws, IsFollowed, DrawsAs}
 
 module _ (r : Request) (source_old source_new sink_old sink_mid : Option (List ℕ)) (f : Forest) where
   abbrev Ended : Status → Type 0
-  Ended status = EndsAs (drawing_rules r.replies r.each) status r.frames SCRIPT_BYTES source_old source_new sink_old sink_mid (content_of f)
+  Ended status = EndsAs (drawing_rules r.replies r.each r.form) status r.frames SCRIPT_BYTES source_old source_new sink_old sink_mid (content_of f)
 
   abbrev DrawsTo : Option (List ℕ) → Status → Type 0
   DrawsTo sink_new status = DrawsAs r status source_old source_new sink_old sink_new f
@@ -33,16 +33,16 @@ module _ (r : Request) (source_old source_new sink_old sink_mid : Option (List �
   -- there is no last text
   pub ends-each : (status : Status) → r.each ≡ true → IsFollowed status → Ended status → DrawsTo sink_mid status
   ends-each status each followed ended =
-      ends-whole status sink_mid followed ended (subst (λ (b : Bool). Appends sink_mid sink_mid (if b then [] else forest_text f)) (sym each) (Appends-nil sink_mid))
+      ends-whole status sink_mid followed ended (subst (λ (b : Bool). Appends sink_mid sink_mid (if b then [] else forest_text r.form f)) (sym each) (Appends-nil sink_mid))
 
   pub ends-text : (status : Status) (sink_new : Option (List ℕ)) → r.each ≡ false → IsFollowed status → Ended status →
-      Appends sink_mid sink_new (forest_text f) → DrawsTo sink_new status
+      Appends sink_mid sink_new (forest_text r.form f) → DrawsTo sink_new status
   ends-text status sink_new each followed ended taken =
-      ends-whole status sink_new followed ended (subst (λ (b : Bool). Appends sink_mid sink_new (if b then [] else forest_text f)) (sym each) taken)
+      ends-whole status sink_new followed ended (subst (λ (b : Bool). Appends sink_mid sink_new (if b then [] else forest_text r.form f)) (sym each) taken)
 
   -- the last text was cut off
   pub ends-cut : (status : Status) (sink_new : Option (List ℕ)) → r.each ≡ false → IsFollowed status → Ended status →
-      IsCutOff sink_mid sink_new (forest_text f) → DrawsTo sink_new WriteFault
+      IsCutOff sink_mid sink_new (forest_text r.form f) → DrawsTo sink_new WriteFault
   ends-cut status sink_new each followed ended cut =
       inr (
         status,
@@ -50,7 +50,7 @@ module _ (r : Request) (source_old source_new sink_old sink_mid : Option (List �
         record {
           sink_mid = sink_mid;
           script = ended;
-          last = subst (λ (b : Bool). IsCutOff sink_mid sink_new (if b then [] else forest_text f)) (sym each) cut;
+          last = subst (λ (b : Bool). IsCutOff sink_mid sink_new (if b then [] else forest_text r.form f)) (sym each) cut;
         },
       )
 

@@ -16,6 +16,7 @@ use Rattle.cow_forest.specs.Store.{Forest, IsStore, content_of}
 use Rattle.tree_text.specs.Text.{forest_text}
 use Rattle.tree_text.specs.inside.Pushing.{IsPushed}
 use Rattle.tree_text.proofs.PushLaws.{pushed-none, pushed-more, pushed-cut, pushed-last}
+use Rattle.tree_text.specs.declared.lines.Form.{Form}
 use Rattle.vmotree.specs.declared.drawer.Kind.{Kind}
 use Rattle.vmotree.specs.declared.drawer.Kind.TheVariants as kind
 use Rattle.vmotree.specs.Drawing.{IsDrawing, DrawsIf, WritesAs, drawing_rules, kind_of, TellsLine}
@@ -43,16 +44,16 @@ is_outside Blank e = absurd cc
 is_outside (Order command) e = absurd cc
 is_outside Outside e = refl
 
-module _ (replies each : Bool) (line : List ℕ) where
+module _ (replies each : Bool) (form : Form) (line : List ℕ) where
   -- a comment
   pub answers-blank : {T E : Type 0} (s : Machine) (sink : Option (List ℕ)) (x : T) → kind.Blank ≡ kind_of (reading line) →
-      AnswersLine {T = T} {E = E} (drawing_rules replies each) line s s sink sink (Ok x)
+      AnswersLine {T = T} {E = E} (drawing_rules replies each form) line s s sink sink (Ok x)
   answers-blank s sink x e = record {
     text = [];
     gives = record {
       told = [];
       gives = record { replies = []; gives = record { answer = at_blank (λ r. GivesAs r s [] s) (reading line) e (refl, refl) }; text = refl };
-      writes = at_blank (λ r. WritesAs replies each r s [] []) (reading line) e refl;
+      writes = at_blank (λ r. WritesAs replies each form r s [] []) (reading line) e refl;
     };
     written = Appends-nil sink;
   }
@@ -60,13 +61,13 @@ module _ (replies each : Bool) (line : List ℕ) where
   -- a line outside the grammar
   pub answers-outside : {T E : Type 0} (s : Machine) (sink_old sink_new : Option (List ℕ)) (result : Result T E) → kind.Outside ≡ kind_of (reading line) →
       OnOk result (Appends sink_old sink_new syntax_text) → OnErr result (IsCutOff sink_old sink_new syntax_text) →
-      AnswersLine (drawing_rules replies each) line s s sink_old sink_new result
+      AnswersLine (drawing_rules replies each form) line s s sink_old sink_new result
   answers-outside s sink_old sink_new result e ok err = record {
     text = syntax_text;
     gives = record {
       told = syntax_text;
       gives = GivesText-outside line s (is_outside (reading line) e);
-      writes = at_outside (λ r. WritesAs replies each r s syntax_text syntax_text) (reading line) e refl;
+      writes = at_outside (λ r. WritesAs replies each form r s syntax_text syntax_text) (reading line) e refl;
     };
     written = written_or_cut result sink_old sink_new syntax_text ok err;
   }
@@ -82,23 +83,23 @@ module _ (replies each : Bool) (line : List ℕ) where
 
   module _ (old new : Machine) (f : Forest) (s : IsStore f) (same : content_of f ≡ new.state.content) (order : kind_of (reading line) ≡ kind.Order) where
     abbrev drawing : List ℕ
-    drawing = if each then forest_text f else []
+    drawing = if each then forest_text form f else []
 
-    draws : (b : Bool) → DrawsIf b new (if b then forest_text f else [])
+    draws : (b : Bool) → DrawsIf b form new (if b then forest_text form f else [])
     draws true = record { forest = f; store = s; same = same; text = refl }
     draws false = refl
 
     abbrev heard : List ℕ → List ℕ
     heard told = if replies then told else []
 
-    writes : (told : List ℕ) → WritesAs replies each (reading line) new told (heard told ++ drawing)
-    writes told = at_order (λ r. WritesAs replies each r new told (heard told ++ drawing)) (reading line) order (λ command. (drawing, draws each, refl))
+    writes : (told : List ℕ) → WritesAs replies each form (reading line) new told (heard told ++ drawing)
+    writes told = at_order (λ r. WritesAs replies each form r new told (heard told ++ drawing)) (reading line) order (λ command. (drawing, draws each, refl))
 
     module _ (sink_old sink_mid : Option (List ℕ)) where
       -- its reply was taken whole, and then the drawing, or a part of it
       pub answers-told : {T E U F : Type 0} (sink_new : Option (List ℕ)) (x : U) (result : Result T E) →
           TellsLine {T = U} {E = F} replies line old new sink_old sink_mid (Ok x) → SinkTakes result sink_mid sink_new drawing →
-          AnswersLine (drawing_rules replies each) line old new sink_old sink_new result
+          AnswersLine (drawing_rules replies each form) line old new sink_old sink_new result
       answers-told sink_new x result t taken = record {
         text = heard t.told ++ drawing;
         gives = record { told = t.told; gives = t.gives; writes = writes t.told };
@@ -108,15 +109,15 @@ module _ (replies each : Bool) (line : List ℕ) where
       }
 
       pub answers-drawn : {T E U F : Type 0} (sink_new : Option (List ℕ)) (x : U) (result : Result T E) → each ≡ true →
-          TellsLine {T = U} {E = F} replies line old new sink_old sink_mid (Ok x) → SinkTakes result sink_mid sink_new (forest_text f) →
-          AnswersLine (drawing_rules replies each) line old new sink_old sink_new result
+          TellsLine {T = U} {E = F} replies line old new sink_old sink_mid (Ok x) → SinkTakes result sink_mid sink_new (forest_text form f) →
+          AnswersLine (drawing_rules replies each form) line old new sink_old sink_new result
       answers-drawn sink_new x result on t taken =
           answers-told sink_new x result t
-          (subst (λ (b : Bool). SinkTakes result sink_mid sink_new (if b then forest_text f else [])) (sym on) taken)
+          (subst (λ (b : Bool). SinkTakes result sink_mid sink_new (if b then forest_text form f else [])) (sym on) taken)
 
       -- its reply was cut off
       pub answers-cut : {T E U F : Type 0} (x : F) (y : E) → TellsLine {T = U} {E = F} replies line old new sink_old sink_mid (Err x) →
-          AnswersLine {T = T} {E = E} (drawing_rules replies each) line old new sink_old sink_mid (Err y)
+          AnswersLine {T = T} {E = E} (drawing_rules replies each form) line old new sink_old sink_mid (Err y)
       answers-cut x y t = record {
         text = heard t.told ++ drawing;
         gives = record { told = t.told; gives = t.gives; writes = writes t.told };

@@ -13,13 +13,13 @@ use Rattle.vmotree.specs.Drawing.{drawing_rules}
 
 -- what is written behind all lines: the tree, unless it was drawn after each command
 abbrev pub last_text : Request → Forest → List ℕ
-last_text r f = if r.each then [] else forest_text f
+last_text r f = if r.each then [] else forest_text r.form f
 
 -- The script ended so, over what the sink took before the last text, and this is what the sink took of that text.
 pub record Draws (r : Request) (status : Status) (source_old source_new sink_old sink_new : Option (List ℕ)) (f : Forest)
     (Takes : Option (List ℕ) → Option (List ℕ) → List ℕ → Type 0) : Type 0 where
   pub sink_mid : Option (List ℕ)
-  pub script : EndsAs (drawing_rules r.replies r.each) status r.frames SCRIPT_BYTES source_old source_new sink_old sink_mid (content_of f)
+  pub script : EndsAs (drawing_rules r.replies r.each r.form) status r.frames SCRIPT_BYTES source_old source_new sink_old sink_mid (content_of f)
   pub last : Takes sink_mid sink_new (last_text r f)
 
 -- a script that ended so is followed by the last text
@@ -38,8 +38,8 @@ DrawsAs r Done source_old source_new sink_old sink_new f = Draws r Done source_o
 DrawsAs r ReadFault source_old source_new sink_old sink_new f = Draws r ReadFault source_old source_new sink_old sink_new f Appends
 DrawsAs r ScriptLimit source_old source_new sink_old sink_new f = Draws r ScriptLimit source_old source_new sink_old sink_new f Appends
 DrawsAs r WriteFault source_old source_new sink_old sink_new f =
-    EndsAs (drawing_rules r.replies r.each) WriteFault r.frames SCRIPT_BYTES source_old source_new sink_old sink_new (content_of f)
+    EndsAs (drawing_rules r.replies r.each r.form) WriteFault r.frames SCRIPT_BYTES source_old source_new sink_old sink_new (content_of f)
     ⊎ ((status : Status) × IsFollowed status × Draws r status source_old source_new sink_old sink_new f IsCutOff)
 DrawsAs r HostMemory source_old source_new sink_old sink_new f =
-    EndsAs (drawing_rules r.replies r.each) HostMemory r.frames SCRIPT_BYTES source_old source_new sink_old sink_new (content_of f)
+    EndsAs (drawing_rules r.replies r.each r.form) HostMemory r.frames SCRIPT_BYTES source_old source_new sink_old sink_new (content_of f)
 DrawsAs r Usage source_old source_new sink_old sink_new f = ⊥

@@ -6,18 +6,20 @@ use Rattle.std.specs.declared.alloc.Global.{Global}
 use Rattle.vm_base.specs.declared.limits.TheConstants.{DEFAULT_FRAMES}
 use Rattle.vm_model.specs.Language.Reading.{◌>>=◌}
 use Rattle.served.specs.Words.{is_text, frames_of_word}
+use Rattle.tree_text.specs.declared.lines.Form.TheVariants as form
 use Rattle.vmotree.specs.declared.request.Request.{Request}
 use Rattle.vmotree.specs.declared.request.Wanted.{Wanted}
 use Rattle.vmotree.specs.declared.request.Wanted.TheVariants as wanted
 
 -- what no words ask for
 abbrev pub first_request : Request
-first_request = record { frames = DEFAULT_FRAMES; each = false; replies = false; wanted = wanted.Flag }
+first_request = record { frames = DEFAULT_FRAMES; form = form.Drawing; each = false; replies = false; wanted = wanted.Flag }
 
 -- a word that is a flag of its own, or wants a value behind it
 abbrev pub with_flag : Request → List ℕ → Option Request
 with_flag r word =
-    if is_text word (codes "--text") then Some r
+    if is_text word (codes "--text") then Some (record r { form = form.Drawing })
+    else if is_text word (codes "--dot") then Some (record r { form = form.Graph })
     else if is_text word (codes "--replies") then Some (record r { replies = true })
     else if is_text word (codes "--frames") then Some (record r { wanted = wanted.Frames })
     else if is_text word (codes "--at") then Some (record r { wanted = wanted.When })

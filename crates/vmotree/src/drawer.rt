@@ -8,30 +8,32 @@ ghost use Rattle.vm_core.specs.Vm.{Agrees, machine_of};
 ghost use Rattle.served.specs.Outcome.{AnswersLine};
 ghost use Rattle.cow_forest.specs.Store.{content_of};
 ghost use Rattle.vm_model.specs.Language.Reading.{reading};
-ghost use Rattle.vmotree.specs.Drawing.{drawing_rules, kind_of, TellsLine};
+ghost use Rattle.vmotree.specs.Drawing.{drawing_rules, form_of, kind_of, TellsLine};
 
 use cow_forest::CowForest;
 use script_io::{CountSink, Sink};
 use script_text::read_call;
 use served::{Interpreter, push_syntax};
-use tree_text::write_forest;
+use tree_text::{Form, write_forest};
 use vm_base::{DATA_BYTES, Failed, KOIDS};
 use vm_session::VmInterpreter;
 
-/// The machine of `run`, whose answer to a command is its reply, if `REPLIES` says so, and the clone tree then, if `EACH` says so.
+/// The machine of `run`, whose answer to a command is its reply, if `REPLIES` says so, and the clone tree then, if `EACH` says so:
+/// a graph or a drawing, as `GRAPH` says.
 #[derive(Drop)]
-pub(crate) struct Drawer<const REPLIES: bool, const EACH: bool> {
+pub(crate) struct Drawer<const REPLIES: bool, const EACH: bool, const GRAPH: bool> {
     pub(crate) vm: VmInterpreter,
 }
 
-impl<const REPLIES: bool, const EACH: bool> Interpreter<CowForest> for Drawer<REPLIES, EACH> {
+impl<const REPLIES: bool, const EACH: bool, const GRAPH: bool> Interpreter<CowForest>
+    for Drawer<REPLIES, EACH, GRAPH> {
     ghost use Rattle.std.specs.Prelude.{refl};
     ghost use Rattle.vm_model.specs.Machine.Machine.{Machine};
     ghost use Rattle.vmotree.specs.Drawing.{GivesDrawing-long};
 
     ghost State = { Machine };
 
-    ghost rules = { drawing_rules REPLIES EACH };
+    ghost rules = { drawing_rules REPLIES EACH (form_of GRAPH) };
 
     ghost state = { λ x c. machine_of c x.vm };
 
@@ -43,12 +45,40 @@ impl<const REPLIES: bool, const EACH: bool> Interpreter<CowForest> for Drawer<RE
         sink: &mut K,
         line: &[u8],
     ) -> Result<(), Failed> {
-        answer_line(store, &mut self.vm, sink, line, REPLIES, EACH)
+        answer_line(
+            store,
+            &mut self.vm,
+            sink,
+            line,
+            Drawn {
+                replies: REPLIES,
+                each: EACH,
+                form: form_of(GRAPH),
+            },
+        )
     }
 
     ghost holds = { λ x c. refl };
 
-    ghost long = { GivesDrawing-long REPLIES EACH };
+    ghost long = { GivesDrawing-long REPLIES EACH (form_of GRAPH) };
+}
+
+/// What is written of a command.
+#[derive(Clone, Copy)]
+pub(crate) struct Drawn {
+    /// Its reply.
+    replies: bool,
+    /// The tree, behind it.
+    each: bool,
+    /// The form of the tree's text.
+    form: Form,
+}
+
+/// Returns the form that a bit says.
+fn form_of(graph: bool) -> Form
+    ensures { result ≡ form_of graph }
+{
+    if graph { Form::Graph } else { Form::Drawing }
 }
 
 /// What a line of a script is.
@@ -80,12 +110,11 @@ fn answer_line<K: Sink>(
     vm: &mut VmInterpreter,
     sink: &mut K,
     line: &[u8],
-    replies: bool,
-    each: bool,
+    drawn: Drawn,
 ) -> Result<(), Failed>
     requires agrees { Agrees (content_of store.old) vm.old }
     requires next { (content_of store.old).next < KOIDS }
-    ensures answer { AnswersLine (drawing_rules replies each) line.now (machine_of (content_of store.old) vm.old)
+    ensures answer { AnswersLine (drawing_rules drawn.replies drawn.each drawn.form) line.now (machine_of (content_of store.old) vm.old)
         (machine_of (content_of store.new) vm.new) (K.contents sink.old) (K.contents sink.new) result }
     ensures agrees { Agrees (content_of store.new) vm.new }
     ensures good { IsGoodMachine (machine_of (content_of store.new) vm.new) }
@@ -94,7 +123,7 @@ fn answer_line<K: Sink>(
 {
     match read_kind(line) {
         Kind::Blank => Ok(()),
-        Kind::Order => draw_order(store, vm, sink, line, replies, each),
+        Kind::Order => draw_order(store, vm, sink, line, drawn),
         Kind::Outside => push_syntax(sink),
     }
 }
@@ -105,29 +134,28 @@ fn draw_order<K: Sink>(
     vm: &mut VmInterpreter,
     sink: &mut K,
     line: &[u8],
-    replies: bool,
-    each: bool,
+    drawn: Drawn,
 ) -> Result<(), Failed>
     requires agrees { Agrees (content_of store.old) vm.old }
     requires next { (content_of store.old).next < KOIDS }
     requires order { kind_of (reading line.now) ≡ Kind.Order }
-    ensures answer { AnswersLine (drawing_rules replies each) line.now (machine_of (content_of store.old) vm.old)
+    ensures answer { AnswersLine (drawing_rules drawn.replies drawn.each drawn.form) line.now (machine_of (content_of store.old) vm.old)
         (machine_of (content_of store.new) vm.new) (K.contents sink.old) (K.contents sink.new) result }
     ensures agrees { Agrees (content_of store.new) vm.new }
     ensures good { IsGoodMachine (machine_of (content_of store.new) vm.new) }
     ensures next { (content_of store.new).next ≤ (content_of store.old).next + 1 }
     ensures cause { HasCause (K.faults sink.old) (K.faults sink.new) result }
 {
-    let told = tell(store, vm, sink, line, replies);
+    let told = tell(store, vm, sink, line, drawn.replies);
     // What always holds of the tree is said here.
     let _nodes = store.arena();
     let Ok(()) = told else {
         return Err(Failed);
     };
-    if !each {
+    if !drawn.each {
         return Ok(());
     }
-    write_forest(store, sink)
+    write_forest(drawn.form, store, sink)
 }
 
 /// Has a line done, and pushes its reply, if replies are asked for.

@@ -7,7 +7,7 @@ ghost use Rattle.vm_model.specs.Contents.Content.{nothing};
 ghost use Rattle.served.specs.Outcome.{EndsAs};
 ghost use Rattle.cow_forest.specs.Store.{content_of};
 ghost use Rattle.vmotree.specs.Words.{request_in};
-ghost use Rattle.vmotree.specs.Drawing.{drawing_rules};
+ghost use Rattle.vmotree.specs.Drawing.{drawing_rules, form_of};
 ghost use Rattle.vmotree.specs.Outcome.{DrawsAs};
 
 use crate::drawer::Drawer;
@@ -16,7 +16,7 @@ use cow_forest::CowForest;
 use script_io::{Sink, Source, Status};
 use served::serve;
 use std::alloc::Global;
-use tree_text::write_forest;
+use tree_text::{Form, write_forest};
 use vm_base::{FRAMES, SCRIPT_BYTES};
 use vm_session::VmInterpreter;
 
@@ -69,40 +69,74 @@ fn draw_lines<S: Source, K: Sink>(
 ) -> Status
     requires empty { content_of store.old ≡ nothing }
     requires frames { 1 ≤ request.frames × request.frames ≤ FRAMES }
-    ensures ends { EndsAs (drawing_rules request.replies request.each) result request.frames SCRIPT_BYTES (S.remaining source.old)
+    ensures ends { EndsAs (drawing_rules request.replies request.each request.form) result request.frames SCRIPT_BYTES (S.remaining source.old)
         (S.remaining source.new) (K.contents sink.old) (K.contents sink.new) (content_of store.new) }
     ensures read_cause { result ≡ Status.ReadFault → HasFailed (S.faults source.old) (S.faults source.new) }
     ensures write_cause { result ≡ Status.WriteFault → HasFailed (K.faults sink.old) (K.faults sink.new) }
     ensures host_memory { result ≡ Status.HostMemory → (source.new ≡ source.old) × (sink.new ≡ sink.old) }
 {
-    match (request.replies, request.each) {
-        (false, false) => serve_lines::<false, false, S, K>(
+    match (request.replies, request.each, request.form) {
+        (false, false, Form::Drawing) => serve_lines::<false, false, false, S, K>(
             alloc,
             request.frames,
             store,
             source,
             sink,
         ),
-        (false, true) => serve_lines::<false, true, S, K>(
+        (false, false, Form::Graph) => serve_lines::<false, false, true, S, K>(
             alloc,
             request.frames,
             store,
             source,
             sink,
         ),
-        (true, false) => serve_lines::<true, false, S, K>(
+        (false, true, Form::Drawing) => serve_lines::<false, true, false, S, K>(
             alloc,
             request.frames,
             store,
             source,
             sink,
         ),
-        (true, true) => serve_lines::<true, true, S, K>(alloc, request.frames, store, source, sink),
+        (false, true, Form::Graph) => serve_lines::<false, true, true, S, K>(
+            alloc,
+            request.frames,
+            store,
+            source,
+            sink,
+        ),
+        (true, false, Form::Drawing) => serve_lines::<true, false, false, S, K>(
+            alloc,
+            request.frames,
+            store,
+            source,
+            sink,
+        ),
+        (true, false, Form::Graph) => serve_lines::<true, false, true, S, K>(
+            alloc,
+            request.frames,
+            store,
+            source,
+            sink,
+        ),
+        (true, true, Form::Drawing) => serve_lines::<true, true, false, S, K>(
+            alloc,
+            request.frames,
+            store,
+            source,
+            sink,
+        ),
+        (true, true, Form::Graph) => serve_lines::<true, true, true, S, K>(
+            alloc,
+            request.frames,
+            store,
+            source,
+            sink,
+        ),
     }
 }
 
 /// Does the same, where it is fixed what is written of a command.
-fn serve_lines<const REPLIES: bool, const EACH: bool, S: Source, K: Sink>(
+fn serve_lines<const REPLIES: bool, const EACH: bool, const GRAPH: bool, S: Source, K: Sink>(
     alloc: Global,
     frames: u32,
     store: &mut CowForest,
@@ -111,13 +145,13 @@ fn serve_lines<const REPLIES: bool, const EACH: bool, S: Source, K: Sink>(
 ) -> Status
     requires empty { content_of store.old ≡ nothing }
     requires frames { 1 ≤ frames × frames ≤ FRAMES }
-    ensures ends { EndsAs (drawing_rules REPLIES EACH) result frames SCRIPT_BYTES (S.remaining source.old)
+    ensures ends { EndsAs (drawing_rules REPLIES EACH (form_of GRAPH)) result frames SCRIPT_BYTES (S.remaining source.old)
         (S.remaining source.new) (K.contents sink.old) (K.contents sink.new) (content_of store.new) }
     ensures read_cause { result ≡ Status.ReadFault → HasFailed (S.faults source.old) (S.faults source.new) }
     ensures write_cause { result ≡ Status.WriteFault → HasFailed (K.faults sink.old) (K.faults sink.new) }
     ensures host_memory { result ≡ Status.HostMemory → (source.new ≡ source.old) × (sink.new ≡ sink.old) }
 {
-    let mut drawer: Drawer<REPLIES, EACH> = Drawer {
+    let mut drawer: Drawer<REPLIES, EACH, GRAPH> = Drawer {
         vm: VmInterpreter::new(alloc),
     };
     let status = serve(
@@ -137,7 +171,7 @@ fn serve_lines<const REPLIES: bool, const EACH: bool, S: Source, K: Sink>(
 /// Writes the tree behind the lines of a script that ended so, unless it was drawn after each command.
 fn draw_last<K: Sink>(request: Request, status: Status, store: &CowForest, sink: &mut K) -> Status
     ensures ends { (source_old source_new sink_old : Option (List ℕ)) →
-        EndsAs (drawing_rules request.replies request.each) status request.frames SCRIPT_BYTES source_old source_new sink_old
+        EndsAs (drawing_rules request.replies request.each request.form) status request.frames SCRIPT_BYTES source_old source_new sink_old
         (K.contents sink.old) (content_of store.now) →
         DrawsAs request result source_old source_new sink_old (K.contents sink.new) store.now }
     ensures same { (result ≡ status) ⊎ (result ≡ Status.WriteFault) }
@@ -150,7 +184,7 @@ fn draw_last<K: Sink>(request: Request, status: Status, store: &CowForest, sink:
             if request.each {
                 return status;
             }
-            match write_forest(store, sink) {
+            match write_forest(request.form, store, sink) {
                 Ok(()) => status,
                 Err(_) => Status::WriteFault,
             }

@@ -5,6 +5,7 @@ ghost use Rattle.vm_base.specs.declared.limits.TheConstants.{FRAMES};
 ghost use Rattle.vmotree.specs.Words.{first_request, with_flag, with_time, with_word, complete, request_in};
 
 use served::decimal_of_word;
+use tree_text::Form;
 use vm_base::{DEFAULT_FRAMES, FRAMES};
 
 /// The value that the next word gives.
@@ -23,6 +24,8 @@ pub enum Wanted {
 pub struct Request {
     /// How many page frames the machine has.
     pub frames: u32,
+    /// The form of the text of the tree.
+    pub form: Form,
     /// The tree is drawn after each command, and not at the end.
     pub each: bool,
     /// The replies are written too.
@@ -31,7 +34,8 @@ pub struct Request {
     pub wanted: Wanted,
 }
 
-/// Returns what the words ask for. `--frames N`, `--text`, `--at end` or `--at each`, and `--replies` may stand in any order. The
+/// Returns what the words ask for. `--frames N`, `--text` or `--dot`, `--at end` or `--at each`, and `--replies` may stand in
+/// any order. The
 /// last of a kind counts. `None` for any other words.
 pub(crate) fn request_in(words: &[String]) -> Option<Request>
     ensures request { result ≡ request_in words.now }
@@ -39,6 +43,7 @@ pub(crate) fn request_in(words: &[String]) -> Option<Request>
 {
     let mut request = Request {
         frames: DEFAULT_FRAMES,
+        form: Form::Drawing,
         each: false,
         replies: false,
         wanted: Wanted::Flag,
@@ -89,6 +94,11 @@ fn with_flag(request: Request, word: &[u8]) -> Option<Request>
 {
     let mut next = request;
     if word == b"--text".as_slice() {
+        next.form = Form::Drawing;
+        return Some(next);
+    }
+    if word == b"--dot".as_slice() {
+        next.form = Form::Graph;
         return Some(next);
     }
     if word == b"--replies".as_slice() {

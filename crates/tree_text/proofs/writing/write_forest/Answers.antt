@@ -1,14 +1,22 @@
 use Rattle.std.proofs.Common.{refl}
+use Rattle.served.proofs.Answered.{written_or_cut}
 use Rattle.tree_text.proofs.LineLaws.{forest-parts}
 use Rattle.tree_text.proofs.PushLaws.{pushed-none, pushed-more, pushed-cut, pushed-last}
 use Rattle.tree_text.proofs.writing.write_forest.Goals as goal
 
 pub returns-in_default-clause-text : goal.returns-in_default-clause-text
 returns-in_default-clause-text g c =
-    pushed-cut _ _ _ _ _ _ _ (pushed-none _ _ _ (forest-parts c.args.forest.now _ c.write_counts-end.ensures.line)) refl c.in_default.ensures.err
+    let parts = forest-parts c.args.form c.args.forest.now _ _ c.write_opening-end.ensures.text refl in
+    pushed-cut _ _ _ _ _ _ _ (pushed-none _ _ _ parts) refl c.in_default.ensures.err
+
+pub returns-in_default-write_trees-clause-text : goal.returns-in_default-write_trees-clause-text
+returns-in_default-write_trees-clause-text g c =
+    let parts = forest-parts c.args.form c.args.forest.now _ _ c.write_opening-end.ensures.text refl in
+    pushed-cut _ _ _ _ _ _ _ (pushed-more _ _ _ _ _ _ _ (pushed-none _ _ _ parts) refl c.in-Ok.ensures.ok) refl c.in_default-write_trees.ensures.text
 
 pub returns-clause-text : goal.returns-clause-text
 returns-clause-text g c =
-    pushed-last _ _ _ _ _ c.write_trees.result
-    (pushed-more _ _ _ _ _ _ _ (pushed-none _ _ _ (forest-parts c.args.forest.now _ c.write_counts-end.ensures.line)) refl c.in-Ok.ensures.ok)
-    c.write_trees.ensures.text
+    let parts = forest-parts c.args.form c.args.forest.now _ _ c.write_opening-end.ensures.text c.closing.ensures in
+    pushed-last _ _ _ _ _ c.push_all-2.result
+    (pushed-more _ _ _ _ _ _ _ (pushed-more _ _ _ _ _ _ _ (pushed-none _ _ _ parts) refl c.in-Ok.ensures.ok) refl c.in-Ok-write_trees.ensures.text)
+    (written_or_cut c.push_all-2.result _ _ _ c.push_all-2.ensures.ok c.push_all-2.ensures.err)

@@ -11,8 +11,8 @@ use Rattle.tree_text.proofs.writing.write_nodes.Given as goal
 abbrev pub invariant-loop-here : goal.invariant-loop-here
 invariant-loop-here g l = record {
   pushed : IsPushed (g.K.Sink.contents l.fn.sink) (g.K.Sink.contents l.sink)
-      (lines_text (tree_of l.arena l.lists) (nodes_below (nodes_of l.arena) l.arena.lists (link_to l.fn.root.0)))
-      (lines_text (tree_of l.arena l.lists) (ahead_from (nodes_of l.arena) l.arena.lists l.here));
+      (lines_text l.form (tree_of l.arena l.lists) (nodes_below (nodes_of l.arena) l.arena.lists (link_to l.fn.root.0)))
+      (lines_text l.form (tree_of l.arena l.lists) (ahead_from (nodes_of l.arena) l.arena.lists l.here));
   there : IfSome l.here (λ at. IsSome (nodes_of l.arena at.0));
   later : g.K.Sink.faults l.fn.sink ≤ g.K.Sink.faults l.sink;
 }
