@@ -1,17 +1,21 @@
 -- What is written of one line.
-use Rattle.std.proofs.Common.{◌≡◌, ℕ, Bool, true, false, List, [], ◌++◌, Option, Result, Ok, Err, refl, sym, ap, subst, ◌∙◌}
+use Rattle.std.proofs.Common.{◌≡◌, ℕ, Bool, true, false, List, [], ◌∷◌, ◌++◌, Option, Result, Ok, Err, refl, sym, ap, subst, ◌∙◌}
 use Rattle.std.specs.Prelude.{OnOk, OnErr, if◌then◌else◌}
 use Rattle.std.specs.Io.KnownBytes.{Appends}
 use Rattle.std.proofs.KnownBytes.{Appends-nil, Appends-trans}
 use Rattle.script_io.specs.Faults.{IsCutOff}
+use Rattle.vm_base.specs.declared.refusal.Refusal.TheVariants.{Syntax}
 use Rattle.vm_model.specs.declared.command.Command.{Command}
+use Rattle.vm_model.specs.declared.reply.Reply.{Reply}
+use Rattle.vm_model.specs.declared.reply.Reply.TheVariants.{Refused}
 use Rattle.vm_model.specs.Machine.Machine.{Machine}
 use Rattle.vm_model.specs.Language.Reading.{Reading, Blank, Order, Outside, reading}
+use Rattle.vm_model.specs.Language.Text.{texts}
 use Rattle.vm_model.specs.Scripts.Run.{GivesAs}
 use Rattle.served.specs.Answering.{syntax_text}
 use Rattle.served.specs.Outcome.{AnswersLine, SinkTakes}
 use Rattle.served.proofs.Answered.{written_or_cut}
-use Rattle.vm_session.specs.inside.Plain.{plain, GivesText, GivesText-outside}
+use Rattle.vm_session.specs.inside.Plain.{plain, GivesText}
 use Rattle.cow_forest.specs.Store.{Forest, IsStore, content_of}
 use Rattle.tree_text.specs.Text.{forest_text}
 use Rattle.tree_text.specs.inside.Pushing.{IsPushed}
@@ -19,7 +23,8 @@ use Rattle.tree_text.proofs.PushLaws.{pushed-none, pushed-more, pushed-cut, push
 use Rattle.tree_text.specs.declared.lines.Form.{Form}
 use Rattle.vmotree.specs.declared.drawer.Kind.{Kind}
 use Rattle.vmotree.specs.declared.drawer.Kind.TheVariants as kind
-use Rattle.vmotree.specs.Drawing.{IsDrawing, DrawsIf, WritesAs, drawing_rules, kind_of, TellsLine}
+use Rattle.vmotree.specs.Drawing.{IsDrawing, DrawsIf, WritesAs, GivesDrawing, drawing_rules}
+use Rattle.vmotree.specs.inside.Lines.{kind_of, TellsLine}
 
 -- ---- what a line is
 
@@ -39,11 +44,6 @@ module _ (P : Reading → Type 0) where
   at_order (Order command) e p = p command
   at_order Outside e p = absurd cc
 
-is_outside : (r : Reading) → kind.Outside ≡ kind_of r → Outside ≡ r
-is_outside Blank e = absurd cc
-is_outside (Order command) e = absurd cc
-is_outside Outside e = refl
-
 module _ (replies each : Bool) (form : Form) (line : List ℕ) where
   -- a comment
   pub answers-blank : {T E : Type 0} (s : Machine) (sink : Option (List ℕ)) (x : T) → kind.Blank ≡ kind_of (reading line) →
@@ -52,7 +52,7 @@ module _ (replies each : Bool) (form : Form) (line : List ℕ) where
     text = [];
     gives = record {
       told = [];
-      gives = record { replies = []; gives = record { answer = at_blank (λ r. GivesAs r s [] s) (reading line) e (refl, refl) }; text = refl };
+      gives = record { answer = at_blank (λ r. GivesAs r s [] s) (reading line) e (refl, refl) };
       writes = at_blank (λ r. WritesAs replies each form r s [] []) (reading line) e refl;
     };
     written = Appends-nil sink;
@@ -65,9 +65,9 @@ module _ (replies each : Bool) (form : Form) (line : List ℕ) where
   answers-outside s sink_old sink_new result e ok err = record {
     text = syntax_text;
     gives = record {
-      told = syntax_text;
-      gives = GivesText-outside line s (is_outside (reading line) e);
-      writes = at_outside (λ r. WritesAs replies each form r s syntax_text syntax_text) (reading line) e refl;
+      told = Refused Syntax ∷ [];
+      gives = record { answer = at_outside (λ r. GivesAs r s (Refused Syntax ∷ []) s) (reading line) e (refl, refl) };
+      writes = at_outside (λ r. WritesAs replies each form r s (texts (Refused Syntax ∷ [])) syntax_text) (reading line) e refl;
     };
     written = written_or_cut result sink_old sink_new syntax_text ok err;
   }
@@ -95,6 +95,13 @@ module _ (replies each : Bool) (form : Form) (line : List ℕ) where
     writes : (told : List ℕ) → WritesAs replies each form (reading line) new told (heard told ++ drawing)
     writes told = at_order (λ r. WritesAs replies each form r new told (heard told ++ drawing)) (reading line) order (λ command. (drawing, draws each, refl))
 
+    drawn : (told : List ℕ) → GivesText line old told new → GivesDrawing replies each form line old (heard told ++ drawing) new
+    drawn told g = record {
+      told = g.replies;
+      gives = g.gives;
+      writes = subst (λ out. WritesAs replies each form (reading line) new out (heard told ++ drawing)) g.text (writes told);
+    }
+
     module _ (sink_old sink_mid : Option (List ℕ)) where
       -- its reply was taken whole, and then the drawing, or a part of it
       pub answers-told : {T E U F : Type 0} (sink_new : Option (List ℕ)) (x : U) (result : Result T E) →
@@ -102,7 +109,7 @@ module _ (replies each : Bool) (form : Form) (line : List ℕ) where
           AnswersLine (drawing_rules replies each form) line old new sink_old sink_new result
       answers-told sink_new x result t taken = record {
         text = heard t.told ++ drawing;
-        gives = record { told = t.told; gives = t.gives; writes = writes t.told };
+        gives = drawn t.told t.gives;
         written = pushed-last sink_old sink_mid sink_new (heard t.told ++ drawing) drawing result
             (pushed-more sink_old sink_old sink_mid (heard t.told ++ drawing) (heard t.told ++ drawing) (heard t.told) drawing
             (pushed-none sink_old (heard t.told ++ drawing) (heard t.told ++ drawing) refl) refl t.written) taken;
@@ -120,7 +127,7 @@ module _ (replies each : Bool) (form : Form) (line : List ℕ) where
           AnswersLine {T = T} {E = E} (drawing_rules replies each form) line old new sink_old sink_mid (Err y)
       answers-cut x y t = record {
         text = heard t.told ++ drawing;
-        gives = record { told = t.told; gives = t.gives; writes = writes t.told };
+        gives = drawn t.told t.gives;
         written = pushed-cut sink_old sink_old sink_mid (heard t.told ++ drawing) (heard t.told ++ drawing) (heard t.told) drawing
             (pushed-none sink_old (heard t.told ++ drawing) (heard t.told ++ drawing) refl) refl t.written;
       }

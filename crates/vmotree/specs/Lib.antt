@@ -1,3 +1,4 @@
 pub mod Words
 pub mod Drawing
 pub mod Outcome
+pub mod inside

@@ -8,7 +8,8 @@ ghost use Rattle.vm_core.specs.Vm.{Agrees, machine_of};
 ghost use Rattle.served.specs.Outcome.{AnswersLine};
 ghost use Rattle.cow_forest.specs.Store.{content_of};
 ghost use Rattle.vm_model.specs.Language.Reading.{reading};
-ghost use Rattle.vmotree.specs.Drawing.{drawing_rules, form_of, kind_of, TellsLine};
+ghost use Rattle.vmotree.specs.Drawing.{drawing_rules, form_of};
+ghost use Rattle.vmotree.specs.inside.Lines.{kind_of, TellsLine};
 
 use cow_forest::CowForest;
 use script_io::{CountSink, Sink};
