@@ -15,7 +15,7 @@ use Rattle.vm_model.specs.Scripts.Run.{GivesAs}
 use Rattle.served.specs.Answering.{syntax_text}
 use Rattle.served.specs.Outcome.{AnswersLine, SinkTakes}
 use Rattle.served.proofs.Answered.{written_or_cut}
-use Rattle.vm_session.specs.inside.Plain.{plain, GivesText}
+use Rattle.vm_session.specs.Plain.{plain, GivesText}
 use Rattle.cow_forest.specs.Store.{Forest, IsStore, content_of}
 use Rattle.tree_text.specs.Text.{forest_text}
 use Rattle.tree_text.specs.inside.Pushing.{IsPushed}
