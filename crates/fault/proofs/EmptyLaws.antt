@@ -1,16 +1,15 @@
--- Where no page is translated, nothing is kept of any.
+-- Where no page is translated, there is no row.
 use Rattle.std.proofs.Common.{◌≡◌, ◌↔◌, ℕ, ◌^◌, ◌<◌, ◌==◌, ◌/◌, ◌%◌, nat_lt, Bool, true, false, cond, IsTrue, List, [], ◌∷◌, length, Option, None, Some, refl, sym, ap, ◌∙◌, arith}
 use Rattle.std.proofs.lemmas.Nat.{div-add-mod'}
 use Rattle.std.proofs.lemmas.Bool.{cond-true, eq-eqb}
-use Rattle.std.specs.Option.{option_map}
+use Rattle.slab.specs.Slab.{get}
 use Rattle.balanced_tree.specs.Rows.{row_at}
 use Rattle.balanced_tree.specs.Pairs.{pair_rank, value_at}
 use Rattle.balanced_tree.proofs.PairLaws.{value-found}
 use Rattle.vm_base.proofs.SearchLaws.{eqb_same, eqb_is}
 use Rattle.pair_map.specs.declared.pair_row.PairRow.{PairRow}
 use Rattle.pair_map.specs.PairRows.{pair_functions, pair_rows, value_of}
-use Rattle.fault.specs.declared.translation.Kept.{Kept}
-use Rattle.fault.specs.Table.{Table, places_of}
+use Rattle.fault.specs.Table.{Table, places_of, link_of, translation_at}
 
 -- a row is found by its rank
 row-first : {V : Type 0} (n : ℕ) (x : PairRow V) (rows : List (PairRow V)) → n ≡ pair_functions.rank x → row_at pair_functions n (x ∷ rows) ≡ Some x
@@ -29,14 +28,6 @@ rows-none {V} (x ∷ rows) none =
     let gone = none a b in
     absurd (cc (found, gone))
 
--- the rows of translations of which there are none are none
-kept-none : (t : Table) → ((root p : ℕ) → places_of t root p ≡ None) → length t.rows.rows ≡ 0
-kept-none t none = rows-none t.rows.rows (λ root p. by _ (none root p))
-  where
-    by : (o : Option Kept) → option_map (λ (kept : Kept). kept.translation) o ≡ None → o ≡ None
-    by None is = refl
-    by (Some kept) is = absurd (cc)
-
 -- no row gives a value
 rows-empty : {V : Type 0} (rows : List (PairRow V)) (a b : ℕ) → length rows ≡ 0 → value_at pair_functions value_of rows a b ≡ None
 unfolding value_at
@@ -48,8 +39,9 @@ rows-empty [] a b none = same (nat_lt b (2 ^ 64))
 rows-empty (x ∷ rows) a b none = absurd (cc)
 
 -- no page is translated exactly where there is no row
-pub empty-places : (t : Table) (n : ℕ) → n ≡ length t.rows.rows → IsTrue (n == 0) ↔ ((root p : ℕ) → places_of t root p ≡ None)
-empty-places t n is = (
-  λ zero root p. ap (option_map (λ (kept : Kept). kept.translation)) (rows-empty t.rows.rows root p (sym is ∙ eqb_is n 0 zero)),
-  λ none. eq-eqb n 0 (is ∙ kept-none t none),
+pub empty-places : (t : Table) (n : ℕ) → n ≡ length t.rows.rows → ((root p : ℕ) → places_of t root p ≡ None → link_of t root p ≡ None)
+    → IsTrue (n == 0) ↔ ((root p : ℕ) → places_of t root p ≡ None)
+empty-places t n is bare = (
+  λ zero root p. ap (translation_at (get t.links)) (rows-empty t.rows.rows root p (sym is ∙ eqb_is n 0 zero)),
+  λ none. eq-eqb n 0 (is ∙ rows-none t.rows.rows (λ root p. bare root p (none root p))),
 )

@@ -1,132 +1,166 @@
--- What the searches in the lists find.
-use Rattle.std.proofs.Common.{◌≡◌, ℕ, ◌+◌, ◌<◌, ◌≤◌, Option, None, Some, refl, sym, ap, ◌∙◌, inl, inr, arith}
+-- What the searches for links and lists find.
+use Rattle.std.proofs.Common.{◌≡◌, ℕ, ◌+◌, ◌<◌, ◌≤◌, Bool, Option, None, Some, IsSome, is_some, refl, sym, ap, ◌∙◌, arith}
 use Rattle.std.specs.Prelude.{IfSome}
-use Rattle.std.specs.Option.{option_map, MatchOption}
-use Rattle.std.proofs.lemmas.Bool.{cases_lt}
+use Rattle.std.specs.Option.{option_map}
 use Rattle.vm_base.proofs.EntryLaws.{some_same, some_is}
 use Rattle.vm_base.specs.declared.names.Tag.{Tag}
 use Rattle.balanced_tree.specs.Pairs.{IsNext}
-use Rattle.fault.specs.declared.translation.Kept.{Kept}
-use Rattle.fault.specs.declared.translation.Place.{Place}
-use Rattle.fault.specs.declared.translation.FrameList.{FrameList}
-use Rattle.fault.specs.inside.Lists.{place_at, frame_list, list_with, AreListed}
-use Rattle.fault.specs.inside.Walks.{Keeping, IsListAt, HasList, HasNoList, IsNextList, HasNoMember, IsNextMember}
+use Rattle.fault.specs.declared.translation.Translation.{Translation}
+use Rattle.fault.specs.declared.translation.Link.{Link}
+use Rattle.fault.specs.Table.{translation_at, translations_in}
+use Rattle.fault.specs.inside.Lists.{Links, Shown, Holds, shown_by, shown_in, previous_in, next_in, AreLinked}
+use Rattle.fault.specs.inside.Walks.{HasFrame, HasNoList, IsNextList, HasNoPlace, IsNextPlace}
 use Rattle.fault.proofs.PairLaws.{missing}
+use Rattle.fault.proofs.ListLaws.{reached}
+use Rattle.fault.proofs.LinkLaws.{link-there}
 
-module _ (places : Keeping) (lists : ℕ → ℕ → Option FrameList) (members : ℕ → ℕ → Option Place) (next : ℕ) (h : AreListed places lists members next) where
-  -- the member that is found
-  pub next-member : (list from s : ℕ) (x : Place) → IsNext (members list) from (Some s) → members list s ≡ Some x → IsNextMember places list from (s, x)
-  next-member list from s x found is =
-      let least = found.least s refl in
-      let at = h.place list s x is in
-      let low = h.serials_below list s least.1 in
-      let fits = h.fits in
-      record {
-        order = least.0;
-        below = omega arith;
-        member = at.kept;
-        is = at.is;
-        listed = at.list;
-        serial = at.serial;
-        least = λ r p k there list_is lower upper.
-            let stands : members list k.serial ≡ Some (place_at r p) = ap (λ l. members l k.serial) (sym list_is) ∙ h.member r p k there in
-            elim (cases_lt k.serial s) [
-              | inl before ↦ absurd (missing stands (least.2 k.serial lower before))
-              | inr behind ↦
-                  let same : k.serial ≡ s = omega arith in
-                  let place : place_at r p ≡ x = some_same (sym stands ∙ (ap (members list) same ∙ is)) in
-                  (ap (λ (y : Place). y.root.0) place, ap (λ (y : Place). y.page) place)
-            ];
-      }
+-- A translation of a page is that of the page's link.
+pub record IsLinked (places : ℕ → ℕ → Option ℕ) (links : Links) (root p : ℕ) (t : Translation) : Type 0 where
+  pub number : ℕ
+  pub is : places root p ≡ Some number
+  pub link : Link
+  pub there : links number ≡ Some link
+  pub holds : link.translation ≡ t
 
-  -- there is no such member
-  pub no-member : (list from : ℕ) → IsNext (members list) from None → HasNoMember places list from
-  no-member list from none r p k there list_is lower =
-      missing (ap (λ l. members l k.serial) (sym list_is) ∙ h.member r p k there) (none.none refl k.serial lower)
+module _ (places lists : ℕ → ℕ → Option ℕ) (links : Links) where
+  linked-at : (root p : ℕ) (t : Translation) (o : Option ℕ) → places root p ≡ o → translation_at links o ≡ Some t → IsLinked places links root p t
+  linked-at root p t None e found = absurd cc
+  linked-at root p t (Some x) e found = by (links x) refl found
+    where
+      by : (l : Option Link) → links x ≡ l → option_map (λ (k : Link). k.translation) l ≡ Some t → IsLinked places links root p t
+      by None is none = absurd cc
+      by (Some k) is some = record { number = x; is = e; link = k; there = is; holds = some_same some }
 
-  -- what the search for a member answers
-  pub member-found : (list from : ℕ) (answer : Option (ℕ × Place)) → IsNext (members list) from (option_map (λ pair. pair.0) answer)
-      → IfSome answer (λ pair. members list pair.0 ≡ Some pair.1) → MatchOption answer (HasNoMember places list from) (IsNextMember places list from)
-  member-found list from None found is = no-member list from found
-  member-found list from (Some pair) found is = next-member list from pair.0 pair.1 found is
+  pub linked : (root p : ℕ) (t : Translation) → translations_in links places root p ≡ Some t → IsLinked places links root p t
+  linked root p t found = linked-at root p t (places root p) refl found
 
-  -- the list of the page of a translation of the VMO
-  list_at : (v p : ℕ) (r q : ℕ) (k : Kept) → places r q ≡ Some k → k.translation.entry.koid.0 ≡ v → k.translation.entry.page ≡ p → lists v p ≡ Some (list_with k)
-  list_at v p r q k there koid page =
-      ap (λ w. lists w p) (sym koid) ∙ (ap (lists k.translation.entry.koid.0) (sym page) ∙ h.list r q k there)
+  -- the translation of a page with this link
+  pub translation-of : (root p x : ℕ) (k : Link) → places root p ≡ Some x → links x ≡ Some k → translations_in links places root p ≡ Some k.translation
+  translation-of root p x k e is = ap (translation_at links) e ∙ ap (option_map (λ (j : Link). j.translation)) is
 
-  -- a list that is there is that of the page
-  pub IsListAt-found : (v p : ℕ) (l : FrameList) → lists v p ≡ Some l → IsListAt places v p l
-  IsListAt-found v p l is = record {
-    of = λ r q k there listed. h.apart k.translation.entry.koid.0 k.translation.entry.page v p (list_with k) l (h.list r q k there) is listed;
-    has = λ r q k there koid page. ap (λ (m : FrameList). m.number) (some_same (sym (list_at v p r q k there koid page) ∙ is));
-    frame = λ r q k there listed.
-        let page = h.apart k.translation.entry.koid.0 k.translation.entry.page v p (list_with k) l (h.list r q k there) is listed in
-        ap (λ (m : FrameList). m.frame) (some_same (sym (list_at v p r q k there page.0 page.1) ∙ is));
-    used =
-        let s = h.used v p l is in
-        let x = some_is (members l.number s.0) s.1 in
-        let at = h.place l.number s.0 x.0 x.1 in
-        record { root = x.0.root.0; page = x.0.page; member = at.kept; is = at.is; listed = at.list };
-  }
+  pub translation-none : (root p : ℕ) → places root p ≡ None → translations_in links places root p ≡ None
+  translation-none root p e = ap (translation_at links) e
 
-  -- and that of the page is there
-  pub list-of : (v p : ℕ) (l : FrameList) → IsListAt places v p l → lists v p ≡ Some l
-  list-of v p l at =
-      let one = at.used in
-      let page = at.of one.root one.page one.member one.is one.listed in
-      let frame = at.frame one.root one.page one.member one.is one.listed in
-      let number = one.listed in
-      list_at v p one.root one.page one.member one.is page.0 page.1 ∙ (λ i. Some (frame_list (number i) (frame i)))
+  module _ (count : ℕ) (h : AreLinked places lists links count) where
+    -- a page with a translation has a link
+    pub place-some : (root p : ℕ) → IsSome (translations_in links places root p) → IsSome (places root p)
+    place-some root p some =
+        let t = some_is (translations_in links places root p) some in
+        ap {B = Bool} is_some (linked root p t.0 t.1).is
 
-  -- a page without translations has none
-  pub no-list-of : (v p : ℕ) → HasNoList places v p (p + 1) → lists v p ≡ None
-  no-list-of v p none = go (lists v p) refl where
-    go : (o : Option FrameList) → lists v p ≡ o → o ≡ None
-    go None e = refl
-    go (Some l) e =
-        let at = IsListAt-found v p l e in
-        let one = at.used in
-        let page = at.of one.root one.page one.member one.is one.listed in
-        let here = page.1 in
-        absurd (none one.root one.page one.member one.is (record { koid = page.0; order = omega arith; below = omega arith }))
+    -- and one with a link has a translation
+    pub translation-some : (root p x : ℕ) → places root p ≡ Some x → IsSome (translations_in links places root p)
+    translation-some root p x is =
+        let k = some_is (links x) (link-there places links h.placed root p x is) in
+        ap {B = Bool} is_some (translation-of root p x k.0 is k.1)
 
-  -- the list of a page, if it has one
-  pub HasList-is : (v p : ℕ) (frame : Option Tag) (list : Option ℕ) → HasList places v p frame list
-      → lists v p ≡ option_map (λ number. frame_list number frame) list
-  HasList-is v p frame None none = no-list-of v p none
-  HasList-is v p frame (Some number) at = list-of v p (frame_list number frame) at
+    pub link-none : (root p : ℕ) → translations_in links places root p ≡ None → places root p ≡ None
+    link-none root p none = go (places root p) refl
+      where
+        go : (o : Option ℕ) → places root p ≡ o → o ≡ None
+        go None e = refl
+        go (Some x) e = absurd (let no = sym (translation-some root p x e) ∙ ap {B = Bool} is_some none in cc)
 
-  -- the list of a translation is that of its page
-  pub IsListAt-with : (r q : ℕ) (k : Kept) → places r q ≡ Some k
-      → IsListAt places k.translation.entry.koid.0 k.translation.entry.page (list_with k)
-  IsListAt-with r q k there = IsListAt-found k.translation.entry.koid.0 k.translation.entry.page (list_with k) (h.list r q k there)
+    -- what the link of a translation shows
+    pub shown-of : (root p : ℕ) (t : Translation) (l : IsLinked places links root p t) → shown_in links l.number ≡ Some (shown_by t)
+    shown-of root p t l = ap (option_map (λ (k : Link). shown_by k.translation)) l.there ∙ ap {B = Option Shown} (λ (u : Translation). Some (shown_by u)) l.holds
 
-  -- the list that is found
-  pub next-list : (v from end page : ℕ) (l : FrameList) → IsNext (lists v) from (Some page) → lists v page ≡ Some l → page < end → IsNextList places v from end (page, l)
-  next-list v from end page l found is below =
-      let least = found.least page refl in
-      record {
-        order = least.0;
-        below = below;
-        least = λ r p k there of. missing (list_at v k.translation.entry.page r p k there of.koid refl) (least.2 k.translation.entry.page of.order of.below);
-        at = IsListAt-found v page l is;
-      }
+    -- the page that a translation shows has a list, whose first link shows it
+    pub list-of : (root p : ℕ) (t : Translation) → translations_in links places root p ≡ Some t
+        → (first : ℕ) × (lists t.entry.koid.0 t.entry.page ≡ Some first) × (shown_in links first ≡ Some (shown_by t))
+    list-of root p t found =
+        let l = linked root p t found in
+        let at = reached (shown_in links) (previous_in links) (next_in links) lists count h.listed l.number (shown_by t) (shown-of root p t l) in
+        (at.first, at.is, at.shows)
 
-  -- no page from there on has a list
-  pub no-list : (v from end : ℕ) → IsNext (lists v) from None → HasNoList places v from end
-  no-list v from end none r p k there of = missing (list_at v k.translation.entry.page r p k there of.koid refl) (none.none refl k.translation.entry.page of.order)
+    -- so no list is missing
+    pub list-missing : (v p root q : ℕ) (t : Translation) → lists v p ≡ None → translations_in links places root q ≡ Some t → t.entry.koid.0 ≡ v → t.entry.page ≡ p → ⊥
+    list-missing v p root q t none found koid page =
+        missing (list-of root q t found).1 (ap (λ w. lists w t.entry.page) koid ∙ (ap (lists v) page ∙ none))
 
-  -- the first page that has a list is behind the range
-  pub far-list : (v from end page : ℕ) → IsNext (lists v) from (Some page) → end ≤ page → HasNoList places v from end
-  far-list v from end page found far r p k there of =
-      let least = found.least page refl in
-      let below = of.below in
-      missing (list_at v k.translation.entry.page r p k there of.koid refl) (least.2 k.translation.entry.page of.order (omega arith))
+    -- the translations of a page hold the frame of its first link
+    pub HasFrame-first : (v p x : ℕ) (k : Link) → lists v p ≡ Some x → links x ≡ Some k → HasFrame (translations_in links places) v p k.translation.frame
+    HasFrame-first v p x k is there root q t found koid page =
+        let list = list-of root q t found in
+        let first : list.0 ≡ x = some_same (sym list.1 ∙ (ap (λ w. lists w t.entry.page) koid ∙ (ap (lists v) page ∙ is))) in
+        let same : shown_by t ≡ shown_by k.translation = some_same (sym list.2 ∙ (ap (shown_in links) first ∙ ap (option_map (λ (j : Link). shown_by j.translation)) there)) in
+        ap (λ (a : Shown). a.2) same
 
-  -- the list that a page has, or that it has none
-  pub list-found : (v p : ℕ) (o : Option FrameList) → o ≡ lists v p → MatchOption o (HasNoList places v p (p + 1)) (IsListAt places v p)
-  list-found v p None e = λ r q k there of.
-      let page : k.translation.entry.page ≡ p = let low = of.order in let high = of.below in omega arith in
-      missing (list_at v p r q k there of.koid page) (sym e)
-  list-found v p (Some l) e = IsListAt-found v p l (sym e)
+    -- so each translation has the frame of all of its page
+    pub HasFrame-of : (root p : ℕ) (t : Translation) → translations_in links places root p ≡ Some t
+        → HasFrame (translations_in links places) t.entry.koid.0 t.entry.page t.frame
+    HasFrame-of root p t found r q u also koid page =
+        let one = list-of root p t found in
+        let two = list-of r q u also in
+        let first : two.0 ≡ one.0 = some_same (sym two.1 ∙ (ap (λ w. lists w u.entry.page) koid ∙ (ap (lists t.entry.koid.0) page ∙ one.1))) in
+        let same : shown_by u ≡ shown_by t = some_same (sym two.2 ∙ (ap (shown_in links) first ∙ one.2)) in
+        ap (λ (a : Shown). a.2) same
+
+    -- and the first link that of the translations
+    pub Holds-first : (v p x : ℕ) (frame : Option Tag) → lists v p ≡ Some x → HasFrame (translations_in links places) v p frame → Holds links frame x
+    Holds-first v p x frame is has k there =
+        let first = h.listed.first v p x is in
+        let same : shown_by k.translation ≡ (v, p, first.0) = some_same (sym (ap (option_map (λ (j : Link). shown_by j.translation)) there) ∙ first.1) in
+        let at = h.placed.place x k.place (ap (option_map (λ (j : Link). j.place)) there) in
+        has k.place.root.0 k.place.page k.translation (translation-of k.place.root.0 k.place.page x k at there)
+        (ap (λ (a : Shown). a.0) same) (ap (λ (a : Shown). a.1) same)
+
+    pub Holds-all : (v p : ℕ) (o : Option ℕ) (frame : Option Tag) → lists v p ≡ o → HasFrame (translations_in links places) v p frame → IfSome o (Holds links frame)
+    Holds-all v p None frame is has = tt
+    Holds-all v p (Some x) frame is has = Holds-first v p x frame is has
+
+    -- so a translation of the page with this frame shows what the first link shows
+    pub shown-first : (t : Translation) (x : ℕ) → lists t.entry.koid.0 t.entry.page ≡ Some x → Holds links t.frame x → shown_in links x ≡ Some (shown_by t)
+    shown-first t x is holds =
+        let first = h.listed.first t.entry.koid.0 t.entry.page x is in
+        let k = some_is (links x) (some-link (links x) (ap {B = Bool} is_some first.1)) in
+        let same : shown_by k.0.translation ≡ (t.entry.koid.0, t.entry.page, first.0) = some_same (sym (ap (option_map (λ (j : Link). shown_by j.translation)) k.1) ∙ first.1) in
+        let frame : first.0 ≡ t.frame = sym (ap (λ (a : Shown). a.2) same) ∙ holds k.0 k.1 in
+        first.1 ∙ ap {B = Option Shown} (λ (f : Option Tag). Some (t.entry.koid.0, t.entry.page, f)) frame
+      where
+        some-link : (o : Option Link) → IsSome (option_map (λ (j : Link). shown_by j.translation) o) → IsSome o
+        some-link None e = e
+        some-link (Some j) e = refl
+
+    -- ---- the next list, and the next place
+
+    pub list-none : (v p : ℕ) → lists v p ≡ None → HasNoList (translations_in links places) v p (p + 1)
+    list-none v p none root q t found of =
+        let page : t.entry.page ≡ p = let low = of.order in let high = of.below in omega arith in
+        list-missing v p root q t none found of.koid page
+
+    pub no-list : (v from end : ℕ) → IsNext (lists v) from None → HasNoList (translations_in links places) v from end
+    no-list v from end none root q t found of = list-missing v t.entry.page root q t (none.none refl t.entry.page of.order) found of.koid refl
+
+    pub far-list : (v from end page : ℕ) → IsNext (lists v) from (Some page) → end ≤ page → HasNoList (translations_in links places) v from end
+    far-list v from end page next far root q t found of =
+        let least = next.least page refl in
+        let below = of.below in
+        list-missing v t.entry.page root q t (least.2 t.entry.page of.order (omega arith)) found of.koid refl
+
+    pub next-list : (v from end page : ℕ) → IsNext (lists v) from (Some page) → page < end → IsNextList (translations_in links places) v from end page
+    next-list v from end page next below =
+        let least = next.least page refl in
+        record {
+          order = least.0;
+          below = below;
+          least = λ root q t found of. list-missing v t.entry.page root q t (least.2 t.entry.page of.order of.below) found of.koid refl;
+        }
+
+    pub no-place : (root from end : ℕ) → IsNext (places root) from None → HasNoPlace (translations_in links places) root from end
+    no-place root from end none p low high = translation-none root p (none.none refl p low)
+
+    pub far-place : (root from end page : ℕ) → IsNext (places root) from (Some page) → end ≤ page → HasNoPlace (translations_in links places) root from end
+    far-place root from end page next far p low high =
+        let least = next.least page refl in translation-none root p (least.2 p low (omega arith))
+
+    pub next-place : (root from end page : ℕ) → IsNext (places root) from (Some page) → page < end → IsNextPlace (translations_in links places) root from end page
+    next-place root from end page next below =
+        let least = next.least page refl in
+        let x = some_is (places root page) least.1 in
+        record {
+          order = least.0;
+          below = below;
+          is = translation-some root page x.0 x.1;
+          least = λ p low high. translation-none root p (least.2 p low high);
+        }

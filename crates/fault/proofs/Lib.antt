@@ -8,7 +8,8 @@ pub mod TouchingLaws
 pub mod FrameLaws
 pub mod EmptyLaws
 pub mod FindLaws
-pub mod FirstLaws
+pub mod LinkLaws
+pub mod ChangeLaws
 pub mod ForgettingLaws
 pub mod NeedingLaws
 pub mod OwnedLaws

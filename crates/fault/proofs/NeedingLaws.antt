@@ -1,5 +1,5 @@
 -- How many frames have to be free for a write to one page, and what follows if they are not.
-use Rattle.std.proofs.Common.{◌≡◌, ℕ, ◌+◌, ◌<◌, ◌≤◌, Bool, true, false, cond, [], ◌∷◌, inl, inr, arith}
+use Rattle.std.proofs.Common.{◌≡◌, ℕ, ◌<◌, ◌≤◌, Bool, true, false, cond, [], ◌∷◌, inl, inr, arith}
 use Rattle.vm_base.specs.declared.refusal.Refusal.{Refusal}
 use Rattle.vm_model.specs.Contents.Content.{Content, used, sole}
 use Rattle.vm_model.specs.Contents.Owning.{need_from, need_each}

@@ -89,10 +89,10 @@ module _ (c : Content) (table : ℕ → ℕ → Option Entry) (places : Places) 
     sole_with-touched tag e = held touched.translation is.translation same tag e
 
     -- and so it may be written
-    pub IsWritable-from_IsTouched : (translated : Bool) → translated ≡ is_some touched.translation
-        → IsWritable c table places root p (record { entry = touched.entry; translated = translated; frame = frame })
+    pub IsWritable-from_IsTouched : (translated : Bool) (link : ℕ) → translated ≡ is_some touched.translation
+        → IsWritable c table places root p (record { entry = touched.entry; translated = translated; link = link; frame = frame })
         × (refusal_at c right (table root p) ≡ None)
-    IsWritable-from_IsTouched translated translated_is = (
+    IsWritable-from_IsTouched translated link translated_is = (
       record {
         entry = is.entry;
         ready = ready-is touched.translation is.translation same;

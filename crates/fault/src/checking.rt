@@ -23,6 +23,8 @@ pub(crate) struct TouchedPage {
     pub(crate) entry: Entry,
     /// Its translation. `None` if it is not translated.
     pub(crate) translation: Option<Translation>,
+    /// The number of the link of its translation, or 0 if it is not translated.
+    pub(crate) link: usize,
 }
 
 impl TouchedPage {
@@ -55,14 +57,15 @@ impl Translations {
             (λ refusal. refusal_at (P.content store.now) right.0 (table_of maps.now root.0 page) ≡ Some refusal) }
     {
         match self.find(root, page) {
-            Some(translation) => {
-                let entry = translation.entry;
+            Some(kept) => {
+                let entry = kept.translation.entry;
                 if !entry.perm.contains(right) {
                     return Err(Refusal::AccessDenied);
                 }
                 Ok(TouchedPage {
                     entry,
-                    translation: Some(translation),
+                    translation: Some(kept.translation),
+                    link: kept.link,
                 })
             }
             None => {
@@ -78,6 +81,7 @@ impl Translations {
                 Ok(TouchedPage {
                     entry,
                     translation: None,
+                    link: 0,
                 })
             }
         }

@@ -1,8 +1,8 @@
-//! Which frame a page of a VMO has.
+//! Which frame a page of a VMO has, and whether two frames are the same.
 
 ghost use Rattle.std.specs.Prelude.{◌≡◌, ◌<◌};
 ghost use Rattle.vm_model.specs.Contents.Content.{pages_of};
-ghost use Rattle.vm_model.specs.Space.Readiness.{frame_at};
+ghost use Rattle.vm_model.specs.Space.Readiness.{frame_at, is_same_frame};
 ghost use Rattle.fault.specs.Table.{number_of};
 
 use page_store::PageStore;
@@ -14,4 +14,11 @@ pub(crate) fn frame_of<P: PageStore>(store: &P, v: Koid, page: PageNo) -> Option
     ensures { number_of result ≡ frame_at (P.content store.now) v.0 page }
 {
     store.frame(v, page)
+}
+
+/// Returns whether two translations with these frames hold the same one.
+pub(crate) fn have_same_frame(frame: Option<Tag>, other: Option<Tag>) -> bool
+    ensures { result ≡ is_same_frame (number_of frame) (number_of other) }
+{
+    frame == other
 }

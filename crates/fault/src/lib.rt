@@ -6,9 +6,9 @@
 //! table, and asks the store for the bytes of the frame alone. The layer above forgets the translations that a command
 //! made untrue (`forget_changed`, `forget`, `forget_at`, `make_readonly`). These calls find translations by the page of
 //! the VMO that they show, or by their own page, and never go over a range page by page. All translations of a page of
-//! a VMO hold one frame, so one look tells whether all of them are forgotten or none.
+//! a VMO are the links of a list and hold one frame, so one look tells whether all of them are forgotten or none.
 //!
-//! It stands on `page_store` and `mapping_set`, whose entries it translates, and on `pair_map` for its tables. It
+//! It stands on `page_store` and `mapping_set`, whose entries it translates, and on `pair_map` and `slab` for its tables. It
 //! speaks the words of `vm_model` on accesses and readiness.
 #![tactic(auto)]
 

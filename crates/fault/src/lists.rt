@@ -1,108 +1,230 @@
-//! The lists of the pages of VMOs that have translations.
+//! The lists of the translations of each page of a VMO: links in a slab, of which each knows the one before and the one behind.
 
-ghost use Rattle.std.specs.Prelude.{◌≡◌, ◌≢◌, ℕ, ◌+◌, ◌≤◌, Some, IsSome};
-ghost use Rattle.std.specs.Option.{option_map};
+ghost use Rattle.std.specs.Prelude.{◌≡◌, ◌≢◌, ◌+◌, ◌≤◌, ◌⊎◌, true, false, None, Some, IsSome, IfSome};
+ghost use Rattle.slab.specs.Slab.{get, slab_len, ContainsKey, HasRoomFor};
+ghost use Rattle.balanced_tree.specs.Pairs.{with_pair};
 ghost use Rattle.pair_map.specs.Maps.{values_of, spare_of};
-ghost use Rattle.fault.specs.inside.Lists.{Joins, LeavesFirst, LeavesOther, LeavesList, frame_list, lists_in, lacks_first};
+ghost use Rattle.vm_model.specs.Space.Readiness.{is_same_frame};
+ghost use Rattle.fault.specs.Table.{is_of, number_of, translations_in};
+ghost use Rattle.fault.specs.inside.Lists.{AreLinked, IsFirst, Holds, place_at, place_in, previous_in, next_in, set_in, to_previous, to_next, linked_behind, unlinked, first_after, restricted_beside, room_in};
+ghost use Rattle.fault.specs.inside.Walks.{changed_where, dropped};
 
-use crate::translation::{FrameList, Kept, KeptList, Place, Translation};
+use crate::frames::have_same_frame;
+use crate::translation::{Link, Place, Translation};
 use pair_map::PairMap;
-use vm_base::{Koid, PageNo};
+use slab::Slab;
+use vm_base::{Koid, PageNo, RegionName, Tag};
+use vm_model::Readiness;
 
-/// Puts a translation of the page `place` into the list of the page of the VMO that it shows, and answers the number of
-/// that list. It is `list`, if the page of the VMO has one. Otherwise the page of the VMO gets a list. The call adds one
-/// row.
+/// Gives the page `place`, which is not translated, a translation. `first` is the first link of the list of the page of the
+/// VMO, if that has one. The new link stands behind it, so that the row of the list stays. Otherwise the page of the VMO
+/// gets a list. There is room.
 pub(crate) fn join(
-    lists: &mut PairMap<KeptList>,
-    others: &mut PairMap<Place>,
+    places: &mut PairMap<usize>,
+    lists: &mut PairMap<usize>,
+    links: &mut Slab<Link>,
+    first: Option<usize>,
     translation: Translation,
-    list: Option<u64>,
-    serial: u64,
     place: Place,
-) -> u64
-    requires list { lists_in (values_of lists.old) translation.entry.koid.0 translation.entry.page
-        ≡ option_map (λ number. frame_list number translation.frame) list }
-    requires absent { (number : ℕ) → list ≡ Some number → values_of others.old number serial ≡ None }
-    requires lists_room { 1 ≤ spare_of lists.old }
-    requires others_room { 1 ≤ spare_of others.old }
-    ensures joins { Joins (values_of lists.old) (values_of others.old) translation serial place (values_of lists.new) (values_of others.new) result }
-    ensures lists_room { spare_of lists.old ≤ spare_of lists.new + 1 }
-    ensures others_room { spare_of others.old ≤ spare_of others.new + 1 }
+)
+    requires linked { AreLinked (values_of places.old) (values_of lists.old) (get links.old) (slab_len links.old) }
+    requires first { values_of lists.old translation.entry.koid.0 translation.entry.page ≡ first }
+    requires frame { IfSome first (Holds (get links.old) translation.frame) }
+    requires absent { values_of places.old place.root.0 place.page ≡ None }
+    requires room { 1 ≤ room_in places.old lists.old links.old }
+    ensures linked { AreLinked (values_of places.new) (values_of lists.new) (get links.new) (slab_len links.new) }
+    ensures at { translations_in (get links.new) (values_of places.new)
+        ≡ with_pair (translations_in (get links.old) (values_of places.old)) place.root.0 place.page (Some translation) }
+    ensures room { room_in places.old lists.old links.old ≤ room_in places.new lists.new links.new + 1 }
 {
-    let entry = translation.entry;
-    match list {
-        Some(number) => {
-            others.insert(number, serial, place);
-            number
+    match first {
+        Some(first) => {
+            let link = link_behind(links, first, translation, place);
+            places.insert(place.root.0 as u64, place.page, link);
         }
         None => {
-            let list = FrameList {
-                number: serial,
-                frame: translation.frame,
-            };
-            let row = KeptList {
-                list,
-                first: Some(place),
-            };
-            lists.insert(entry.koid.0, entry.page, row);
-            serial
+            let entry = translation.entry;
+            let link = links.insert_reserved(Link {
+                translation,
+                place,
+                previous: None,
+                next: None,
+            });
+            lists.insert(entry.koid.0, entry.page, link);
+            places.insert(place.root.0 as u64, place.page, link);
         }
     }
 }
 
-/// Takes a translation that went away out of its list, and removes the list if it has no member left.
-pub(crate) fn leave(lists: &mut PairMap<KeptList>, others: &mut PairMap<Place>, gone: Kept)
-    requires list { IsSome (values_of lists.old gone.translation.entry.koid.0 gone.translation.entry.page) }
-    requires other { gone.serial ≢ gone.list → IsSome (values_of others.old gone.list gone.serial) }
-    ensures leaves { LeavesList (values_of lists.old) (values_of others.old) gone (values_of lists.new) (values_of others.new) }
-    ensures lists_room { spare_of lists.old ≤ spare_of lists.new }
-    ensures others_room { spare_of others.old ≤ spare_of others.new }
+/// Forgets the translation of a page that has one: takes its link out of its list, and removes the list if it has no link
+/// left.
+pub(crate) fn leave(
+    places: &mut PairMap<usize>,
+    lists: &mut PairMap<usize>,
+    links: &mut Slab<Link>,
+    root: RegionName,
+    page: PageNo,
+)
+    requires linked { AreLinked (values_of places.old) (values_of lists.old) (get links.old) (slab_len links.old) }
+    requires there { IsSome (values_of places.old root.0 page) }
+    ensures linked { AreLinked (values_of places.new) (values_of lists.new) (get links.new) (slab_len links.new) }
+    ensures at { translations_in (get links.new) (values_of places.new)
+        ≡ with_pair (translations_in (get links.old) (values_of places.old)) root.0 page None }
+    ensures room { room_in places.old lists.old links.old ≤ room_in places.new lists.new links.new }
 {
-    if gone.serial == gone.list {
-        leave_first(lists, others, gone);
-    } else {
-        others.remove(gone.list, gone.serial);
-        leave_other(lists, others, gone);
+    let at = places.remove(root.0 as u64, page);
+    let gone = unlink(links, at);
+    lead_on(lists, gone);
+}
+
+/// Forgets the translations of a page of a VMO, whose list begins with the link `first`, and removes the list. It costs a
+/// step for each of them.
+pub(crate) fn drop_list(
+    places: &mut PairMap<usize>,
+    lists: &mut PairMap<usize>,
+    links: &mut Slab<Link>,
+    v: Koid,
+    page: PageNo,
+    first: usize,
+)
+    requires linked { AreLinked (values_of places.old) (values_of lists.old) (get links.old) (slab_len links.old) }
+    requires first { values_of lists.old v.0 page ≡ Some first }
+    ensures linked { AreLinked (values_of places.new) (values_of lists.new) (get links.new) (slab_len links.new) }
+    ensures lists { values_of lists.new v.0 page ≡ None }
+    ensures at { translations_in (get links.new) (values_of places.new)
+        ≡ changed_where dropped (is_of v.0 page (page + 1)) (translations_in (get links.old) (values_of places.old)) }
+    ensures room { room_in places.old lists.old links.old ≤ room_in places.new lists.new links.new }
+{
+    let mut at = Some(first);
+    while let Some(link) = at {
+        let gone = unlink(links, link);
+        places.remove(gone.place.root.0 as u64, gone.place.page);
+        at = gone.next;
+    }
+    lists.remove(v.0, page);
+}
+
+/// Returns whether a link with this number is there, and is of this page of an address space.
+pub(crate) fn is_link_of(links: &Slab<Link>, link: usize, root: RegionName, page: PageNo) -> bool
+    ensures { result ≡ true → place_in (get links.now) link ≡ Some (place_at root.0 page) }
+{
+    match links.get(link) {
+        Some(it) => it.place.root.0 == root.0 && it.place.page == page,
+        None => false,
     }
 }
 
-// Takes the first translation of a list out of it.
-fn leave_first(lists: &mut PairMap<KeptList>, others: &PairMap<Place>, gone: Kept)
-    requires { IsSome (values_of lists.old gone.translation.entry.koid.0 gone.translation.entry.page) }
-    ensures leaves { LeavesFirst (values_of lists.old) (values_of others.now gone.list) gone (values_of lists.new) }
+/// Returns whether a link holds this frame, or is alone in its list.
+pub(crate) fn may_hold(link: &Link, frame: Option<Tag>) -> bool
+    ensures may { result ≡ true → (link.now.translation.frame ≡ frame) ⊎ ((link.now.previous ≡ None) × (link.now.next ≡ None)) }
+    ensures other { result ≡ false → is_same_frame (number_of link.now.translation.frame) (number_of frame) ≡ false }
+{
+    if have_same_frame(link.translation.frame, frame) {
+        return true;
+    }
+    match link.previous {
+        Some(_) => false,
+        None => link.next.is_none(),
+    }
+}
+
+/// Leaves the translations of a list, which begins with the link `first`, for reading alone. It costs a step for each of
+/// them, and no look-up.
+pub(crate) fn restrict_list(links: &mut Slab<Link>, first: usize)
+    requires { IsFirst links.old first }
+    ensures links { get links.new ≡ restricted_beside (get links.old) first }
+    ensures len { slab_len links.new ≡ slab_len links.old }
+    ensures capacity { links.new.capacity ≡ links.old.capacity }
+{
+    let mut at = Some(first);
+    while let Some(link) = at {
+        let member = &mut links[link];
+        member.translation.readiness = Readiness::Read;
+        at = member.next;
+    }
+}
+
+// Puts a link behind another one, and returns its number.
+fn link_behind(
+    links: &mut Slab<Link>,
+    first: usize,
+    translation: Translation,
+    place: Place,
+) -> usize
+    requires room { HasRoomFor links.old 1 }
+    requires first { ContainsKey links.old first }
+    requires next { IfSome (next_in (get links.old) first) (λ x. ContainsKey links.old x) }
+    ensures free { get links.old result ≡ None }
+    ensures links { get links.new ≡ linked_behind (get links.old) first result translation place }
+    ensures len { slab_len links.new ≡ slab_len links.old + 1 }
+    ensures capacity { links.new.capacity ≡ links.old.capacity }
+{
+    let next = links[first].next;
+    let link = links.insert_reserved(Link {
+        translation,
+        place,
+        previous: Some(first),
+        next,
+    });
+    set_next(links, Some(first), Some(link));
+    set_previous(links, next, Some(link));
+    link
+}
+
+// Removes a link, leads the one before it to the one behind it, and back, and returns it.
+fn unlink(links: &mut Slab<Link>, at: usize) -> Link
+    requires there { ContainsKey links.old at }
+    requires previous { IfSome (previous_in (get links.old) at) (λ x. ContainsKey links.old x × (x ≢ at)) }
+    requires next { IfSome (next_in (get links.old) at) (λ x. ContainsKey links.old x × (x ≢ at)) }
+    ensures link { get links.old at ≡ Some result }
+    ensures links { get links.new ≡ unlinked (get links.old) at }
+    ensures len { slab_len links.new + 1 ≡ slab_len links.old }
+    ensures capacity { links.new.capacity ≡ links.old.capacity }
+{
+    let gone = links.remove(at);
+    set_next(links, gone.previous, gone.next);
+    set_previous(links, gone.next, gone.previous);
+    gone
+}
+
+// Lets the list of a link that went begin with the link behind it, if it was the first. Removes the list if there is none.
+fn lead_on(lists: &mut PairMap<usize>, gone: Link)
+    requires { gone.previous ≡ None → IsSome (values_of lists.old gone.translation.entry.koid.0 gone.translation.entry.page) }
+    ensures lists { values_of lists.new ≡ first_after (values_of lists.old) gone }
     ensures room { spare_of lists.old ≤ spare_of lists.new }
 {
     let entry = gone.translation.entry;
-    if others.next(gone.list, 0).is_none() {
-        lists.remove(entry.koid.0, entry.page);
-    } else {
-        let list = FrameList {
-            number: gone.list,
-            frame: gone.translation.frame,
-        };
-        lists.replace(entry.koid.0, entry.page, KeptList { list, first: None });
+    match gone.previous {
+        Some(_) => {}
+        None => match gone.next {
+            Some(next) => lists.replace(entry.koid.0, entry.page, next),
+            None => {
+                lists.remove(entry.koid.0, entry.page);
+            }
+        },
     }
 }
 
-// Removes the list of a translation that was not the first of it and went away, if no member is left.
-fn leave_other(lists: &mut PairMap<KeptList>, others: &PairMap<Place>, gone: Kept)
-    requires { IsSome (values_of lists.old gone.translation.entry.koid.0 gone.translation.entry.page) }
-    ensures leaves { LeavesOther (values_of lists.old) (values_of others.now gone.list) gone (values_of lists.new) }
-    ensures room { spare_of lists.old ≤ spare_of lists.new }
+// Sets what is behind a link, if there is one.
+fn set_next(links: &mut Slab<Link>, at: Option<usize>, next: Option<usize>)
+    requires { IfSome at (λ x. ContainsKey links.old x) }
+    ensures links { get links.new ≡ set_in (to_next next) at (get links.old) }
+    ensures len { slab_len links.new ≡ slab_len links.old }
+    ensures capacity { links.new.capacity ≡ links.old.capacity }
 {
-    let entry = gone.translation.entry;
-    if others.next(gone.list, 0).is_none() && lacks_first(lists, entry.koid, entry.page) {
-        lists.remove(entry.koid.0, entry.page);
+    if let Some(at) = at {
+        links[at].next = next;
     }
 }
 
-// Whether the first translation of the list of a page of a VMO went away.
-fn lacks_first(lists: &PairMap<KeptList>, v: Koid, page: PageNo) -> bool
-    requires { IsSome (values_of lists.now v.0 page) }
-    ensures { result ≡ lacks_first (values_of lists.now v.0 page) }
+// Sets what is before a link, if there is one.
+fn set_previous(links: &mut Slab<Link>, at: Option<usize>, previous: Option<usize>)
+    requires { IfSome at (λ x. ContainsKey links.old x) }
+    ensures links { get links.new ≡ set_in (to_previous previous) at (get links.old) }
+    ensures len { slab_len links.new ≡ slab_len links.old }
+    ensures capacity { links.new.capacity ≡ links.old.capacity }
 {
-    match lists.find(v.0, page) {
-        Some(row) => row.first.is_none(),
-        None => true,
+    if let Some(at) = at {
+        links[at].previous = previous;
     }
 }

@@ -14,30 +14,32 @@ pub struct Translation {
     pub readiness: Readiness,
 }
 
-/// A translation as it is kept: with the list of the page of the VMO, and the number that the translation has in this
-/// list.
+/// A translation as it is kept. The translations of a page of a VMO are the links of a list.
+#[derive(Clone, Copy)]
+pub(crate) struct Link {
+    pub(crate) translation: Translation,
+    /// The page that it is of.
+    pub(crate) place: Place,
+    /// The number of the link before it in the list. `None` if it is the first.
+    pub(crate) previous: Option<usize>,
+    /// The number of the link behind it. `None` if it is the last.
+    pub(crate) next: Option<usize>,
+}
+
+/// A translation as it is found, with the number of its link.
 #[derive(Clone, Copy)]
 pub(crate) struct Kept {
     pub(crate) translation: Translation,
-    pub(crate) list: u64,
-    pub(crate) serial: u64,
+    pub(crate) link: usize,
 }
 
 /// The list of the translations of a page of a VMO.
 #[derive(Clone, Copy)]
 pub(crate) struct FrameList {
-    /// Its number: the serial of the translation that came first.
-    pub(crate) number: u64,
+    /// The number of its first link.
+    pub(crate) first: usize,
     /// The frame that each of them holds. `None` if they hold none.
     pub(crate) frame: Option<Tag>,
-}
-
-/// A list as it is kept: with the translation that came first, so that a list of one has no row of its members.
-#[derive(Clone, Copy)]
-pub(crate) struct KeptList {
-    pub(crate) list: FrameList,
-    /// The page that the first translation is of. `None` if that went, and others stay.
-    pub(crate) first: Option<Place>,
 }
 
 /// The page of an address space that a translation is of.

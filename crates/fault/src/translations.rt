@@ -1,16 +1,18 @@
 //! The translations: what is kept of each page, and what is found there.
 
 ghost use Rattle.std.specs.Prelude.{◌≡◌, ◌↔◌, ℕ, IsTrue, ◌+◌, ◌<◌, ◌≤◌, true, None, Some, OnOk, IsSome, IfSome, IfNone};
-ghost use Rattle.std.specs.Option.{option_map, MatchOption};
+ghost use Rattle.std.specs.Option.{MatchOption};
 ghost use Rattle.balanced_tree.specs.Pairs.{with_pair};
-ghost use Rattle.fault.specs.Table.{places_of, room_of, number_of, frame_in, with_translation, without, is_outdated, IsOfEntry};
-ghost use Rattle.fault.specs.inside.Walks.{kept_of, changed_where, dropped, is_place, HasNoPlace, IsNextPlace};
-ghost use Rattle.fault.specs.inside.Walks.{HasList, IsListAt, HasNoList, IsNextList, HasNoMember, IsNextMember, HoldsOther, StartsWith};
-ghost use Rattle.fault.specs.inside.Lists.{list_with};
+ghost use Rattle.slab.specs.Slab.{get};
+ghost use Rattle.fault.specs.Table.{places_of, link_of, list_of, room_of, number_of, frame_in, with_translation, without, is_of, is_outdated, IsOfEntry};
+ghost use Rattle.fault.specs.inside.Walks.{changed_where, change_by, dropped, is_place, HasNoPlace, IsNextPlace};
+ghost use Rattle.fault.specs.inside.Walks.{HasNoList, IsNextList, HasFrame, HoldElsewhere, HoldsOther};
+ghost use Rattle.fault.specs.inside.Lists.{MayHold, translation_in};
 
-use crate::lists::{join, leave};
-use crate::translation::{Kept, KeptList, Place, Translation};
+use crate::lists::{drop_list, is_link_of, join, leave, may_hold, restrict_list};
+use crate::translation::{Change, FrameList, Kept, Link, Place, Translation};
 use pair_map::PairMap;
+use slab::Slab;
 use std::alloc::Global;
 use std::marker::Model;
 use vm_base::{HostMemory, Koid, PageNo, RegionName, Tag};
@@ -18,20 +20,17 @@ use vm_base::{HostMemory, Koid, PageNo, RegionName, Tag};
 /// The translations of all address spaces. Contracts see the translation of each page of each address space, and how
 /// many more fit with no memory from the host.
 ///
-/// The translations of a page of a VMO are the members of a list, so they are found with no look at others. All of them
-/// hold one frame, and the list has it too. So one look at the list tells whether they hold another frame than the page
-/// has now. The row of the list has its first member too, so a page that is shown at one place has a row in two of the
-/// three maps.
+/// The translations of a page of a VMO are the links of a list, so they are found with no look at others, and changed one
+/// after another with no look-up. All of them hold one frame. So one look at the first tells whether they hold another
+/// frame than the page has now.
 #[derive(Drop)]
 pub struct Translations {
-    /// The translation of each page, by the root region and the page.
-    places: PairMap<Kept>,
-    /// The list of each page of a VMO that has a translation, by the koid and the page.
-    lists: PairMap<KeptList>,
-    /// The pages that the translations of each list are of, except the first, by the list and the serial.
-    others: PairMap<Place>,
-    /// The number that the next list or member gets. None is given twice.
-    next: u64,
+    /// The number of the link of each page that is translated, by the root region and the page.
+    places: PairMap<usize>,
+    /// The number of the first link of each page of a VMO that has a translation, by the koid and the page.
+    lists: PairMap<usize>,
+    /// The translations.
+    links: Slab<Link>,
 }
 
 impl Model for Translations {
@@ -54,8 +53,7 @@ impl Translations {
         Translations {
             places: PairMap::new(alloc),
             lists: PairMap::new(alloc),
-            others: PairMap::new(alloc),
-            next: 0,
+            links: Slab::new(alloc),
         }
     }
 
@@ -66,11 +64,17 @@ impl Translations {
         self.places.len() == 0
     }
 
-    /// Returns the translation of a page of an address space. `None` if it has none.
-    pub(crate) fn find(&self, root: RegionName, page: PageNo) -> Option<Translation>
-        ensures { result ≡ places_of self.now root.0 page }
+    /// Returns the translation of a page of an address space, with the number of its link. `None` if it has none.
+    pub(crate) fn find(&self, root: RegionName, page: PageNo) -> Option<Kept>
+        ensures { places_of self.now root.0 page ≡ translation_in result }
     {
-        translation_in(self.places.find(root.0 as u64, page))
+        match self.places.find(root.0 as u64, page) {
+            Some(link) => Some(Kept {
+                translation: self.links[link].translation,
+                link,
+            }),
+            None => None,
+        }
     }
 
     /// Makes room for `n` translations more. `HostMemory` if the host has too little memory.
@@ -79,25 +83,28 @@ impl Translations {
         ensures same { places_of self.new ≡ places_of self.old }
         ensures kept { room_of self.old ≤ room_of self.new }
     {
-        if u64::MAX - self.next < n as u64 {
-            return Err(HostMemory);
-        }
         let Ok(()) = self.places.reserve(n) else {
             return Err(HostMemory);
         };
         let Ok(()) = self.lists.reserve(n) else {
             return Err(HostMemory);
         };
-        let Ok(()) = self.others.reserve(n) else {
+        let Ok(()) = self.links.reserve(n) else {
             return Err(HostMemory);
         };
         Ok(())
     }
 
     /// Gives a page this translation. The page may be translated already, for the same entry. Forgets the translations
-    /// of the page of the VMO that hold another frame. There is room. If the page is translated with this frame, the
-    /// call costs a look-up and a change, and otherwise a look-up more than `translate`.
-    pub(crate) fn set(&mut self, root: RegionName, page: PageNo, translation: Translation)
+    /// of the page of the VMO that hold another frame. There is room. `link` is the link of the page, if it has one, or
+    /// was. If it still is, and no other translation has to be forgotten, the call makes no look-up.
+    pub(crate) fn set(
+        &mut self,
+        root: RegionName,
+        page: PageNo,
+        link: usize,
+        translation: Translation,
+    )
         requires same { IsOfEntry (places_of self.old) root.0 page translation.entry }
         requires room { 1 ≤ room_of self.old }
         ensures at { places_of self.new
@@ -106,18 +113,18 @@ impl Translations {
             root.0 page translation }
         ensures room { room_of self.old ≤ room_of self.new + 1 }
     {
-        match with_frame(self.kept(root, page), translation.frame) {
-            Some(kept) => self.put(root, page, kept, translation),
+        match self.link_with(root, page, link, translation.frame) {
+            Some(link) => self.put(root, page, link, translation),
             None => self.translate(root, page, translation),
         }
     }
 
     /// Gives a page this translation. The page is not translated with this frame. Forgets the translations of the page
-    /// of the VMO that hold another frame. There is room. The call costs a look-up of the list of that page, two
-    /// insertions, and a step for each translation that is forgotten.
+    /// of the VMO that hold another frame. There is room. The call costs a look-up of the list of that page, an
+    /// insertion, another one if the page has no list, and a step for each translation that is forgotten.
     pub(crate) fn translate(&mut self, root: RegionName, page: PageNo, translation: Translation)
         requires same { IsOfEntry (places_of self.old) root.0 page translation.entry }
-        requires other { HoldsOther (frame_in translation) (kept_of self.old root.0 page) }
+        requires other { HoldsOther (frame_in translation) (places_of self.old root.0 page) }
         requires room { 1 ≤ room_of self.old }
         ensures at { places_of self.new
             ≡ with_translation
@@ -126,89 +133,134 @@ impl Translations {
         ensures room { room_of self.old ≤ room_of self.new + 1 }
     {
         let entry = translation.entry;
-        let list = self.forget_others(entry.koid, entry.page, translation.frame);
-        self.add(root, page, translation, list);
+        let first = self.forget_others(entry.koid, entry.page, translation.frame);
+        self.add(root, page, translation, first);
     }
 
-    /// Returns what is kept of a page. `None` if it is not translated.
-    pub(crate) fn kept(&self, root: RegionName, page: PageNo) -> Option<Kept>
-        ensures { result ≡ kept_of self.now root.0 page }
+    // Returns the link of a page, if the page is translated and may hold this frame with no other translation forgotten:
+    // it holds the frame already, or no other page shows the page of the VMO. `link` is tried first.
+    fn link_with(
+        &self,
+        root: RegionName,
+        page: PageNo,
+        link: usize,
+        frame: Option<Tag>,
+    ) -> Option<usize>
+        ensures some { IfSome result (λ at. link_of self.now root.0 page ≡ Some at) }
+        ensures may { IfSome result (MayHold (get self.now.links) frame) }
+        ensures none { IfNone result (HoldsOther (number_of frame) (places_of self.now root.0 page)) }
     {
-        self.places.find(root.0 as u64, page)
+        match self.link_at(root, page, link) {
+            Some(at) => {
+                if may_hold(&self.links[at], frame) {
+                    Some(at)
+                } else {
+                    None
+                }
+            }
+            None => None,
+        }
     }
 
-    /// Changes the translation of a page, for the same entry and with the same frame. The page's list is that of the
-    /// page of the VMO, so each translation of that page holds this frame.
-    pub(crate) fn put(
+    // Returns the link of a page. `None` if it is not translated. `link` is tried first.
+    fn link_at(&self, root: RegionName, page: PageNo, link: usize) -> Option<usize>
+        ensures { result ≡ link_of self.now root.0 page }
+    {
+        if is_link_of(&self.links, link, root, page) {
+            Some(link)
+        } else {
+            self.places.find(root.0 as u64, page)
+        }
+    }
+
+    // Changes the translation of a page, whose link this is, for the same entry. The link may hold the frame with no other
+    // translation forgotten: each other one of the page of the VMO holds it. The call makes no look-up.
+    fn put(&mut self, root: RegionName, page: PageNo, link: usize, translation: Translation)
+        requires link { link_of self.old root.0 page ≡ Some link }
+        requires same { IsOfEntry (places_of self.old) root.0 page translation.entry }
+        requires may { MayHold (get self.old.links) translation.frame link }
+        ensures at { places_of self.new ≡ with_pair (places_of self.old) root.0 page (Some translation) }
+        ensures others { HoldElsewhere (places_of self.old) root.0 page translation }
+        ensures room { room_of self.new ≡ room_of self.old }
+    {
+        self.links[link].translation = translation;
+    }
+
+    // Translates a page that is not translated. `first` is the first link of the list of the page of the VMO, if that has
+    // one, whose translations hold this frame. There is room.
+    fn add(
         &mut self,
         root: RegionName,
         page: PageNo,
-        kept: Kept,
         translation: Translation,
+        first: Option<usize>,
     )
-        requires kept { kept_of self.old root.0 page ≡ Some kept }
-        requires same { translation.entry ≡ kept.translation.entry }
-        requires frame { translation.frame ≡ kept.translation.frame }
-        ensures at { kept_of self.new
-            ≡ with_pair (kept_of self.old) root.0 page (Some (record kept { translation = translation })) }
-        ensures list { IsListAt (kept_of self.old) kept.translation.entry.koid.0 kept.translation.entry.page (list_with kept) }
-        ensures room { room_of self.new ≡ room_of self.old }
-    {
-        self.places.replace(
-            root.0 as u64,
-            page,
-            Kept {
-                translation,
-                ..kept
-            },
-        );
-    }
-
-    // Translates a page that is not translated. `list` is the list of the page of the VMO, if that has one. There is
-    // room.
-    fn add(&mut self, root: RegionName, page: PageNo, translation: Translation, list: Option<u64>)
-        requires absent { kept_of self.old root.0 page ≡ None }
-        requires list { HasList (kept_of self.old) translation.entry.koid.0 translation.entry.page translation.frame list }
+        requires absent { places_of self.old root.0 page ≡ None }
+        requires first { list_of self.old translation.entry.koid.0 translation.entry.page ≡ first }
+        requires frame { HasFrame (places_of self.old) translation.entry.koid.0 translation.entry.page translation.frame }
         requires room { 1 ≤ room_of self.old }
-        ensures at { places_of self.new ≡ with_translation (places_of self.old) root.0 page translation }
+        ensures at { places_of self.new ≡ with_pair (places_of self.old) root.0 page (Some translation) }
         ensures room { room_of self.old ≤ room_of self.new + 1 }
     {
-        let serial = self.next;
         let place = Place { root, page };
-        let list = join(
+        join(
+            &mut self.places,
             &mut self.lists,
-            &mut self.others,
+            &mut self.links,
+            first,
             translation,
-            list,
-            serial,
             place,
         );
-        self.places.insert(
-            root.0 as u64,
-            page,
-            Kept {
-                translation,
-                list,
-                serial,
-            },
-        );
-        self.next = serial + 1;
     }
 
     /// Forgets the translation of a page that has one.
     pub(crate) fn drop_place(&mut self, root: RegionName, page: PageNo)
-        requires { IsSome (kept_of self.old root.0 page) }
-        ensures at { kept_of self.new ≡ changed_where dropped (λ r p k. is_place root.0 page r p) (kept_of self.old) }
+        requires { IsSome (places_of self.old root.0 page) }
+        ensures at { places_of self.new ≡ changed_where dropped (λ r p x. is_place root.0 page r p) (places_of self.old) }
         ensures room { room_of self.old ≤ room_of self.new }
     {
-        let kept = self.places.remove(root.0 as u64, page);
-        leave(&mut self.lists, &mut self.others, kept);
+        leave(
+            &mut self.places,
+            &mut self.lists,
+            &mut self.links,
+            root,
+            page,
+        );
+    }
+
+    /// Changes the translations of a page of a VMO, whose list begins with the link `first`.
+    pub(crate) fn change_list(&mut self, v: Koid, page: PageNo, first: usize, change: Change)
+        requires first { list_of self.old v.0 page ≡ Some first }
+        ensures at { places_of self.new ≡ changed_where (change_by change) (is_of v.0 page (page + 1)) (places_of self.old) }
+        ensures room { room_of self.old ≤ room_of self.new }
+    {
+        match change {
+            Change::Forget => self.drop_list(v, page, first),
+            Change::Restrict => restrict_list(&mut self.links, first),
+        }
+    }
+
+    /// Forgets the translations of a page of a VMO, whose list begins with the link `first`.
+    pub(crate) fn drop_list(&mut self, v: Koid, page: PageNo, first: usize)
+        requires first { list_of self.old v.0 page ≡ Some first }
+        ensures at { places_of self.new ≡ changed_where dropped (is_of v.0 page (page + 1)) (places_of self.old) }
+        ensures list { list_of self.new v.0 page ≡ None }
+        ensures room { room_of self.old ≤ room_of self.new }
+    {
+        drop_list(
+            &mut self.places,
+            &mut self.lists,
+            &mut self.links,
+            v,
+            page,
+            first,
+        );
     }
 
     /// Returns the first page of an address space from `from` to below `end` that is translated.
     pub(crate) fn place_below(&self, root: RegionName, from: PageNo, end: PageNo) -> Option<PageNo>
-        ensures { MatchOption result (HasNoPlace (kept_of self.now) root.0 from end)
-            (IsNextPlace (kept_of self.now) root.0 from end) }
+        ensures { MatchOption result (HasNoPlace (places_of self.now) root.0 from end)
+            (IsNextPlace (places_of self.now) root.0 from end) }
     {
         match self.places.next(root.0 as u64, from) {
             Some((page, _)) if page < end => Some(page),
@@ -218,7 +270,7 @@ impl Translations {
 
     /// Returns whether none of `count` pages of a VMO from `first` on has a translation. `first + count` may pass 2^64.
     pub(crate) fn shows_none(&self, v: Koid, first: PageNo, count: u64) -> bool
-        ensures { result ≡ true → HasNoList (kept_of self.now) v.0 first (first + count) }
+        ensures { result ≡ true → HasNoList (places_of self.now) v.0 first (first + count) }
     {
         match self.lists.next(v.0, first) {
             Some((page, _)) => page - first >= count,
@@ -227,11 +279,17 @@ impl Translations {
     }
 
     /// Returns the list of the translations of a page of a VMO. `None` if it has none.
-    pub(crate) fn list_at(&self, v: Koid, page: PageNo) -> Option<KeptList>
-        ensures { MatchOption result (HasNoList (kept_of self.now) v.0 page (page + 1))
-            (λ row. IsListAt (kept_of self.now) v.0 page row.list × StartsWith (kept_of self.now) row) }
+    pub(crate) fn list_at(&self, v: Koid, page: PageNo) -> Option<FrameList>
+        ensures { MatchOption result ((list_of self.now v.0 page ≡ None) × HasNoList (places_of self.now) v.0 page (page + 1))
+            (λ list. (list_of self.now v.0 page ≡ Some list.first) × HasFrame (places_of self.now) v.0 page list.frame) }
     {
-        self.lists.find(v.0, page)
+        match self.lists.find(v.0, page) {
+            Some(first) => Some(FrameList {
+                first,
+                frame: self.links[first].translation.frame,
+            }),
+            None => None,
+        }
     }
 
     /// Returns the first page of a VMO from `from` to below `end` that has translations, and their list.
@@ -240,43 +298,17 @@ impl Translations {
         v: Koid,
         from: PageNo,
         end: PageNo,
-    ) -> Option<(PageNo, KeptList)>
-        ensures { MatchOption result (HasNoList (kept_of self.now) v.0 from end)
-            (λ found. IsNextList (kept_of self.now) v.0 from end (found.0, found.1.list) × StartsWith (kept_of self.now) found.1) }
+    ) -> Option<(PageNo, FrameList)>
+        ensures { MatchOption result (HasNoList (places_of self.now) v.0 from end)
+            (λ found. IsNextList (places_of self.now) v.0 from end found.0
+            × (list_of self.now v.0 found.0 ≡ Some found.1.first) × HasFrame (places_of self.now) v.0 found.0 found.1.frame) }
     {
         match self.lists.next(v.0, from) {
-            Some((page, row)) if page < end => Some((page, row)),
+            Some((page, first)) if page < end => {
+                let frame = self.links[first].translation.frame;
+                Some((page, FrameList { first, frame }))
+            }
             _ => None,
         }
     }
-
-    /// Returns the first translation of a list with a serial from `from` on: its serial, and the page that it is of.
-    /// `from` is above the list's number, so the translation that came first is not searched for.
-    pub(crate) fn other_from(&self, list: u64, from: u64) -> Option<(u64, Place)>
-        requires { list < from }
-        ensures { MatchOption result (HasNoMember (kept_of self.now) list from)
-            (IsNextMember (kept_of self.now) list from) }
-    {
-        // The serials are below the next.
-        let _next = self.next;
-        self.others.next(list, from)
-    }
-}
-
-/// Returns what is kept of a page, if it holds this frame.
-fn with_frame(kept: Option<Kept>, frame: Option<Tag>) -> Option<Kept>
-    ensures some { IfSome result (λ found. (kept ≡ Some found) × (frame ≡ found.translation.frame)) }
-    ensures none { IfNone result (HoldsOther (number_of frame) kept) }
-{
-    match kept {
-        Some(found) if found.translation.frame == frame => Some(found),
-        _ => None,
-    }
-}
-
-/// Returns the translation that is kept.
-fn translation_in(kept: Option<Kept>) -> Option<Translation>
-    ensures { result ≡ option_map (λ (kept : Kept). kept.translation) kept }
-{
-    Some(kept?.translation)
 }

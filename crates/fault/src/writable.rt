@@ -24,6 +24,8 @@ pub(crate) struct WritablePage {
     pub(crate) entry: Entry,
     /// True if it is translated.
     pub(crate) translated: bool,
+    /// The number of the link that it was found under, or 0 if it is not translated.
+    pub(crate) link: usize,
     /// The frame, if the page is translated for writing. No other VMO shows this frame.
     pub(crate) frame: Option<Tag>,
 }
@@ -62,6 +64,7 @@ impl Translations {
             Ok(touched) => Ok(WritablePage {
                 entry: touched.entry,
                 translated: touched.translation.is_some(),
+                link: touched.link,
                 frame: frame_to_write(touched.translation),
             }),
             Err(refusal) => Err(refusal),

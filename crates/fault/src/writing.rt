@@ -300,7 +300,7 @@ impl Translations {
             readiness: Readiness::Write,
         };
         if found.translated {
-            self.set(root, page, translation);
+            self.set(root, page, found.link, translation);
         } else {
             self.translate(root, page, translation);
         }

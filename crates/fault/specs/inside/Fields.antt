@@ -1,19 +1,13 @@
 -- How the fields of the translations are seen, and what holds of them.
-use Rattle.std.specs.Prelude.{ℕ, Option, ◌-◌, ◌^◌, min}
-use Rattle.pair_map.specs.Maps.{values_of, spare_of}
+use Rattle.slab.specs.Slab.{get, slab_len}
+use Rattle.pair_map.specs.Maps.{values_of}
 use Rattle.fault.specs.declared.translations.Translations.TheInside.{Inside}
 use Rattle.fault.specs.Table.{Table}
-use Rattle.fault.specs.declared.translation.Place.{Place}
-use Rattle.fault.specs.inside.Lists.{AreListed, AreMembers, lists_in}
+use Rattle.fault.specs.inside.Lists.{AreLinked, room_in}
 
--- One translation more takes room in each map, and a number.
+-- One translation more takes room in each map, and a link.
 abbrev pub table_of : Inside → Table
-table_of a = record {
-  rows = a.places;
-  room = min (min (spare_of a.places) (spare_of a.lists)) (min (spare_of a.others) (2 ^ 64 - 1 - a.next));
-}
+table_of a = record { rows = a.places; lists = a.lists; links = a.links; room = room_in a.places a.lists a.links }
 
-pub record IsTable (a : Inside) : Type 0 where
-  pub members : ℕ → ℕ → Option Place
-  pub are : AreMembers (values_of a.lists) (values_of a.others) members
-  pub listed : AreListed (values_of a.places) (lists_in (values_of a.lists)) members a.next
+abbrev pub IsTable : Inside → Type 0
+IsTable a = AreLinked (values_of a.places) (values_of a.lists) (get a.links) (slab_len a.links)

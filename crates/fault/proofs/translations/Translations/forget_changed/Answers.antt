@@ -1,14 +1,14 @@
 use Rattle.std.proofs.Common.{◌+◌, sym, ap, ◌∙◌, arith}
 use Rattle.vm_model.proofs.ContentLaws.{pages_of-at}
 use Rattle.vm_model.specs.Space.Readiness.{frame_at}
-use Rattle.fault.specs.Table.{is_stale, number_of}
-use Rattle.fault.specs.inside.Walks.{kept_of, dropped, holds_other}
+use Rattle.fault.specs.Table.{places_of, is_stale, number_of}
+use Rattle.fault.specs.inside.Walks.{dropped, holds_other}
 use Rattle.fault.proofs.PlaceLaws.{dropped-once, places-without}
 use Rattle.fault.proofs.WalkLaws.{pages-start, pages-next, pages-end}
 use Rattle.fault.proofs.translations.Translations.forget_changed.Goals as goal
 
 pub loop-page-init : goal.loop-page-init
-loop-page-init g c = record { first = omega arith; end = omega arith; changed = pages-start dropped dropped-once c.args.v.0 c.args.first (λ k. holds_other (frame_at (g.P.PageStore.content c.args.store.now) c.args.v.0 k.translation.entry.page) k) (kept_of c.args.self.now); room = omega arith }
+loop-page-init g c = record { first = omega arith; end = omega arith; changed = pages-start dropped dropped-once c.args.v.0 c.args.first (λ k. holds_other (frame_at (g.P.PageStore.content c.args.store.now) c.args.v.0 k.entry.page) k) (places_of c.args.self.now); room = omega arith }
 
 pub loop-page-smaller : goal.loop-page-smaller
 loop-page-smaller g c = omega (arith, c.in-Some.ensures.0.order, c.in-Some.ensures.0.below)
@@ -20,7 +20,7 @@ loop-page-preserved g c =
     record {
       first = omega (arith, inv.first, next.order);
       end = omega (arith, next.below);
-      changed = pages-next dropped dropped-once c.args.v.0 c.args.first (λ k. holds_other (frame_at (g.P.PageStore.content c.args.store.now) c.args.v.0 k.translation.entry.page) k) (kept_of c.args.self.now) (kept_of c.loop-page.self) c.loop-page.from _ inv.changed c.in-Some.page c.in-Some.row.list
+      changed = pages-next dropped dropped-once c.args.v.0 c.args.first (λ k. holds_other (frame_at (g.P.PageStore.content c.args.store.now) c.args.v.0 k.entry.page) k) (places_of c.args.self.now) (places_of c.loop-page.self) c.loop-page.from _ inv.changed c.in-Some.page
           (holds_other (number_of c.frame_of.result)) _ inv.first next (λ k same. ap (λ frame. holds_other frame k) (c.frame_of.ensures ∙ ap (frame_at (g.P.PageStore.content c.args.store.now) c.args.v.0) (sym same))) c.forget_other.ensures.at;
       room = omega (arith, inv.room, c.forget_other.ensures.room);
     }
@@ -28,15 +28,15 @@ loop-page-preserved g c =
 pub returns-clause-at : goal.returns-clause-at
 returns-clause-at g c =
     let inv = c.loop-page.invariant in
-    places-without (is_stale (g.P.PageStore.content c.args.store.now) c.args.v.0 c.args.first (c.args.first + c.args.count)) (kept_of c.loop-page.self) (kept_of c.args.self.now)
-    ((pages-end dropped dropped-once c.args.v.0 c.args.first (λ k. holds_other (frame_at (g.P.PageStore.content c.args.store.now) c.args.v.0 k.translation.entry.page) k) (kept_of c.args.self.now) (kept_of c.loop-page.self) c.loop-page.from (c.args.first + c.args.count) inv.changed inv.end c.in_default.ensures))
+    places-without (is_stale (g.P.PageStore.content c.args.store.now) c.args.v.0 c.args.first (c.args.first + c.args.count)) (places_of c.loop-page.self) (places_of c.args.self.now)
+    ((pages-end dropped dropped-once c.args.v.0 c.args.first (λ k. holds_other (frame_at (g.P.PageStore.content c.args.store.now) c.args.v.0 k.entry.page) k) (places_of c.args.self.now) (places_of c.loop-page.self) c.loop-page.from (c.args.first + c.args.count) inv.changed inv.end c.in_default.ensures))
 
 pub returns-then-shows_none-clause-at : goal.returns-then-shows_none-clause-at
 returns-then-shows_none-clause-at g c =
-    places-without (is_stale (g.P.PageStore.content c.args.store.now) c.args.v.0 c.args.first (c.args.first + c.args.count)) (kept_of c.args.self.now) (kept_of c.args.self.now)
-    (pages-end dropped dropped-once c.args.v.0 c.args.first (λ k. holds_other (frame_at (g.P.PageStore.content c.args.store.now) c.args.v.0 k.translation.entry.page) k)
-    (kept_of c.args.self.now) (kept_of c.args.self.now) c.args.first (c.args.first + c.args.count)
-    (pages-start dropped dropped-once c.args.v.0 c.args.first (λ k. holds_other (frame_at (g.P.PageStore.content c.args.store.now) c.args.v.0 k.translation.entry.page) k) (kept_of c.args.self.now))
+    places-without (is_stale (g.P.PageStore.content c.args.store.now) c.args.v.0 c.args.first (c.args.first + c.args.count)) (places_of c.args.self.now) (places_of c.args.self.now)
+    (pages-end dropped dropped-once c.args.v.0 c.args.first (λ k. holds_other (frame_at (g.P.PageStore.content c.args.store.now) c.args.v.0 k.entry.page) k)
+    (places_of c.args.self.now) (places_of c.args.self.now) c.args.first (c.args.first + c.args.count)
+    (pages-start dropped dropped-once c.args.v.0 c.args.first (λ k. holds_other (frame_at (g.P.PageStore.content c.args.store.now) c.args.v.0 k.entry.page) k) (places_of c.args.self.now))
     (omega arith) (c.shows_none.ensures c.if-shows_none.true))
 
 pub overflow_add-end : goal.overflow_add-end

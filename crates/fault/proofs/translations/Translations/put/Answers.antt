@@ -1,16 +1,46 @@
+use Rattle.std.proofs.Common.{Bool, is_some, sym, ap}
+use Rattle.slab.specs.Slab.{get, slab_len, with_value}
 use Rattle.pair_map.specs.Maps.{values_of}
-use Rattle.fault.proofs.FindLaws.{IsListAt-with}
-use Rattle.fault.proofs.ListLaws.{AreListed-put}
+use Rattle.fault.proofs.FindLaws.{translation-of}
+use Rattle.fault.proofs.ForgettingLaws.{entry-same}
+use Rattle.fault.proofs.LinkLaws.{link-there, links_written, len-written}
+use Rattle.fault.proofs.ChangeLaws.{AreLinked-put, translations-put, HoldElsewhere-put}
 use Rattle.fault.proofs.translations.Translations.put.Goals as goal
 
-pub invariant_of-self : goal.invariant_of-self
-invariant_of-self c = record {
-  members = c.self.invariant.members;
-  are = c.self.invariant.are;
-  listed = AreListed-put _ _ _ _ c.self.invariant.listed c.args.root.0 c.args.page c.args.kept (rw (← c.self.view_is) at c.requires.kept) c.args.translation
-      c.requires.same c.requires.frame (values_of c.replace.new.self) c.replace.ensures.values;
-}
+pub index_mut-requires : goal.index_mut-requires
+index_mut-requires c = link-there (values_of c.self.inside.places) (get c.self.inside.links) c.self.invariant.placed c.args.root.0 c.args.page c.args.link (rw (← c.self.view_is) at c.requires.link)
 
-pub returns-clause-list : goal.returns-clause-list
-returns-clause-list c =
-    rw (← c.self.view_is) (IsListAt-with _ _ _ _ c.self.invariant.listed c.args.root.0 c.args.page c.args.kept (rw (← c.self.view_is) at c.requires.kept))
+pub invariant_of-self : goal.invariant_of-self
+invariant_of-self c =
+    let was = translation-of (values_of c.self.inside.places) (values_of c.self.inside.lists) (get c.self.inside.links) c.args.root.0 c.args.page c.args.link c.index_mut.result.now
+    (rw (← c.self.view_is) at c.requires.link) c.index_mut.ensures.value in
+    let entry = sym (entry-same _ c.index_mut.result.now.translation c.args.translation.entry was (rw (← c.self.view_is) at c.requires.same)) in
+    let written = links_written c.self.inside.links c.args.link _ (ap {B = Bool} is_some c.index_mut.ensures.value) in
+    AreLinked-put (values_of c.self.inside.places) (values_of c.self.inside.lists) (get c.self.inside.links) (get (with_value c.self.inside.links c.args.link (record c.index_mut.result.now { translation = c.args.translation })))
+    (slab_len c.self.inside.links) (slab_len (with_value c.self.inside.links c.args.link (record c.index_mut.result.now { translation = c.args.translation }))) c.self.invariant
+    (len-written c.self.inside.links c.args.link _ c.index_mut.result.now c.index_mut.ensures.value)
+    c.args.link c.index_mut.result.now c.index_mut.ensures.value c.args.translation entry written (rw (← c.self.view_is) at c.requires.may)
+
+pub returns-clause-at : goal.returns-clause-at
+returns-clause-at c =
+    let was = translation-of (values_of c.self.inside.places) (values_of c.self.inside.lists) (get c.self.inside.links) c.args.root.0 c.args.page c.args.link c.index_mut.result.now
+    (rw (← c.self.view_is) at c.requires.link) c.index_mut.ensures.value in
+    let entry = sym (entry-same _ c.index_mut.result.now.translation c.args.translation.entry was (rw (← c.self.view_is) at c.requires.same)) in
+    let written = links_written c.self.inside.links c.args.link _ (ap {B = Bool} is_some c.index_mut.ensures.value) in
+    rw (← c.self.view_is) (translations-put (values_of c.self.inside.places) (values_of c.self.inside.lists) (get c.self.inside.links) (get (with_value c.self.inside.links c.args.link (record c.index_mut.result.now { translation = c.args.translation })))
+    (slab_len c.self.inside.links) (slab_len (with_value c.self.inside.links c.args.link (record c.index_mut.result.now { translation = c.args.translation }))) c.self.invariant
+    (len-written c.self.inside.links c.args.link _ c.index_mut.result.now c.index_mut.ensures.value)
+    c.args.link c.index_mut.result.now c.index_mut.ensures.value c.args.translation entry written
+    c.args.root.0 c.args.page (rw (← c.self.view_is) at c.requires.link))
+
+pub returns-clause-others : goal.returns-clause-others
+returns-clause-others c =
+    let was = translation-of (values_of c.self.inside.places) (values_of c.self.inside.lists) (get c.self.inside.links) c.args.root.0 c.args.page c.args.link c.index_mut.result.now
+    (rw (← c.self.view_is) at c.requires.link) c.index_mut.ensures.value in
+    let entry = sym (entry-same _ c.index_mut.result.now.translation c.args.translation.entry was (rw (← c.self.view_is) at c.requires.same)) in
+    let written = links_written c.self.inside.links c.args.link _ (ap {B = Bool} is_some c.index_mut.ensures.value) in
+    rw (← c.self.view_is) (HoldElsewhere-put (values_of c.self.inside.places) (values_of c.self.inside.lists) (get c.self.inside.links) (get (with_value c.self.inside.links c.args.link (record c.index_mut.result.now { translation = c.args.translation })))
+    (slab_len c.self.inside.links) (slab_len (with_value c.self.inside.links c.args.link (record c.index_mut.result.now { translation = c.args.translation }))) c.self.invariant
+    (len-written c.self.inside.links c.args.link _ c.index_mut.result.now c.index_mut.ensures.value)
+    c.args.link c.index_mut.result.now c.index_mut.ensures.value c.args.translation entry written
+    c.args.root.0 c.args.page (rw (← c.self.view_is) at c.requires.link) (rw (← c.self.view_is) at c.requires.may))

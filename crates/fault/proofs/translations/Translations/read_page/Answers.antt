@@ -1,6 +1,5 @@
 use Rattle.std.proofs.Common.{◌∙◌}
 use Rattle.fault.specs.Table.{places_of, number_of}
-use Rattle.fault.specs.inside.Walks.{kept_of}
 use Rattle.fault.proofs.ForgettingLaws.{HoldsOther-none}
 use Rattle.fault.proofs.TouchingLaws.{ReadsPage-translated}
 use Rattle.fault.proofs.TranslationLaws.{IsOfEntry-none}
@@ -16,7 +15,7 @@ translate-requires-clause-same g c =
 
 pub translate-requires-clause-other : goal.translate-requires-clause-other
 translate-requires-clause-other g c =
-    HoldsOther-none (kept_of c.args.self.now c.args.root.0 c.args.page) (number_of c.to_read-translation.result.frame) (c.requires.found.translation ∙ c.in-None.is)
+    HoldsOther-none (places_of c.args.self.now c.args.root.0 c.args.page) (number_of c.to_read-translation.result.frame) (c.requires.found.translation ∙ c.in-None.is)
 
 pub returns-in-None-clause-places : goal.returns-in-None-clause-places
 returns-in-None-clause-places g c =
