@@ -1,15 +1,13 @@
--- Where no page is translated, there is no row.
-use Rattle.std.proofs.Common.{◌≡◌, ◌↔◌, ℕ, ◌^◌, ◌<◌, ◌==◌, ◌/◌, ◌%◌, nat_lt, Bool, true, false, cond, IsTrue, List, [], ◌∷◌, length, Option, None, Some, refl, sym, ap, ◌∙◌, arith}
+-- Where no pair has a value, there is no row.
+use Rattle.std.proofs.Common.{◌≡◌, ℕ, ◌^◌, ◌<◌, ◌==◌, ◌/◌, ◌%◌, nat_lt, Bool, true, false, cond, IsTrue, List, [], ◌∷◌, length, Option, None, Some, refl, sym, ◌∙◌, arith}
 use Rattle.std.proofs.lemmas.Nat.{div-add-mod'}
 use Rattle.std.proofs.lemmas.Bool.{cond-true, eq-eqb}
-use Rattle.slab.specs.Slab.{get}
 use Rattle.balanced_tree.specs.Rows.{row_at}
 use Rattle.balanced_tree.specs.Pairs.{pair_rank, value_at}
 use Rattle.balanced_tree.proofs.PairLaws.{value-found}
 use Rattle.vm_base.proofs.SearchLaws.{eqb_same, eqb_is}
 use Rattle.pair_map.specs.declared.pair_row.PairRow.{PairRow}
 use Rattle.pair_map.specs.PairRows.{pair_functions, pair_rows, value_of}
-use Rattle.fault.specs.Table.{Table, places_of, link_of, translation_at}
 
 -- a row is found by its rank
 row-first : {V : Type 0} (n : ℕ) (x : PairRow V) (rows : List (PairRow V)) → n ≡ pair_functions.rank x → row_at pair_functions n (x ∷ rows) ≡ Some x
@@ -38,10 +36,7 @@ rows-empty [] a b none = same (nat_lt b (2 ^ 64))
     same false = refl
 rows-empty (x ∷ rows) a b none = absurd (cc)
 
--- no page is translated exactly where there is no row
-pub empty-places : (t : Table) (n : ℕ) → n ≡ length t.rows.rows → ((root p : ℕ) → places_of t root p ≡ None → link_of t root p ≡ None)
-    → IsTrue (n == 0) ↔ ((root p : ℕ) → places_of t root p ≡ None)
-empty-places t n is bare = (
-  λ zero root p. ap (translation_at (get t.links)) (rows-empty t.rows.rows root p (sym is ∙ eqb_is n 0 zero)),
-  λ none. eq-eqb n 0 (is ∙ rows-none t.rows.rows (λ root p. bare root p (none root p))),
-)
+-- no pair has a value exactly where there is no row
+pub empty-rows : {V : Type 0} (rows : List (PairRow V)) (n : ℕ) → n ≡ length rows
+    → (IsTrue (n == 0) → (a b : ℕ) → value_at pair_functions value_of rows a b ≡ None) × (((a b : ℕ) → value_at pair_functions value_of rows a b ≡ None) → IsTrue (n == 0))
+empty-rows rows n is = (λ zero a b. rows-empty rows a b (sym is ∙ eqb_is n 0 zero), λ none. eq-eqb n 0 (is ∙ rows-none rows none))

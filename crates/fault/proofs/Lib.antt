@@ -1,4 +1,5 @@
 pub mod PairLaws
+pub mod PageLaws
 pub mod PlaceLaws
 pub mod WalkLaws
 pub mod ListLaws

@@ -21,7 +21,7 @@ use Rattle.fault.proofs.ListLaws.{leads, AreLists-first, AreLists-behind, AreLis
 
 -- ---- a slab as a map from numbers
 
-pub links_with : (old new : Slab Link) (x : ℕ) (k : Link) → Updates old new x (Some k) → get new ≡ with_key (get old) x k
+pub links_with : {T : Type 0} (old new : Slab T) (x : ℕ) (k : T) → Updates old new x (Some k) → get new ≡ with_key (get old) x k
 links_with old new x k u = λ i n. at n i
   where
     at : (n : ℕ) → get new n ≡ with_key (get old) x k n
@@ -30,7 +30,7 @@ links_with old new x k u = λ i n. at n i
       | inr apart ↦ u.others n apart ∙ sym (with_key-other (get old) x k n apart)
     ]
 
-pub links_without : (old new : Slab Link) (x : ℕ) → Updates old new x None → get new ≡ without_key (get old) x
+pub links_without : {T : Type 0} (old new : Slab T) (x : ℕ) → Updates old new x None → get new ≡ without_key (get old) x
 links_without old new x u = λ i n. at n i
   where
     at : (n : ℕ) → get new n ≡ without_key (get old) x n
@@ -40,11 +40,11 @@ links_without old new x u = λ i n. at n i
     ]
 
 -- a link that was written in its place
-pub links_written : (s : Slab Link) (x : ℕ) (k : Link) → ContainsKey s x → get (with_value s x k) ≡ with_key (get s) x k
+pub links_written : {T : Type 0} (s : Slab T) (x : ℕ) (k : T) → ContainsKey s x → get (with_value s x k) ≡ with_key (get s) x k
 links_written s x k there = links_with s (with_value s x k) x k (Updates-with_value s x k there)
 
 -- no link comes or goes by that
-pub len-written : (s : Slab Link) (x : ℕ) (k was : Link) → get s x ≡ Some was → slab_len (with_value s x k) ≡ slab_len s
+pub len-written : {T : Type 0} (s : Slab T) (x : ℕ) (k was : T) → get s x ≡ Some was → slab_len (with_value s x k) ≡ slab_len s
 len-written s x k was is = grind (arith, common_steps)
 
 -- ---- one link is changed
@@ -549,6 +549,9 @@ AreLinked-roomy places wider lists longer old new p l s h =
     subst (λ (m : ℕ → ℕ → Option ℕ). AreLinked m longer (get new) (slab_len new)) (sym p)
     (subst (λ (m : ℕ → ℕ → Option ℕ). AreLinked places m (get new) (slab_len new)) (sym l)
     (subst (λ (slots : List (Option Link)). AreLinked places lists (λ x. slice_index_or slots x None) (count_by is_some slots)) (sym s) h))
+
+pub translations-roomy : (places wider : ℕ → ℕ → Option ℕ) (old new : Slab Link) → wider ≡ places → new.slots ≡ old.slots → translations_in (get new) wider ≡ translations_in (get old) places
+translations-roomy places wider old new p s = λ i. translations_in (λ x. slice_index_or (s i) x None) (p i)
 
 -- ---- no link
 

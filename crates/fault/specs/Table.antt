@@ -9,11 +9,9 @@ use Rattle.vm_model.specs.Contents.Content.{Content, sole, pages_of}
 use Rattle.vm_model.specs.Contents.Zeroing.{is_within}
 use Rattle.vm_model.specs.Space.Readiness.{Ready, frame_at, is_same_frame, shows_in}
 use Rattle.slab.specs.Slab.{Slab, get}
-use Rattle.balanced_tree.specs.Rows.{Rows}
-use Rattle.pair_map.specs.declared.pair_row.PairRow.{PairRow}
-use Rattle.pair_map.specs.Maps.{values_of}
 use Rattle.fault.specs.declared.translation.Translation.{Translation}
 use Rattle.fault.specs.declared.translation.Link.{Link}
+use Rattle.fault.specs.inside.Pages.{Pages, links_of}
 
 -- the translation of each page of each address space
 abbrev pub Places : Type 0
@@ -22,8 +20,8 @@ Places = ℕ → ℕ → Option Translation
 -- The number of the link of each page that is translated, and of the first link of each page of a VMO that has
 -- translations; the links; and how many more translations fit with no memory from the host.
 pub record Table : Type 0 where
-  pub rows : Rows (PairRow ℕ)
-  pub lists : Rows (PairRow ℕ)
+  pub rows : Pages
+  pub lists : Pages
   pub links : Slab Link
   pub room : ℕ
 
@@ -38,15 +36,15 @@ translations_in links rows root p = translation_at links (rows root p)
 
 -- the translation of each page of each address space
 abbrev pub places_of : Table → Places
-places_of t = translations_in (get t.links) (values_of t.rows)
+places_of t = translations_in (get t.links) (links_of t.rows)
 
 -- the number of the link of each page
 abbrev pub link_of : Table → ℕ → ℕ → Option ℕ
-link_of t = values_of t.rows
+link_of t = links_of t.rows
 
 -- the number of the first link of each page of a VMO
 abbrev pub list_of : Table → ℕ → ℕ → Option ℕ
-list_of t = values_of t.lists
+list_of t = links_of t.lists
 
 -- how many more translations fit with no memory from the host
 abbrev pub room_of : Table → ℕ

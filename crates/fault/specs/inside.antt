@@ -1,3 +1,4 @@
+pub mod Pages
 pub mod Lists
 pub mod Fields
 pub mod Walks

@@ -17,6 +17,7 @@ mod forgetting;
 mod frames;
 mod lists;
 mod needing;
+mod page_map;
 mod reading;
 mod sending;
 mod translation;

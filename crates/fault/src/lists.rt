@@ -3,15 +3,15 @@
 ghost use Rattle.std.specs.Prelude.{◌≡◌, ◌≢◌, ◌+◌, ◌≤◌, ◌⊎◌, true, false, None, Some, IsSome, IfSome};
 ghost use Rattle.slab.specs.Slab.{get, slab_len, ContainsKey, HasRoomFor};
 ghost use Rattle.balanced_tree.specs.Pairs.{with_pair};
-ghost use Rattle.pair_map.specs.Maps.{values_of, spare_of};
+ghost use Rattle.fault.specs.inside.Pages.{links_of, room_left};
 ghost use Rattle.vm_model.specs.Space.Readiness.{is_same_frame};
 ghost use Rattle.fault.specs.Table.{is_of, number_of, translations_in};
 ghost use Rattle.fault.specs.inside.Lists.{AreLinked, IsFirst, Holds, place_at, place_in, previous_in, next_in, set_in, to_previous, to_next, linked_behind, unlinked, first_after, restricted_beside, room_in};
 ghost use Rattle.fault.specs.inside.Walks.{changed_where, dropped};
 
 use crate::frames::have_same_frame;
+use crate::page_map::PageMap;
 use crate::translation::{Link, Place, Translation};
-use pair_map::PairMap;
 use slab::Slab;
 use vm_base::{Koid, PageNo, RegionName, Tag};
 use vm_model::Readiness;
@@ -20,21 +20,21 @@ use vm_model::Readiness;
 /// VMO, if that has one. The new link stands behind it, so that the row of the list stays. Otherwise the page of the VMO
 /// gets a list. There is room.
 pub(crate) fn join(
-    places: &mut PairMap<usize>,
-    lists: &mut PairMap<usize>,
+    places: &mut PageMap,
+    lists: &mut PageMap,
     links: &mut Slab<Link>,
     first: Option<usize>,
     translation: Translation,
     place: Place,
 )
-    requires linked { AreLinked (values_of places.old) (values_of lists.old) (get links.old) (slab_len links.old) }
-    requires first { values_of lists.old translation.entry.koid.0 translation.entry.page ≡ first }
+    requires linked { AreLinked (links_of places.old) (links_of lists.old) (get links.old) (slab_len links.old) }
+    requires first { links_of lists.old translation.entry.koid.0 translation.entry.page ≡ first }
     requires frame { IfSome first (Holds (get links.old) translation.frame) }
-    requires absent { values_of places.old place.root.0 place.page ≡ None }
+    requires absent { links_of places.old place.root.0 place.page ≡ None }
     requires room { 1 ≤ room_in places.old lists.old links.old }
-    ensures linked { AreLinked (values_of places.new) (values_of lists.new) (get links.new) (slab_len links.new) }
-    ensures at { translations_in (get links.new) (values_of places.new)
-        ≡ with_pair (translations_in (get links.old) (values_of places.old)) place.root.0 place.page (Some translation) }
+    ensures linked { AreLinked (links_of places.new) (links_of lists.new) (get links.new) (slab_len links.new) }
+    ensures at { translations_in (get links.new) (links_of places.new)
+        ≡ with_pair (translations_in (get links.old) (links_of places.old)) place.root.0 place.page (Some translation) }
     ensures room { room_in places.old lists.old links.old ≤ room_in places.new lists.new links.new + 1 }
 {
     match first {
@@ -59,17 +59,17 @@ pub(crate) fn join(
 /// Forgets the translation of a page that has one: takes its link out of its list, and removes the list if it has no link
 /// left.
 pub(crate) fn leave(
-    places: &mut PairMap<usize>,
-    lists: &mut PairMap<usize>,
+    places: &mut PageMap,
+    lists: &mut PageMap,
     links: &mut Slab<Link>,
     root: RegionName,
     page: PageNo,
 )
-    requires linked { AreLinked (values_of places.old) (values_of lists.old) (get links.old) (slab_len links.old) }
-    requires there { IsSome (values_of places.old root.0 page) }
-    ensures linked { AreLinked (values_of places.new) (values_of lists.new) (get links.new) (slab_len links.new) }
-    ensures at { translations_in (get links.new) (values_of places.new)
-        ≡ with_pair (translations_in (get links.old) (values_of places.old)) root.0 page None }
+    requires linked { AreLinked (links_of places.old) (links_of lists.old) (get links.old) (slab_len links.old) }
+    requires there { IsSome (links_of places.old root.0 page) }
+    ensures linked { AreLinked (links_of places.new) (links_of lists.new) (get links.new) (slab_len links.new) }
+    ensures at { translations_in (get links.new) (links_of places.new)
+        ≡ with_pair (translations_in (get links.old) (links_of places.old)) root.0 page None }
     ensures room { room_in places.old lists.old links.old ≤ room_in places.new lists.new links.new }
 {
     let at = places.remove(root.0 as u64, page);
@@ -80,19 +80,19 @@ pub(crate) fn leave(
 /// Forgets the translations of a page of a VMO, whose list begins with the link `first`, and removes the list. It costs a
 /// step for each of them.
 pub(crate) fn drop_list(
-    places: &mut PairMap<usize>,
-    lists: &mut PairMap<usize>,
+    places: &mut PageMap,
+    lists: &mut PageMap,
     links: &mut Slab<Link>,
     v: Koid,
     page: PageNo,
     first: usize,
 )
-    requires linked { AreLinked (values_of places.old) (values_of lists.old) (get links.old) (slab_len links.old) }
-    requires first { values_of lists.old v.0 page ≡ Some first }
-    ensures linked { AreLinked (values_of places.new) (values_of lists.new) (get links.new) (slab_len links.new) }
-    ensures lists { values_of lists.new v.0 page ≡ None }
-    ensures at { translations_in (get links.new) (values_of places.new)
-        ≡ changed_where dropped (is_of v.0 page (page + 1)) (translations_in (get links.old) (values_of places.old)) }
+    requires linked { AreLinked (links_of places.old) (links_of lists.old) (get links.old) (slab_len links.old) }
+    requires first { links_of lists.old v.0 page ≡ Some first }
+    ensures linked { AreLinked (links_of places.new) (links_of lists.new) (get links.new) (slab_len links.new) }
+    ensures lists { links_of lists.new v.0 page ≡ None }
+    ensures at { translations_in (get links.new) (links_of places.new)
+        ≡ changed_where dropped (is_of v.0 page (page + 1)) (translations_in (get links.old) (links_of places.old)) }
     ensures room { room_in places.old lists.old links.old ≤ room_in places.new lists.new links.new }
 {
     let mut at = Some(first);
@@ -188,10 +188,10 @@ fn unlink(links: &mut Slab<Link>, at: usize) -> Link
 }
 
 // Lets the list of a link that went begin with the link behind it, if it was the first. Removes the list if there is none.
-fn lead_on(lists: &mut PairMap<usize>, gone: Link)
-    requires { gone.previous ≡ None → IsSome (values_of lists.old gone.translation.entry.koid.0 gone.translation.entry.page) }
-    ensures lists { values_of lists.new ≡ first_after (values_of lists.old) gone }
-    ensures room { spare_of lists.old ≤ spare_of lists.new }
+fn lead_on(lists: &mut PageMap, gone: Link)
+    requires { gone.previous ≡ None → IsSome (links_of lists.old gone.translation.entry.koid.0 gone.translation.entry.page) }
+    ensures lists { links_of lists.new ≡ first_after (links_of lists.old) gone }
+    ensures room { room_left lists.old ≤ room_left lists.new }
 {
     let entry = gone.translation.entry;
     match gone.previous {

@@ -10,8 +10,8 @@ ghost use Rattle.fault.specs.inside.Walks.{HasNoList, IsNextList, HasFrame, Hold
 ghost use Rattle.fault.specs.inside.Lists.{MayHold, translation_in};
 
 use crate::lists::{drop_list, is_link_of, join, leave, may_hold, restrict_list};
+use crate::page_map::PageMap;
 use crate::translation::{Change, FrameList, Kept, Link, Place, Translation};
-use pair_map::PairMap;
 use slab::Slab;
 use std::alloc::Global;
 use std::marker::Model;
@@ -26,9 +26,9 @@ use vm_base::{HostMemory, Koid, PageNo, RegionName, Tag};
 #[derive(Drop)]
 pub struct Translations {
     /// The number of the link of each page that is translated, by the root region and the page.
-    places: PairMap<usize>,
+    places: PageMap,
     /// The number of the first link of each page of a VMO that has a translation, by the koid and the page.
-    lists: PairMap<usize>,
+    lists: PageMap,
     /// The translations.
     links: Slab<Link>,
 }
@@ -51,8 +51,8 @@ impl Translations {
         ensures { places_of result ≡ λ root p. None }
     {
         Translations {
-            places: PairMap::new(alloc),
-            lists: PairMap::new(alloc),
+            places: PageMap::new(alloc),
+            lists: PageMap::new(alloc),
             links: Slab::new(alloc),
         }
     }
@@ -61,7 +61,7 @@ impl Translations {
     pub fn is_empty(&self) -> bool
         ensures { IsTrue result ↔ ((root p : ℕ) → places_of self.now root p ≡ None) }
     {
-        self.places.len() == 0
+        self.places.is_empty()
     }
 
     /// Returns the translation of a page of an address space, with the number of its link. `None` if it has none.

@@ -2,10 +2,7 @@
 use Rattle.std.specs.Prelude.{◌≡◌, ℕ, zero, suc, ◌-◌, ◌<◌, ◌==◌, ◌&&◌, ◌⊎◌, min, Bool, false, if◌then◌else◌, Option, None, Some, IsSome}
 use Rattle.std.specs.Option.{option_map}
 use Rattle.slab.specs.Slab.{Slab, get, slab_len}
-use Rattle.balanced_tree.specs.Rows.{Rows}
 use Rattle.balanced_tree.specs.Pairs.{with_pair}
-use Rattle.pair_map.specs.declared.pair_row.PairRow.{PairRow}
-use Rattle.pair_map.specs.Maps.{spare_of}
 use Rattle.vm_base.specs.Entries.{with_key, without_key}
 use Rattle.vm_base.specs.declared.names.Tag.{Tag}
 use Rattle.vm_model.specs.declared.space.Readiness.TheVariants.{Read}
@@ -13,6 +10,7 @@ use Rattle.fault.specs.declared.translation.Translation.{Translation}
 use Rattle.fault.specs.declared.translation.Place.{Place}
 use Rattle.fault.specs.declared.translation.Link.{Link}
 use Rattle.fault.specs.declared.translation.Kept.{Kept}
+use Rattle.fault.specs.inside.Pages.{Pages, room_left}
 
 -- the link of each number, if there is one
 abbrev pub Links : Type 0
@@ -23,8 +21,8 @@ abbrev pub place_at : (root p : ℕ) → Place
 place_at root p = record { root = record { 0 = root }; page = p }
 
 -- how many translations more fit: one takes room in each map, and a link
-abbrev pub room_in : Rows (PairRow ℕ) → Rows (PairRow ℕ) → Slab Link → ℕ
-room_in places lists links = min (min (spare_of places) (spare_of lists)) (links.capacity - slab_len links)
+abbrev pub room_in : Pages → Pages → Slab Link → ℕ
+room_in places lists links = min (min (room_left places) (room_left lists)) (links.capacity - slab_len links)
 
 -- the translation that was found
 abbrev pub translation_in : Option Kept → Option Translation

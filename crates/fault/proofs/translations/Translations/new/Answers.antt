@@ -5,7 +5,7 @@ use Rattle.fault.proofs.LinkLaws.{AreLinked-none}
 use Rattle.fault.proofs.translations.Translations.new.Goals as goal
 
 pub invariant_of-result : goal.invariant_of-result
-invariant_of-result c = AreLinked-none _ _ _ _ c.new.ensures.values c.new-2.ensures.values (λ x. rw c.new-3.ensures.empty refl)
+invariant_of-result c = AreLinked-none _ _ _ _ c.new.ensures c.new-2.ensures (λ x. rw c.new-3.ensures.empty refl)
 
 pub returns : goal.returns
-returns c = ap {B = Places} (λ (m : ℕ → ℕ → Option ℕ) root p. translation_at (get c.new-3.result) (m root p)) c.new.ensures.values
+returns c = ap {B = Places} (λ (m : ℕ → ℕ → Option ℕ) root p. translation_at (get c.new-3.result) (m root p)) c.new.ensures
