@@ -19,7 +19,7 @@ use std::marker::Model;
 use vm_base::{DATA_BYTES, Failed, HostMemory, PIN_PAGES, TEXT_ROOM};
 use vm_model::{Answer, LentBytes, LentNumbers};
 
-/// What is kept of an answer: the answer, or where its data stands.
+/// An answer as it is kept: the answer, or the place of its data.
 #[derive(Drop)]
 pub(crate) enum Kept {
     Plain(Answer<'static>),
@@ -28,7 +28,7 @@ pub(crate) enum Kept {
     Pins(Place),
 }
 
-/// What is kept of a deed.
+/// A deed as it is kept.
 #[derive(Drop)]
 pub(crate) struct Note {
     actor: u32,

@@ -11,7 +11,7 @@ use Rattle.transcript.specs.declared.reports.Report.{Report}
 use Rattle.transcript.specs.declared.reports.Report.TheVariants.{Legal, Illegal, Malformed}
 use Rattle.transcript.specs.declared.reports.Check.{Check}
 use Rattle.transcript.specs.Verdicts.{HasRead, IsVerdict}
-use Rattle.transcript.specs.Reports.{is_asked, asked_count, IsFirst, IsReport, HasFound, IsChecked}
+use Rattle.transcript.specs.Reports.{is_asked, asked_count, IsFirstVerdict, IsReport, HasFound, IsChecked}
 use Rattle.transcript.proofs.LineLaws.{possible_from}
 use Rattle.transcript.proofs.CheckLaws.{at_may}
 
@@ -43,7 +43,7 @@ read_so frames check lines checked none = let found : HasFound None frames check
 
 -- ---- the first bad line
 
-first_more : (frames : ℕ) (lines : List (List ℕ)) (line : List ℕ) (verdict : Verdict) (k : ℕ) → IsFirst frames lines verdict k → IsFirst frames (lines ++ line ∷ []) verdict k
+first_more : (frames : ℕ) (lines : List (List ℕ)) (line : List ℕ) (verdict : Verdict) (k : ℕ) → IsFirstVerdict frames lines verdict k → IsFirstVerdict frames (lines ++ line ∷ []) verdict k
 first_more frames lines line verdict k first = record {
   before = first.before;
   line = first.line;
@@ -76,7 +76,7 @@ fine_more frames old checker asks lines line e checked read is =
       found = subst (λ (bad : Option Report). HasFound bad frames new (lines ++ line ∷ [])) (sym e) (read, omega (arith, found.1, is, asked_more lines line));
     }
 
-first_here : (frames : ℕ) (lines : List (List ℕ)) (line : List ℕ) (verdict : Verdict) (checker : Checker) (k n : ℕ) → HasRead frames checker lines → IsVerdict frames lines line verdict → n ≡ length lines → k ≡ n + 1 → IsFirst frames (lines ++ line ∷ []) verdict k
+first_here : (frames : ℕ) (lines : List (List ℕ)) (line : List ℕ) (verdict : Verdict) (checker : Checker) (k n : ℕ) → HasRead frames checker lines → IsVerdict frames lines line verdict → n ≡ length lines → k ≡ n + 1 → IsFirstVerdict frames (lines ++ line ∷ []) verdict k
 first_here frames lines line verdict checker k n read said e is = record {
   before = lines;
   line = line;

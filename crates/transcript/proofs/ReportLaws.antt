@@ -19,11 +19,11 @@ use Rattle.served.proofs.Beginning.{fresh, IsPending-fresh, IsServed-fresh}
 use Rattle.served.proofs.Answered.{IsReady-answered, bytes_left-answered}
 use Rattle.transcript.specs.declared.reports.Check.{Check}
 use Rattle.transcript.specs.declared.reports.Report.{Report}
-use Rattle.transcript.specs.Reports.{gathering, IsUnderWay, IsChecked, IsReport, report_text, StopsAs, EndsAs, lack, status_of}
+use Rattle.transcript.specs.Reports.{collecting, IsUnderWay, IsChecked, IsReport, report_text, StopsAs, EndsAs, lack, status_of}
 
 -- ---- lines that are fetched
 
-gathered : (old new : List (List ℕ)) (lines : List (List ℕ)) (out : List ℕ) → Run gathering old lines out new → new ≡ old ++ lines
+gathered : (old new : List (List ℕ)) (lines : List (List ℕ)) (out : List ℕ) → Run collecting old lines out new → new ≡ old ++ lines
 gathered old new [] out run = run.1 ∙ sym (append-nil old)
 gathered old new (line ∷ lines) out run = gathered run.0 new lines run.2 run.4 ∙ (ap (λ (ls : List (List ℕ)). ls ++ lines) run.3.1 ∙ append_assoc old (line ∷ []) lines)
 
@@ -62,7 +62,7 @@ fetched_long old new source_old source_new pending f = record {
 }
 
 answered : (old new : Reader) (source_old source_new : Option (List ℕ)) (pending line : List ℕ) (lines : List (List ℕ)) → IsFetched old new source_old source_new pending line
-    → IsAnswered {T = Unit {0}} {E = Unit {0}} gathering old new source_old source_new (Some []) (Some []) lines (lines ++ line ∷ []) pending (Ok tt)
+    → IsAnswered {T = Unit {0}} {E = Unit {0}} collecting old new source_old source_new (Some []) (Some []) lines (lines ++ line ∷ []) pending (Ok tt)
 answered old new source_old source_new pending line lines f = record {
   part = f.part;
   left = f.left;
@@ -84,7 +84,7 @@ pub way_more : (frames : ℕ) (old new : Reader) (source_old source_mid source_n
     → IsUnderWay frames new source_old source_new after
 way_more frames old new source_old source_mid source_new line check after w f checked same none = record {
   lines = w.lines ++ line ∷ [];
-  served = IsServed-answered gathering 0 SCRIPT_BYTES old new source_old source_mid source_new (Some []) (Some []) (Some []) w.lines (w.lines ++ line ∷ []) nothing refl (Ok tt) w.served
+  served = IsServed-answered collecting 0 SCRIPT_BYTES old new source_old source_mid source_new (Some []) (Some []) (Some []) w.lines (w.lines ++ line ∷ []) nothing refl (Ok tt) w.served
       (answered old new source_mid source_new w.served.pending line w.lines f) same none tt refl;
   checked = checked;
 }
@@ -102,7 +102,7 @@ way_read frames old new source_old source_mid source_new line check after (Err x
 pub ready_more : (old new : Reader) (source_old source_new : Option (List ℕ)) (line : List ℕ) (before after : ℕ) (r : IsReady old source_old (before + 1)) → IsFetched old new source_old source_new r.pending line
     → after ≡ before + 1 → IsReady new source_new (after + 1)
 ready_more old new source_old source_new line before after r f e =
-    IsReady-answered gathering old new source_old source_new (Some []) (Some []) [] ([] ++ line ∷ []) (before + 1) (after + 1) (Ok tt) r (answered old new source_old source_new r.pending line [] f) (omega (arith, e))
+    IsReady-answered collecting old new source_old source_new (Some []) (Some []) [] ([] ++ line ∷ []) (before + 1) (after + 1) (Ok tt) r (answered old new source_old source_new r.pending line [] f) (omega (arith, e))
 
 pub ready_read : {T E : Type 0} (old new : Reader) (source_old source_new : Option (List ℕ)) (line : List ℕ) (before after : ℕ) (result : Result T E) (r : IsReady old source_old (before + 1)) → IsFetched old new source_old source_new r.pending line
     → MatchResult result (λ x. after ≡ before + 1) (λ x. Unit {0}) → IfNone (lack result) (IsReady new source_new (after + 1))
@@ -112,7 +112,7 @@ ready_read old new source_old source_new line before after (Err x) r f e = tt
 pub falls_more : (old new : Reader) (source_old source_new : Option (List ℕ)) (line : List ℕ) (before : ℕ) (r : IsReady old source_old (before + 1)) → IsFetched old new source_old source_new r.pending line → new.limit ≡ old.limit
     → bytes_left new < bytes_left old
 falls_more old new source_old source_new line before r f same =
-    bytes_left-answered gathering old new source_old source_new (Some []) (Some []) [] ([] ++ line ∷ []) (before + 1) (Ok tt) r (answered old new source_old source_new r.pending line [] f) same
+    bytes_left-answered collecting old new source_old source_new (Some []) (Some []) [] ([] ++ line ∷ []) (before + 1) (Ok tt) r (answered old new source_old source_new r.pending line [] f) same
 
 pub falls_read : {T E P : Type 0} (result : Result T E) → P → IfNone (lack result) P
 falls_read (Ok x) p = p
@@ -149,7 +149,7 @@ way_lines frames reader source_old source_now check w = subst (IsChecked frames 
 
 -- nothing was read yet
 pub way_begins : (frames : ℕ) (reader : Reader) (source : Option (List ℕ)) (check : Check) → reader ≡ fresh SCRIPT_BYTES → IsChecked frames check [] → IsUnderWay frames reader source source check
-way_begins frames reader source check e checked = record { lines = []; served = IsServed-fresh gathering 0 SCRIPT_BYTES reader source (Some []) [] e refl tt; checked = checked }
+way_begins frames reader source check e checked = record { lines = []; served = IsServed-fresh collecting 0 SCRIPT_BYTES reader source (Some []) [] e refl tt; checked = checked }
 
 pub ready_begins : (reader : Reader) (source : Option (List ℕ)) (lines : ℕ) → reader ≡ fresh SCRIPT_BYTES → lines ≡ 0 → IsReady reader source (lines + 1)
 ready_begins reader source lines e f = subst (λ (r : Reader). IsReady r source (lines + 1)) (sym e) (record { pending = []; still = IsPending-fresh SCRIPT_BYTES source; koids = omega (arith, f) })

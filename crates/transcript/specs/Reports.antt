@@ -31,7 +31,7 @@ asked_count [] = 0
 asked_count (line ∷ lines) = is_asked (told line) + asked_count lines
 
 -- Line k, from 1, is the first of which this is said. A transcript may begin with the lines before it.
-pub record IsFirst (frames : ℕ) (lines : List (List ℕ)) (verdict : Verdict) (k : ℕ) : Type 0 where
+pub record IsFirstVerdict (frames : ℕ) (lines : List (List ℕ)) (verdict : Verdict) (k : ℕ) : Type 0 where
   pub before : List (List ℕ)
   pub line : List ℕ
   pub after : List (List ℕ)
@@ -49,8 +49,8 @@ pub record IsMissing (frames : ℕ) (lines : List (List ℕ)) (k : ℕ) : Type 0
 -- Legal are the lines of a whole transcript.
 abbrev pub IsReport : ℕ → List (List ℕ) → Report → Type 0
 IsReport frames lines (Legal n) = AreWhole frames lines × (n ≡ asked_count lines)
-IsReport frames lines (Illegal k) = IsFirst frames lines IllegalLine k ⊎ IsMissing frames lines k
-IsReport frames lines (Malformed k) = IsFirst frames lines MalformedLine k
+IsReport frames lines (Illegal k) = IsFirstVerdict frames lines IllegalLine k ⊎ IsMissing frames lines k
+IsReport frames lines (Malformed k) = IsFirstVerdict frames lines MalformedLine k
 
 -- the line that a report is written as
 abbrev pub report_text : Report → List ℕ
@@ -65,7 +65,7 @@ pub record Reports (Written : List ℕ → Type 0) (frames : ℕ) (lines : List 
   pub written : Written (report_text report)
 
 -- the source gave at most so many bytes
-pub record TakesAtMost (limit : ℕ) (source_old source_new : Option (List ℕ)) : Type 0 where
+pub record ReadsAtMost (limit : ℕ) (source_old source_new : Option (List ℕ)) : Type 0 where
   pub script : List ℕ
   pub given : Consumes source_old source_new script
   pub short : length script ≤ limit
@@ -76,7 +76,7 @@ EndsAs Done frames source_old source_new sink_old sink_new = Completes (Reports 
 EndsAs WriteFault frames source_old source_new sink_old sink_new = Completes (Reports (IsCutOff sink_old sink_new) frames) SCRIPT_BYTES source_old source_new
 EndsAs ReadFault frames source_old source_new sink_old sink_new = StopsReading (λ lines. Unit {0}) SCRIPT_BYTES source_old source_new
 EndsAs ScriptLimit frames source_old source_new sink_old sink_new = ReachesLimit (λ lines. Unit {0}) SCRIPT_BYTES source_old source_new
-EndsAs HostMemory frames source_old source_new sink_old sink_new = TakesAtMost SCRIPT_BYTES source_old source_new
+EndsAs HostMemory frames source_old source_new sink_old sink_new = ReadsAtMost SCRIPT_BYTES source_old source_new
 EndsAs Usage frames source_old source_new sink_old sink_new = ⊥
 
 -- ---- a check that is under way
@@ -85,8 +85,8 @@ EndsAs Usage frames source_old source_new sink_old sink_new = ⊥
 abbrev pub HasFound : Option Report → ℕ → Check → List (List ℕ) → Type 0
 HasFound None frames check lines = HasRead frames check.checker lines × (check.asked ≡ asked_count lines)
 HasFound (Some (Legal n)) frames check lines = ⊥
-HasFound (Some (Illegal k)) frames check lines = IsFirst frames lines IllegalLine k
-HasFound (Some (Malformed k)) frames check lines = IsFirst frames lines MalformedLine k
+HasFound (Some (Illegal k)) frames check lines = IsFirstVerdict frames lines IllegalLine k
+HasFound (Some (Malformed k)) frames check lines = IsFirstVerdict frames lines MalformedLine k
 
 -- these lines were read
 pub record IsChecked (frames : ℕ) (check : Check) (lines : List (List ℕ)) : Type 0 where
@@ -94,8 +94,8 @@ pub record IsChecked (frames : ℕ) (check : Check) (lines : List (List ℕ)) : 
   pub found : HasFound check.bad frames check lines
 
 -- lines that are read as a machine that answers none, and to which each line adds itself
-abbrev pub gathering : Answering (List (List ℕ))
-gathering = record {
+abbrev pub collecting : Answering (List (List ℕ))
+collecting = record {
   start = λ frames. [];
   content = λ lines. nothing;
   IsGood = λ lines. Unit {0};
@@ -105,7 +105,7 @@ gathering = record {
 -- the source gave bytes so far, and the lines of them that were fetched were read
 pub record IsUnderWay (frames : ℕ) (reader : Reader) (source_old source_now : Option (List ℕ)) (check : Check) : Type 0 where
   pub lines : List (List ℕ)
-  pub served : IsServed gathering 0 SCRIPT_BYTES reader source_old source_now (Some []) (Some []) lines
+  pub served : IsServed collecting 0 SCRIPT_BYTES reader source_old source_now (Some []) (Some []) lines
   pub checked : IsChecked frames check lines
 
 -- what a status says of the reading
@@ -113,7 +113,7 @@ abbrev pub StopsAs : Status → ℕ → Option (List ℕ) → Option (List ℕ) 
 StopsAs Done frames source_old source_new check = Completes (IsChecked frames check) SCRIPT_BYTES source_old source_new
 StopsAs ReadFault frames source_old source_new check = StopsReading (λ lines. Unit {0}) SCRIPT_BYTES source_old source_new
 StopsAs ScriptLimit frames source_old source_new check = ReachesLimit (λ lines. Unit {0}) SCRIPT_BYTES source_old source_new
-StopsAs HostMemory frames source_old source_new check = TakesAtMost SCRIPT_BYTES source_old source_new
+StopsAs HostMemory frames source_old source_new check = ReadsAtMost SCRIPT_BYTES source_old source_new
 StopsAs WriteFault frames source_old source_new check = ⊥
 StopsAs Usage frames source_old source_new check = ⊥
 

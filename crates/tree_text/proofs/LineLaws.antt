@@ -4,7 +4,7 @@ use Rattle.cow_arena.specs.declared.node.Node.{Node}
 use Rattle.cow_arena.specs.Nodes.{Nodes, nodes_of}
 use Rattle.cow_arena.specs.Walk.{Tree}
 use Rattle.cow_forest.specs.Store.{Forest, tree}
-use Rattle.tree_text.specs.Order.{Place, place_in, root_of, nodes_below, tree_nodes, nodes_from, all_nodes}
+use Rattle.tree_text.specs.Order.{Place, place_below_parent, root_of, nodes_below, tree_nodes, nodes_from, all_nodes}
 use Rattle.tree_text.specs.Text.{rail, rails, head_text, tail_text, rows_text, text_of_node, lines_text, counts_text, open_text, close_text, forest_text}
 use Rattle.tree_text.specs.declared.lines.Form.{Form}
 use Rattle.tree_text.proofs.PlaceLaws.{climb-zero, climb-root, climb-level}
@@ -22,11 +22,11 @@ module _ (nodes : Nodes) (n k : ℕ) (front : List ℕ) where
       behind-none (ap (λ m. rails nodes m k) none ∙ climb-zero nodes (λ j. []) (λ place above. above ++ rail place.1) k)
 
   -- the node has no parent
-  pub rails-root : place_in nodes k ≡ None → front ≡ front ++ rails nodes n k
+  pub rails-root : place_below_parent nodes k ≡ None → front ≡ front ++ rails nodes n k
   rails-root none = behind-none (climb-root nodes (λ j. []) (λ place above. above ++ rail place.1) n k none)
 
   -- one level more
-  pub rails-more : (place : Place) (whole mid piece : List ℕ) → 0 < n → place_in nodes k ≡ Some place → whole ≡ mid ++ piece →
+  pub rails-more : (place : Place) (whole mid piece : List ℕ) → 0 < n → place_below_parent nodes k ≡ Some place → whole ≡ mid ++ piece →
       mid ≡ front ++ rails nodes (n - 1) place.0.0 → piece ≡ rail place.1 → whole ≡ front ++ rails nodes n k
   rails-more place whole mid piece some is last before text =
       let above = rails nodes (n - 1) place.0.0 in

@@ -10,7 +10,7 @@ use Rattle.cow_arena.specs.declared.node.Side.TheVariants as side
 use Rattle.cow_arena.specs.Nodes.{Nodes, link_to, child_on, IsVisible}
 use Rattle.cow_arena.specs.Forest.{IsForest, HasPair}
 use Rattle.cow_arena.proofs.ReachLaws.{child-there, side-of-child, hidden-of-child}
-use Rattle.tree_text.specs.Order.{Place, place_in, with_both_below, nodes_over, nodes_below, if_left, root_from}
+use Rattle.tree_text.specs.Order.{Place, place_below_parent, with_both_below, nodes_over, nodes_below, if_left, root_from}
 use Rattle.tree_text.specs.inside.Walking.{right_in, after_child, nodes_after, nodes_ahead, ahead_from}
 use Rattle.tree_text.proofs.PlaceLaws.{place-some, stands, climb-root, climb-step}
 
@@ -83,22 +83,22 @@ module _ (nodes : Nodes) (lists : ℕ) (f : IsForest nodes lists) where
 
   -- ---- the walk
 
-  child-place : (k c : ℕ) (node : Node) (s : Side) → nodes k ≡ Some node → child_on node s ≡ link_to c → place_in nodes c ≡ Some (record { 0 = k }, s)
+  child-place : (k c : ℕ) (node : Node) (s : Side) → nodes k ≡ Some node → child_on node s ≡ link_to c → place_below_parent nodes c ≡ Some (record { 0 = k }, s)
   child-place k c node s at child =
       let it = child-there nodes lists f k c node s at child in
       place-some nodes c it.node (record { 0 = k }) s it.at it.parent (side-of-child nodes lists f k c node s at child)
 
   -- what comes after a child
-  pub after-child : (k : ℕ) (place : Place) → place_in nodes k ≡ Some place →
+  pub after-child : (k : ℕ) (place : Place) → place_below_parent nodes k ≡ Some place →
       nodes_after nodes lists k ≡ after_child nodes lists place.0.0 place.1 (nodes_after nodes lists place.0.0)
   after-child k place is =
       climb-step nodes (λ j. []) (λ place behind. after_child nodes lists place.0.0 place.1 behind) lists f k place is
 
-  pub after-root : (k : ℕ) → place_in nodes k ≡ None → nodes_after nodes lists k ≡ []
+  pub after-root : (k : ℕ) → place_below_parent nodes k ≡ None → nodes_after nodes lists k ≡ []
   after-root k none = climb-root nodes (λ j. []) (λ place behind. after_child nodes lists place.0.0 place.1 behind) lists k none
 
   -- from a root the walk goes over all that is below it
-  pub ahead-root : (k : ℕ) → place_in nodes k ≡ None → nodes_below nodes lists (link_to k) ≡ nodes_ahead nodes lists k
+  pub ahead-root : (k : ℕ) → place_below_parent nodes k ≡ None → nodes_below nodes lists (link_to k) ≡ nodes_ahead nodes lists k
   ahead-root k none = sym (ap (λ list. nodes_below nodes lists (link_to k) ++ list) (after-root k none) ∙ append-nil (nodes_below nodes lists (link_to k)))
 
   -- the walk goes from a hidden node to its left child
@@ -131,7 +131,7 @@ module _ (nodes : Nodes) (lists : ℕ) (f : IsForest nodes lists) where
       right_none None e = absurd (let left = (f.by.pairs k node at e).left_is in cc)
 
   -- after a left child comes the right one
-  pub after-left : (k : ℕ) (place : Place) (above : Node) → place_in nodes k ≡ Some place → place.1 ≡ side.Left → nodes place.0.0 ≡ Some above →
+  pub after-left : (k : ℕ) (place : Place) (above : Node) → place_below_parent nodes k ≡ Some place → place.1 ≡ side.Left → nodes place.0.0 ≡ Some above →
       (nodes_after nodes lists k ≡ ahead_from nodes lists above.right) × IfSome above.right (λ next. IsSome (nodes next.0))
   after-left k place above is left above_at =
       let h = place.0.0 in
@@ -152,22 +152,22 @@ module _ (nodes : Nodes) (lists : ℕ) (f : IsForest nodes lists) where
       subst (λ o. (nodes_after nodes lists k ≡ ahead_from nodes lists o) × IfSome o (λ next. IsSome (nodes next.0))) (sym pair.right_is) (next, there)
 
   -- after a right child comes what comes after its parent
-  pub after-right : (k : ℕ) (place : Place) → place_in nodes k ≡ Some place → place.1 ≡ side.Right →
+  pub after-right : (k : ℕ) (place : Place) → place_below_parent nodes k ≡ Some place → place.1 ≡ side.Right →
       nodes_after nodes lists k ≡ nodes_after nodes lists place.0.0
   after-right k place is right =
       after-child k place is ∙ ap (λ s. after_child nodes lists place.0.0 s (nodes_after nodes lists place.0.0)) right
 
   -- ---- roots
 
-  pub root-top : (k : ℕ) → place_in nodes k ≡ None → root_from nodes lists k ≡ link_to k
+  pub root-top : (k : ℕ) → place_below_parent nodes k ≡ None → root_from nodes lists k ≡ link_to k
   root-top k none = climb-root nodes link_to (λ place root. if_left place.1 root) lists k none
 
-  root-step : (k : ℕ) (place : Place) → place_in nodes k ≡ Some place → root_from nodes lists k ≡ if_left place.1 (root_from nodes lists place.0.0)
+  root-step : (k : ℕ) (place : Place) → place_below_parent nodes k ≡ Some place → root_from nodes lists k ≡ if_left place.1 (root_from nodes lists place.0.0)
   root-step k place is = climb-step nodes link_to (λ place root. if_left place.1 root) lists f k place is
 
-  pub root-right : (k : ℕ) (place : Place) → place_in nodes k ≡ Some place → place.1 ≡ side.Right → root_from nodes lists k ≡ None
+  pub root-right : (k : ℕ) (place : Place) → place_below_parent nodes k ≡ Some place → place.1 ≡ side.Right → root_from nodes lists k ≡ None
   root-right k place is right = root-step k place is ∙ ap (λ s. if_left s (root_from nodes lists place.0.0)) right
 
-  pub root-left : (k : ℕ) (place : Place) → place_in nodes k ≡ Some place → place.1 ≡ side.Left →
+  pub root-left : (k : ℕ) (place : Place) → place_below_parent nodes k ≡ Some place → place.1 ≡ side.Left →
       root_from nodes lists k ≡ root_from nodes lists place.0.0
   root-left k place is left = root-step k place is ∙ ap (λ s. if_left s (root_from nodes lists place.0.0)) left

@@ -20,8 +20,8 @@ joined_place (Some parent) None = None
 joined_place (Some parent) (Some side) = Some (parent, side)
 
 -- the place of node k. None if it has no parent
-abbrev pub place_in : Nodes → ℕ → Option Place
-place_in nodes k = joined_place (parent_in (nodes k)) (side_in nodes k)
+abbrev pub place_below_parent : Nodes → ℕ → Option Place
+place_below_parent nodes k = joined_place (parent_in (nodes k)) (side_in nodes k)
 
 module _ {A : Type 0} (nodes : Nodes) (at_root : ℕ → A) (step : Place → A → A) where
   abbrev pub climbed : (ℕ → A) → ℕ → Option Place → A
@@ -32,7 +32,7 @@ module _ {A : Type 0} (nodes : Nodes) (at_root : ℕ → A) (step : Place → A 
   -- makes of what comes of it from there.
   unfoldable pub climb : ℕ → ℕ → A
   climb zero k = at_root k
-  climb (suc n) k = climbed (climb n) k (place_in nodes k)
+  climb (suc n) k = climbed (climb n) k (place_below_parent nodes k)
 
 abbrev pub if_left : Side → Option NodeId → Option NodeId
 if_left side.Left root = root

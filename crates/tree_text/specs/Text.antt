@@ -13,7 +13,7 @@ use Rattle.cow_arena.specs.Nodes.{Nodes, node_above}
 use Rattle.cow_arena.specs.Counts.{hidden_count}
 use Rattle.cow_arena.specs.Walk.{Tree}
 use Rattle.cow_forest.specs.Store.{Forest, tree, content_of}
-use Rattle.tree_text.specs.Order.{Place, place_in, climb, all_nodes}
+use Rattle.tree_text.specs.Order.{Place, place_below_parent, climb, all_nodes}
 use Rattle.tree_text.specs.declared.lines.Form.{Form}
 use Rattle.tree_text.specs.declared.lines.Form.TheVariants as form
 use Rattle.tree_text.specs.declared.lines.TheConstants.{LEVELS}
@@ -75,7 +75,7 @@ indented nodes (Some place) = rails nodes LEVELS place.0.0 ++ branch place.1
 
 -- In a graph the name of a node stands before it, and behind it a line that leads to it from its parent.
 abbrev pub before_text : Form → Nodes → (k : ℕ) → Node → List ℕ
-before_text form.Drawing nodes k node = codes "#    " ++ indented nodes (place_in nodes k)
+before_text form.Drawing nodes k node = codes "#    " ++ indented nodes (place_below_parent nodes k)
 before_text form.Graph nodes k node = codes "\"" ++ name_text node.list.0 node.koid ++ codes "\" [label=\""
 
 abbrev pub edge_text : Node → Option Node → List ℕ

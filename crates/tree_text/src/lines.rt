@@ -4,7 +4,7 @@ ghost use Rattle.std.specs.Prelude.{◌≡◌, ℕ, ◌+◌, ◌*◌, ◌≤◌,
 ghost use Rattle.cow_arena.specs.declared.node.Node.{Node};
 ghost use Rattle.cow_arena.specs.Nodes.{Nodes, nodes_of, node_above};
 ghost use Rattle.cow_arena.specs.Forest.{IsForest};
-ghost use Rattle.tree_text.specs.Order.{place_in};
+ghost use Rattle.tree_text.specs.Order.{place_below_parent};
 ghost use Rattle.tree_text.specs.Text.{bits_text, slot_text, row_text, name_text, node_text, branch, rail, rails, indented, before_text, edge_text, head_text, tail_text, counts_text, open_text, close_text};
 
 use crate::walking::place;
@@ -24,7 +24,7 @@ pub enum Form {
     Graph,
 }
 
-/// How many levels above a node its line is indented by. Deeper ones read as these do. That loses nothing: a hidden node has two
+/// The most levels above a node by which its line is indented. Deeper ones read as these do. That loses nothing: a hidden node has two
 /// children and a VMO's node none, so the order of the lines alone says which node stands below which.
 pub const LEVELS: usize = 16;
 
@@ -174,7 +174,7 @@ fn put_indent(arena: &CowArena, at: NodeId, out: &mut [u8], end: usize) -> usize
     requires forest { IsForest (nodes_of arena.now) arena.now.lists }
     requires node { IsSome (nodes_of arena.now at.0) }
     requires room { end + 4 * LEVELS + 4 ≤ length out.old }
-    ensures written { take result out.new ≡ take end out.old ++ indented (nodes_of arena.now) (place_in (nodes_of arena.now) at.0) }
+    ensures written { take result out.new ≡ take end out.old ++ indented (nodes_of arena.now) (place_below_parent (nodes_of arena.now) at.0) }
     ensures end { result ≤ end + 4 * LEVELS + 4 }
 {
     let Some(up) = place(arena, at) else {

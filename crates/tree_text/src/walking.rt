@@ -3,7 +3,7 @@
 ghost use Rattle.std.specs.Prelude.{◌≡◌, ◌∷◌, ◌<◌, length, IsSome, IfSome, None};
 ghost use Rattle.cow_arena.specs.Nodes.{nodes_of};
 ghost use Rattle.cow_arena.specs.Forest.{IsForest};
-ghost use Rattle.tree_text.specs.Order.{place_in, root_from, root_of};
+ghost use Rattle.tree_text.specs.Order.{place_below_parent, root_from, root_of};
 ghost use Rattle.tree_text.specs.inside.Walking.{nodes_after, nodes_ahead, ahead_from};
 
 use cow_arena::{CowArena, NodeId, Side};
@@ -14,7 +14,7 @@ use vm_base::Koid;
 pub(crate) fn place(arena: &CowArena, at: NodeId) -> Option<(NodeId, Side)>
     requires forest { IsForest (nodes_of arena.now) arena.now.lists }
     requires node { IsSome (nodes_of arena.now at.0) }
-    ensures place { result ≡ place_in (nodes_of arena.now) at.0 }
+    ensures place { result ≡ place_below_parent (nodes_of arena.now) at.0 }
     ensures there { IfSome result (λ place. IsSome (nodes_of arena.now place.0.0)) }
 {
     let parent = arena.node(at).parent?;
@@ -27,7 +27,7 @@ pub(crate) fn place(arena: &CowArena, at: NodeId) -> Option<(NodeId, Side)>
 pub(crate) fn first_root(forest: &CowForest, v: Koid) -> Option<NodeId>
     ensures root { result ≡ root_of forest.now v.0 }
     ensures there { IfSome result (λ root. IsSome (nodes_of forest.now.arena root.0)) }
-    ensures top { IfSome result (λ root. place_in (nodes_of forest.now.arena) root.0 ≡ None) }
+    ensures top { IfSome result (λ root. place_below_parent (nodes_of forest.now.arena) root.0 ≡ None) }
 {
     let leaf = forest.node_of(v)?;
     root_above(forest.arena(), leaf)
@@ -39,7 +39,7 @@ fn root_above(arena: &CowArena, leaf: NodeId) -> Option<NodeId>
     requires node { IsSome (nodes_of arena.now leaf.0) }
     ensures root { result ≡ root_from (nodes_of arena.now) arena.now.lists leaf.0 }
     ensures there { IfSome result (λ root. IsSome (nodes_of arena.now root.0)) }
-    ensures top { IfSome result (λ root. place_in (nodes_of arena.now) root.0 ≡ None) }
+    ensures top { IfSome result (λ root. place_below_parent (nodes_of arena.now) root.0 ≡ None) }
 {
     let mut at = leaf;
     while let Some(up) = place(arena, at) {

@@ -8,7 +8,7 @@ ghost use Rattle.cow_arena.specs.Nodes.{nodes_of, link_to};
 ghost use Rattle.cow_arena.specs.Forest.{IsForest};
 ghost use Rattle.cow_split.specs.Trees.{tree_of};
 ghost use Rattle.cow_forest.specs.Store.{tree};
-ghost use Rattle.tree_text.specs.Order.{place_in, nodes_below, tree_nodes, all_nodes};
+ghost use Rattle.tree_text.specs.Order.{place_below_parent, nodes_below, tree_nodes, all_nodes};
 ghost use Rattle.tree_text.specs.Text.{row_text, rows_text, text_of_node, lines_text, forest_text};
 
 use crate::lines::{
@@ -77,7 +77,7 @@ fn write_nodes<K: Sink>(
 ) -> Result<(), Failed>
     requires forest { IsForest (nodes_of arena.now) arena.now.lists }
     requires node { IsSome (nodes_of arena.now root.0) }
-    requires top { place_in (nodes_of arena.now) root.0 ≡ None }
+    requires top { place_below_parent (nodes_of arena.now) root.0 ≡ None }
     ensures text { SinkTakes result (K.contents sink.old) (K.contents sink.new)
         (lines_text form (tree_of arena.now lists.now) (nodes_below (nodes_of arena.now) arena.now.lists (link_to root.0))) }
     ensures cause { HasCause (K.faults sink.old) (K.faults sink.new) result }

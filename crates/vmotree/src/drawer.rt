@@ -64,7 +64,7 @@ impl<const REPLIES: bool, const EACH: bool, const GRAPH: bool> Interpreter<CowFo
     ghost long = { GivesDrawing-long REPLIES EACH (form_of GRAPH) };
 }
 
-/// What is written of a command.
+/// The parts that are written of a command.
 #[derive(Clone, Copy)]
 pub(crate) struct Drawn {
     /// Its reply.
@@ -82,7 +82,7 @@ fn form_of(graph: bool) -> Form
     if graph { Form::Graph } else { Form::Drawing }
 }
 
-/// What a line of a script is.
+/// The kind of a line of a script.
 #[derive(Clone, Copy)]
 pub(crate) enum Kind {
     /// A comment, or a line without a word.

@@ -15,14 +15,14 @@ pub enum Wanted {
     Flag,
     /// The number of page frames.
     Frames,
-    /// When the tree is drawn.
+    /// `end` or `each`, the time at which the tree is drawn.
     When,
 }
 
-/// What the words ask for.
+/// The request that the words make.
 #[derive(Clone, Copy)]
 pub struct Request {
-    /// How many page frames the machine has.
+    /// The number of page frames of the machine.
     pub frames: u32,
     /// The form of the text of the tree.
     pub form: Form,
@@ -30,13 +30,12 @@ pub struct Request {
     pub each: bool,
     /// The replies are written too.
     pub replies: bool,
-    /// What the word behind those that were read is to say.
+    /// The meaning of the word behind those that were read.
     pub wanted: Wanted,
 }
 
 /// Returns what the words ask for. `--frames N`, `--text` or `--dot`, `--at end` or `--at each`, and `--replies` may stand in
-/// any order. The
-/// last of a kind counts. `None` for any other words.
+/// any order. The last of a kind counts. `None` for any other words.
 pub(crate) fn request_in(words: &[String]) -> Option<Request>
     ensures request { result ≡ request_in words.now }
     ensures range { IfSome result (λ r. 1 ≤ r.frames × r.frames ≤ FRAMES) }

@@ -3,7 +3,7 @@ use Rattle.script_io.specs.declared.status.Status.TheVariants.{Done, ReadFault, 
 use Rattle.served.proofs.Served.{Completes-end, StopsReading-there, ReachesLimit-there}
 use Rattle.served.proofs.Answered.{other_status}
 use Rattle.vm_base.specs.declared.limits.TheConstants.{SCRIPT_BYTES}
-use Rattle.transcript.specs.Reports.{gathering, IsChecked}
+use Rattle.transcript.specs.Reports.{collecting, IsChecked}
 use Rattle.std.proofs.Common.{Some, []}
 use Rattle.transcript.proofs.ReportLaws.{fetched_line, fetched_long, way_more, way_read, ready_more, ready_read, falls_more, falls_read, lack_no_end, lack_no_fault, none_not_some, lines_few, few_lines, count_few, way_lines}
 use Rattle.transcript.proofs.checking.read_next.Goals as goal
@@ -13,7 +13,7 @@ returns-in-End g c = record {
   way = λ frames source_old w.
       let s = w.served in
       let f = c.in-End.ensures.fetches s.pending s.still in
-      Completes-end gathering 0 SCRIPT_BYTES c.args.lines.now c.next.new.self source_old _ _ (Some []) (Some []) w.lines s
+      Completes-end collecting 0 SCRIPT_BYTES c.args.lines.now c.next.new.self source_old _ _ (Some []) (Some []) w.lines s
       (IsChecked frames c.args.check.now) (way_lines frames _ source_old _ c.args.check.now w)
       f.part f.consumes f.taken c.in-End.ensures.limit (f.still.at_end f.fetched.2) f.fetched.0;
   ready = tt;
@@ -32,7 +32,7 @@ returns-in-Fault g c = record {
   way = λ frames source_old w.
       let s = w.served in
       let f = c.in-Fault.ensures.fetches s.pending s.still in
-      StopsReading-there gathering 0 SCRIPT_BYTES c.args.lines.now c.next.new.self source_old _ _ (Some []) (Some []) w.lines s
+      StopsReading-there collecting 0 SCRIPT_BYTES c.args.lines.now c.next.new.self source_old _ _ (Some []) (Some []) w.lines s
       (λ (lines : List (List ℕ)). Unit {0}) tt f.part f.consumes f.taken c.in-Fault.ensures.limit f.fetched.1
       (λ e. (c.in-Fault.ensures.ended e).2 refl) f.fetched.3;
   ready = tt;
@@ -48,7 +48,7 @@ returns-in-Limit g c = record {
   way = λ frames source_old w.
       let s = w.served in
       let f = c.in-Limit.ensures.fetches s.pending s.still in
-      ReachesLimit-there gathering 0 SCRIPT_BYTES c.args.lines.now c.next.new.self source_old _ _ (Some []) (Some []) w.lines s
+      ReachesLimit-there collecting 0 SCRIPT_BYTES c.args.lines.now c.next.new.self source_old _ _ (Some []) (Some []) w.lines s
       (λ (lines : List (List ℕ)). Unit {0}) tt f.part f.consumes f.taken c.in-Limit.ensures.limit f.fetched.1.no_feed
       (λ e. (c.in-Limit.ensures.ended e).1) f.fetched.3;
   ready = tt;
