@@ -1,10 +1,9 @@
 -- Laws of a text that is pushed piece by piece.
-use Rattle.std.proofs.Common.{◌≡◌, ℕ, ◌+◌, ◌<◌, ◌≤◌, List, [], ◌++◌, length, Option, Result, Ok, Err, refl, sym, ap, ◌∙◌, subst, arith, append_assoc, append-nil}
-use Rattle.std.specs.Prelude.{OnErr}
+use Rattle.std.proofs.Common.{◌≡◌, ℕ, ◌≤◌, List, [], ◌++◌, Option, Result, Ok, Err, refl, sym, ap, ◌∙◌, subst, arith, append_assoc, append-nil}
 use Rattle.std.specs.Io.KnownBytes.{Appends}
 use Rattle.std.proofs.KnownBytes.{Appends-nil, Appends-trans}
 use Rattle.std.proofs.lemmas.List.{length-append}
-use Rattle.script_io.specs.Faults.{HasCause, HasFailed, IsCutOff}
+use Rattle.script_io.specs.Faults.{HasCause, IsCutOff}
 use Rattle.served.specs.Outcome.{SinkTakes}
 use Rattle.served.proofs.Beginning.{HasFailed-earlier}
 use Rattle.tree_text.specs.inside.Pushing.{IsPushed}

@@ -1,5 +1,5 @@
 -- Laws of the text of rows.
-use Rattle.std.proofs.Common.{◌≡◌, ℕ, zero, suc, ◌+◌, ◌-◌, ◌^◌, ◌<◌, ◌≤◌, List, [], ◌++◌, Option, None, Some, refl, sym, ap, ◌∙◌, subst, arith}
+use Rattle.std.proofs.Common.{◌≡◌, ℕ, zero, suc, ◌+◌, ◌-◌, ◌^◌, ◌<◌, ◌≤◌, [], ◌++◌, Option, None, Some, refl, ap, ◌∙◌, arith}
 use Rattle.balanced_tree.specs.Pairs.{IsNext}
 use Rattle.page_list.specs.declared.row.Slot.{Slot}
 use Rattle.tree_text.specs.Text.{row_text, text_of_row, rows_text}

@@ -1,5 +1,5 @@
 -- Laws of the walk over the nodes of a tree.
-use Rattle.std.proofs.Common.{◌≡◌, ℕ, zero, suc, ◌+◌, ◌<◌, ◌≤◌, List, [], ◌∷◌, ◌++◌, Option, None, Some, refl, sym, ap, ◌∙◌, subst, arith, append_assoc, append-nil}
+use Rattle.std.proofs.Common.{◌≡◌, ℕ, zero, suc, ◌+◌, ◌<◌, ◌≤◌, [], ◌∷◌, ◌++◌, Option, None, Some, refl, sym, ap, ◌∙◌, subst, arith, append_assoc, append-nil}
 use Rattle.std.specs.Prelude.{IsSome, IfSome}
 use Rattle.vm_base.specs.declared.names.Koid.{Koid}
 use Rattle.vm_base.proofs.EntryLaws.{some_same}
@@ -7,8 +7,8 @@ use Rattle.cow_arena.specs.declared.node.NodeId.{NodeId}
 use Rattle.cow_arena.specs.declared.node.Node.{Node}
 use Rattle.cow_arena.specs.declared.node.Side.{Side}
 use Rattle.cow_arena.specs.declared.node.Side.TheVariants as side
-use Rattle.cow_arena.specs.Nodes.{Nodes, link_to, child_on, IsVisible}
-use Rattle.cow_arena.specs.Forest.{IsForest, HasPair}
+use Rattle.cow_arena.specs.Nodes.{Nodes, link_to, child_on}
+use Rattle.cow_arena.specs.Forest.{IsForest}
 use Rattle.cow_arena.proofs.ReachLaws.{child-there, side-of-child, hidden-of-child}
 use Rattle.tree_text.specs.Order.{Place, place_below_parent, with_both_below, nodes_over, nodes_below, if_left, root_from}
 use Rattle.tree_text.specs.inside.Walking.{right_in, after_child, nodes_after, nodes_ahead, ahead_from}

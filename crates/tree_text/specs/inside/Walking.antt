@@ -5,7 +5,7 @@ use Rattle.cow_arena.specs.declared.node.Node.{Node}
 use Rattle.cow_arena.specs.declared.node.Side.{Side}
 use Rattle.cow_arena.specs.declared.node.Side.TheVariants as side
 use Rattle.cow_arena.specs.Nodes.{Nodes, link_to}
-use Rattle.tree_text.specs.Order.{Place, climb, nodes_below}
+use Rattle.tree_text.specs.Order.{climb, nodes_below}
 
 abbrev pub right_in : Option Node → Option NodeId
 right_in None = None

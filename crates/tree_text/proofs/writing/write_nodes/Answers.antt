@@ -1,5 +1,4 @@
 use Rattle.std.proofs.Common.{ap, ◌∙◌, arith}
-use Rattle.cow_arena.specs.Nodes.{nodes_of}
 use Rattle.cow_split.specs.Trees.{tree_of}
 use Rattle.tree_text.specs.Text.{lines_text}
 use Rattle.tree_text.specs.inside.Walking.{ahead_from}

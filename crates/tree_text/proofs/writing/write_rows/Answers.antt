@@ -1,4 +1,4 @@
-use Rattle.std.proofs.Common.{◌+◌, refl, sym, ◌∙◌, arith}
+use Rattle.std.proofs.Common.{◌+◌, refl, sym, arith}
 use Rattle.tree_text.proofs.RowLaws.{rows-next, rows-last, rows-end}
 use Rattle.tree_text.proofs.PushLaws.{pushed-more, pushed-cut, pushed-all}
 use Rattle.tree_text.proofs.writing.write_rows.Goals as goal
