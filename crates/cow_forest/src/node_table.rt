@@ -208,7 +208,6 @@ fn take_out(displaced: &mut HashMap<u64, NodeId>, number: u64)
 
 /// Returns the node of a number, by a look-up in the map. `None` if it is not there.
 #[inline(never)]
-#[tactic(auto, unfolding(crate::specs::Tables::displaced_in))]
 fn find(displaced: &HashMap<u64, NodeId>, number: u64) -> Option<NodeId>
     ensures { displaced_in displaced.now.entries number ≡ result }
 {
