@@ -2,7 +2,7 @@
 //!
 //! `HeldVm` is a machine with its store. `answer` answers one line of a script and writes the reply to the bytes of its caller, who
 //! needs neither a source nor a sink. What a line does is `VmInterpreter` of `vm_session`, the same code that `serve` and `run` call
-//! for each line. No crate of this repository calls it: it is for a program in Rattle that compares a model of its own line by line.
+//! for each line. `vmosim_c` offers it to programs in C, and a program in Rattle may compare a model of its own with it line by line.
 #![tactic(auto)]
 
 mod held;
