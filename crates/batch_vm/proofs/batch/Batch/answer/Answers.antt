@@ -1,3 +1,5 @@
+use Rattle.std.proofs.Common.{inl, refl}
+use Rattle.vm_model.specs.Machine.Lent.{reply_for}
 use Rattle.vm_core.specs.Vm.{machine_of}
 use Rattle.vm_core.proofs.AgreeLaws.{agrees_good}
 use Rattle.batch_model.specs.Batch.{AreGoodJobs}
@@ -38,3 +40,15 @@ invariant_of-self-in-Drop g c = record { good = dropped g c }
 
 pub returns-in-Drop-clause-good : goal.returns-in-Drop-clause-good
 returns-in-Drop-clause-good g c = record { machine = agrees_good _ _ (rw (← c.self.view_is) at c.requires.agrees); jobs = dropped g c }
+
+-- ---- the step of each kind of command: its parts are those of the whole
+
+pub returns-in-Plain-clause-step : goal.returns-in-Plain-clause-step
+returns-in-Plain-clause-step g c =
+    rw (← c.self.view_is, c.in-Plain.is) (record { outcome = inl (record { answer = reply_for c.answer.result; step = c.answer.ensures.step; is = refl; jobs = refl }) })
+
+pub returns-in-Begin-clause-step : goal.returns-in-Begin-clause-step
+returns-in-Begin-clause-step g c = rw (← c.self.view_is, c.in-Begin.is) c.begin.ensures.step
+
+pub returns-in-Step-clause-step : goal.returns-in-Step-clause-step
+returns-in-Step-clause-step g c = rw (← c.self.view_is, c.in-Step.is) c.do_piece.ensures.step
