@@ -1,5 +1,5 @@
-"""A page with a slider over the lines of a script: the picture behind each, its reply, and the frames over time. One file, which
-fetches nothing."""
+"""A page with a slider over the lines of a script: the picture behind each, its reply, the frames over time, and the clone tree if
+`vmotree` is built. One file, which fetches nothing."""
 import json
 import os
 import pathlib
@@ -9,6 +9,7 @@ from .cells import DEFINED
 from .drawing import legend_of, rows_of
 from .rows import WIDTH
 from .texts import Ranks, change_words
+from .trees import has_tree, trees_of
 from .turns import Trouble, cut, visible
 
 TEMPLATE = pathlib.Path(__file__).with_name("page.html")
@@ -43,15 +44,33 @@ def record_of(turn, state, ranks):
             "used": turn.used, "state": state}
 
 
+def add_trees(records, turns, asked):
+    """Adds to what the page has of each turn which clone tree is behind it, and returns the trees, each once. There are none without
+    vmotree."""
+    drawn = trees_of([it.line for it in turns], asked)
+    if drawn is None:
+        return []
+    wanted = sum(map(has_tree, turns))
+    if len(drawn) != wanted:
+        raise Trouble(1, f"vmotree draws {len(drawn)} trees behind {wanted} commands")
+    trees, following, last = {}, iter(drawn), None
+    for record, turn in zip(records, turns):
+        if has_tree(turn):
+            last = trees.setdefault(next(following), len(trees))
+        record["tree"] = last
+    return [*trees]
+
+
 def page(turns, asked):
     """Yields the page of a script."""
-    rows, ranks, lines, machine = Rows(), Ranks(asked.word), [], None
+    rows, ranks, lines, shown, machine = Rows(), Ranks(asked.word), [], [], None
     for turn, machine in turns:
         if len(lines) == MOST_LINES:
             raise Trouble(2, f"the script has more than {MOST_LINES} lines, which is the most of a page; --at {MOST_LINES} shows these")
         lines.append(record_of(turn, rows.state_of(turn, machine), ranks))
+        shown.append(turn)
     data = {"lines": lines, "rows": [*rows.rows], "states": [*rows.states], "frames": machine.frames, "width": WIDTH,
-            "defined": DEFINED, "legend": legend_of(machine)}
+            "defined": DEFINED, "legend": legend_of(machine), "trees": add_trees(lines, shown, asked)}
     title = f"{os.path.basename(asked.file) if asked.file else 'A script'}, line by line"
     # No text of the script may end the element that the data stands in.
     text = json.dumps(data, separators=(",", ":")).replace("<", "\\u003c")
