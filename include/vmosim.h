@@ -5,8 +5,8 @@
  *
  * What is proved of the library, whatever bytes it is given: it touches no other memory, never aborts, and each call ends. What a line
  * or a script is answered is what the plain machine answers, the same definition as in the theorem of `vmosim run`. A machine that is
- * opened is empty, no call but those below changes it, and one that is closed has given its memory back. The clauses stand in
- * crates/vmosim_c/src/exports.rt.
+ * opened is empty, and no call but those below changes it. The clauses stand in crates/vmosim_c/src/exports.rt. No clause says that
+ * closing gives memory back: the types let no machine be lost, and valgrind finds no byte that is.
  *
  * What is not proved is up to the caller:
  * - A struct vmosim is all zeros, or as the last call on it left it. It may be moved, but of two copies only one is used from then on.
