@@ -53,7 +53,7 @@ module _ (c : Content) (v from end : ℕ) where
   held_in-end none =
       let long : end - from ≡ (end - from) + 0 = omega arith in
       ap {B = ℕ} (λ (n : ℕ). held_in c v from n) long
-      ∙ held_in-skip c v from (end - from) 0 (λ q low high. none.none q low (omega arith))
+      ∙ held_in-skip c v from (end - from) 0 (λ q low high. none q low (omega arith))
 
 -- ---- pages that become zero
 
@@ -65,7 +65,7 @@ zeroed-after c d v first end p next made = ap (λ (s : Content). zeroed s v firs
 
 -- none is left
 pub zeroed-done : (c : Content) (v first end : ℕ) → HasNoneBelow c v first end → c ≡ zeroed c v first end
-zeroed-done c v first end none = sym (zeroed-none c v first end none.none)
+zeroed-done c v first end none = sym (zeroed-none c v first end none)
 
 -- ---- pages that a snapshot shows
 
@@ -98,7 +98,7 @@ module _ (c : Content) (of first n : ℕ) (good : IsGood c) where
     }
 
     none-seen : HasNoneBelow d of from end → HasNoneBelow c of from end
-    none-seen none = record { none = λ q l h. sym (page-seen q) ∙ none.none q l h }
+    none-seen none = λ q l h. sym (page-seen q) ∙ none q l h
 
     snapshot-zero : (p : ℕ) → from ≤ p → d.page c.next (p - first) ≡ None
     snapshot-zero p low = ap (λ (s : Content). s.page c.next (p - first)) is
@@ -125,7 +125,7 @@ module _ (c : Content) (of first n : ℕ) (good : IsGood c) where
     snapshot-end : from ≤ end → HasNoneBelow d of from end → d ≡ snapshotted c of first (end - first) n
     unfolding snapshotted page_seen
     snapshot-end high none = is ∙ same_content _ _ refl refl (λ w. refl) (λ w x.
-        let gap : from ≤ first + x → first + x < end → c.page of (first + x) ≡ None = λ l h. sym (page-seen (first + x)) ∙ none.none (first + x) l h in
+        let gap : from ≤ first + x → first + x < end → c.page of (first + x) ≡ None = λ l h. sym (page-seen (first + x)) ∙ none (first + x) l h in
         grind (arith, nat_tests))
 
 -- ---- a snapshot that is made

@@ -10,8 +10,8 @@ pub record IsNextBelow (c : Content) (v from end p : ℕ) : Type 0 where
   pub gap : (q : ℕ) → from ≤ q → q < p → c.page v q ≡ None
 
 -- no page of v from `from` to below `end` is held
-pub record HasNoneBelow (c : Content) (v from end : ℕ) : Type 0 where
-  pub none : (q : ℕ) → from ≤ q → q < end → c.page v q ≡ None
+abbrev pub HasNoneBelow : Content → (v from end : ℕ) → Type 0
+HasNoneBelow c v from end = (q : ℕ) → from ≤ q → q < end → c.page v q ≡ None
 
 -- how many of the n pages of v from one on are held
 unfoldable pub held_in : Content → (v from n : ℕ) → ℕ
