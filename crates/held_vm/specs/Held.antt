@@ -3,35 +3,45 @@ use Rattle.std.specs.Prelude.{◌≡◌, ℕ, ◌<◌, ◌≤◌, List, ◌++◌
 use Rattle.vm_model.specs.Contents.Content.{Content}
 use Rattle.vm_model.specs.Machine.Machine.{Machine}
 use Rattle.vm_core.specs.Vm.{Parts, machine_of}
-use Rattle.vm_session.specs.Plain.{GivesText}
+use Rattle.served.specs.Answering.{Answering}
 use Rattle.held_vm.specs.declared.held.AnswerError.{AnswerError}
 use Rattle.held_vm.specs.declared.held.AnswerError.TheVariants.{OutOfRoom, OutOfMemory, OutOfKoids}
 
--- the machine's parts, its store, and the length of the longest reply for which there is memory
-pub record Held (S : Type 0) : Type 0 where
-  pub vm : Parts
+-- the interpreter of a machine, its store, and the length of the longest reply for which there is memory
+pub record Held (S I : Type 0) : Type 0 where
+  pub interpreter : I
   pub store : S
   pub room : ℕ
 
--- the machine that the parts and the store stand for
-abbrev pub machine_in : {S : Type 0} → (S → Content) → Held S → Machine
-machine_in content h = machine_of (content h.store) h.vm
+-- the state that an interpreter and its store stand for
+abbrev pub state_held : {S I T : Type 0} → (S → Content) → (I → Content → T) → Held S I → T
+state_held content state h = state h.interpreter (content h.store)
+
+-- the machine of one that answers as `run` does
+abbrev pub machine_in : {S : Type 0} → (S → Content) → Held S Parts → Machine
+machine_in content h = machine_of (content h.store) h.interpreter
+
+-- an interpreter and its store stand together for a good state
+pub record StandTogether {S I T : Type 0} (Agrees : I → Content → Type 0) (IsGood : T → Type 0) (content : S → Content) (state : I → Content → T)
+    (h : Held S I) : Type 0 where
+  pub agrees : Agrees h.interpreter (content h.store)
+  pub good : IsGood (state_held content state h)
 
 -- the line was answered from old to new, and the text of the replies stands at the front of the bytes, which else stay
-pub record FitsIn (n : ℕ) (line : List ℕ) (old new : Machine) (before after : List ℕ) : Type 0 where
+pub record FitsIn {T : Type 0} (m : Answering T) (n : ℕ) (line : List ℕ) (old new : T) (before after : List ℕ) : Type 0 where
   pub bound : n ≤ length after
-  pub gives : GivesText line old (take n after) new
+  pub gives : m.Gives line old (take n after) new
   pub kept : drop n after ≡ drop n before
 
 -- the line was answered from old to new, and the bytes are the front of a longer text
-pub record IsLonger (line : List ℕ) (old new : Machine) (after : List ℕ) : Type 0 where
+pub record IsLonger {T : Type 0} (m : Answering T) (line : List ℕ) (old new : T) (after : List ℕ) : Type 0 where
   pub rest : List ℕ
   pub left : 0 < length rest
-  pub gives : GivesText line old (after ++ rest) new
+  pub gives : m.Gives line old (after ++ rest) new
 
--- what an answer says of the machine before and after, and of the caller's bytes before and after
-abbrev pub Answers : Result ℕ AnswerError → List ℕ → Machine → Machine → List ℕ → List ℕ → Type 0
-Answers (Ok n) line old new before after = FitsIn n line old new before after
-Answers (Err OutOfRoom) line old new before after = IsLonger line old new after × (length after ≡ length before)
-Answers (Err OutOfMemory) line old new before after = (new ≡ old) × (after ≡ before)
-Answers (Err OutOfKoids) line old new before after = (new ≡ old) × (after ≡ before)
+-- what an answer says of the state before and after, and of the caller's bytes before and after
+abbrev pub Answers : {T : Type 0} → Answering T → Result ℕ AnswerError → List ℕ → T → T → List ℕ → List ℕ → Type 0
+Answers m (Ok n) line old new before after = FitsIn m n line old new before after
+Answers m (Err OutOfRoom) line old new before after = IsLonger m line old new after × (length after ≡ length before)
+Answers m (Err OutOfMemory) line old new before after = (new ≡ old) × (after ≡ before)
+Answers m (Err OutOfKoids) line old new before after = (new ≡ old) × (after ≡ before)

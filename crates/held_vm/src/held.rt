@@ -3,8 +3,8 @@
 ghost use Rattle.std.specs.Prelude.{◌≡◌, ◌<◌, ◌≤◌, length, IfOk, Err};
 ghost use Rattle.vm_base.specs.declared.limits.TheConstants.{FRAMES, KOIDS};
 ghost use Rattle.vm_model.specs.Contents.Content.{nothing};
-ghost use Rattle.vm_model.specs.Machine.Machine.{empty_machine, IsGoodMachine};
-ghost use Rattle.held_vm.specs.Held.{machine_in, Answers};
+ghost use Rattle.vm_model.specs.Machine.Machine.{empty_machine};
+ghost use Rattle.held_vm.specs.Held.{machine_in, state_held, Answers};
 
 use page_store::PageStore;
 use script_io::BoundedSink;
@@ -25,25 +25,25 @@ pub enum AnswerError {
     OutOfKoids,
 }
 
-/// A machine with its store of pages, held between lines. Clauses see the parts of the machine, the store, and the length of the
-/// longest reply for which there is memory.
+/// An interpreter of lines with its store of pages, held between lines: the machine of `run` where no other is named. Clauses see the
+/// interpreter, the store, and the length of the longest reply for which there is memory.
 #[derive(Drop)]
-pub struct HeldVm<P: PageStore> {
-    interpreter: VmInterpreter,
+pub struct HeldVm<P: PageStore, I: Interpreter<P> = VmInterpreter> {
+    interpreter: I,
     store: P,
     /// The reply to the last line.
     reply: BoundedSink,
 }
 
-impl<P: PageStore> Model for HeldVm<P> {
-    ghost use Rattle.held_vm.specs.Held.{Held};
-    ghost use Rattle.vm_core.specs.Vm.{Agrees};
+impl<P: PageStore, I: Interpreter<P>> Model for HeldVm<P, I> {
+    ghost use Rattle.held_vm.specs.Held.{Held, StandTogether};
 
-    ghost Value = { Held P };
+    ghost Value = { Held P I };
 
-    ghost view = { λ h. record { vm = h.interpreter; store = h.store; room = h.reply.room } };
+    ghost view = { λ h. record { interpreter = h.interpreter; store = h.store; room = h.reply.room } };
 
-    ghost invariant = { λ h. Agrees (P.content h.store) h.interpreter };
+    ghost invariant = { λ h. StandTogether I.Agrees I.rules.IsGood P.content I.state
+        (record { interpreter = h.interpreter; store = h.store; room = h.reply.room }) };
 }
 
 impl<P: PageStore> HeldVm<P> {
@@ -54,10 +54,30 @@ impl<P: PageStore> HeldVm<P> {
         requires empty { P.content store ≡ nothing }
         ensures machine { IfOk result (λ h. machine_in P.content h ≡ empty_machine frames) }
     {
+        HeldVm::hold(alloc, frames, store, VmInterpreter::new(alloc))
+    }
+}
+
+impl<P: PageStore, I: Interpreter<P>> HeldVm<P, I> {
+    /// Holds an interpreter, over a store that has nothing and gets `frames` page frames, from 1 to `FRAMES`. Over a store with nothing
+    /// but frames the interpreter stands for its first state, which is good. `HostMemory` if the host has too little memory for them.
+    pub fn hold(
+        alloc: Global,
+        frames: u32,
+        store: P,
+        interpreter: I,
+    ) -> Result<HeldVm<P, I>, HostMemory>
+        requires frames { 1 ≤ frames × frames ≤ FRAMES }
+        requires empty { P.content store ≡ nothing }
+        requires agrees { I.Agrees interpreter (record nothing { frames = frames }) }
+        requires start { I.state interpreter (record nothing { frames = frames }) ≡ I.rules.start frames }
+        requires good { I.rules.IsGood (I.rules.start frames) }
+        ensures first { IfOk result (λ h. state_held P.content I.state h ≡ I.rules.start frames) }
+    {
         let mut store = store;
         store.fill(frames)?;
         Ok(HeldVm {
-            interpreter: VmInterpreter::new(alloc),
+            interpreter,
             store,
             reply: BoundedSink::new(alloc),
         })
@@ -69,9 +89,9 @@ impl<P: PageStore> HeldVm<P> {
     /// `OutOfMemory` if the host has too little memory, which it is asked for only if `out` is longer than it was at every line
     /// before. `OutOfKoids` if `KOIDS` koids were given. Nothing was done in these two cases, and `out` is as it was.
     pub fn answer(&mut self, line: &[u8], out: &mut [u8]) -> Result<usize, AnswerError>
-        ensures answers { Answers result line.now (machine_in P.content self.old) (machine_in P.content self.new)
-            out.old out.new }
-        ensures good { IsGoodMachine (machine_in P.content self.new) }
+        ensures answers { Answers I.rules result line.now (state_held P.content I.state self.old)
+            (state_held P.content I.state self.new) out.old out.new }
+        ensures good { I.rules.IsGood (state_held P.content I.state self.new) }
         ensures memory { result ≡ Err AnswerError.OutOfMemory → self.old.room < length out.old }
         ensures koids { result ≡ Err AnswerError.OutOfKoids → KOIDS ≤ (P.content self.old.store).next }
     {

@@ -3,9 +3,8 @@
 ghost use Rattle.std.specs.Prelude.{◌≡◌};
 ghost use Rattle.vmosim_c.specs.Calls.{line_told, script_told, refusal_told};
 
-use crate::opening::OpenError;
-use crate::script::ScriptError;
 use held_vm::AnswerError;
+use kept_vm::{OpenError, ScriptError};
 
 /// The call did what it was asked.
 pub const DONE: u8 = 0;
@@ -45,21 +44,25 @@ pub struct Answered {
     pub status: u8,
 }
 
-/// Tells what became of a line.
-pub(crate) fn tell_line(answer: Result<usize, AnswerError>) -> Answered
+/// Tells what became of a line. A closed machine gave no answer.
+pub(crate) fn tell_line(answer: Option<Result<usize, AnswerError>>) -> Answered
     ensures { result ≡ line_told answer }
 {
     match answer {
-        Ok(len) => Answered { len, status: DONE },
-        Err(AnswerError::OutOfRoom) => Answered {
+        None => Answered {
+            len: 0,
+            status: CLOSED,
+        },
+        Some(Ok(len)) => Answered { len, status: DONE },
+        Some(Err(AnswerError::OutOfRoom)) => Answered {
             len: 0,
             status: OUT_OF_ROOM,
         },
-        Err(AnswerError::OutOfMemory) => Answered {
+        Some(Err(AnswerError::OutOfMemory)) => Answered {
             len: 0,
             status: OUT_OF_MEMORY,
         },
-        Err(AnswerError::OutOfKoids) => Answered {
+        Some(Err(AnswerError::OutOfKoids)) => Answered {
             len: 0,
             status: OUT_OF_KOIDS,
         },

@@ -3,10 +3,8 @@
 ghost use Rattle.std.specs.Prelude.{◌≡◌, None};
 ghost use Rattle.vmosim_c.specs.Calls.{OpenSays, LineSays, ScriptSays};
 
-use crate::answered::{Answered, CLOSED, DONE, tell_line, tell_refusal, tell_script};
-use crate::kept::Vmosim;
-use crate::opening::opened;
-use crate::script::answer_script;
+use crate::answered::{Answered, DONE, tell_line, tell_refusal, tell_script};
+use kept_vm::{Vmosim, answer_script};
 use std::alloc::Global;
 
 /// Opens a machine with `frames` page frames and nothing else, and closes the one that was there.
@@ -17,12 +15,8 @@ use std::alloc::Global;
 pub extern "C" fn vmosim_open(alloc: Global, machine: &mut Vmosim, frames: u32) -> u8
     ensures { OpenSays result frames machine.new.handle.value }
 {
-    drop(machine.take(alloc));
-    match opened(alloc, frames) {
-        Ok(made) => {
-            machine.put(made);
-            DONE
-        }
+    match machine.start(alloc, frames) {
+        Ok(()) => DONE,
         Err(refusal) => tell_refusal(refusal),
     }
 }
@@ -41,15 +35,7 @@ pub extern "C" fn vmosim_line(
 ) -> Answered
     ensures { LineSays result line.now machine.old.handle.value machine.new.handle.value out.old out.new }
 {
-    let Some(mut kept) = machine.take(alloc) else {
-        return Answered {
-            len: 0,
-            status: CLOSED,
-        };
-    };
-    let answer = kept.as_mut().held.answer(line, out);
-    machine.put(kept);
-    tell_line(answer)
+    tell_line(machine.answer(alloc, line, out))
 }
 
 /// Closes the machine. A closed one stays as it is.
@@ -57,7 +43,7 @@ pub extern "C" fn vmosim_line(
 pub extern "C" fn vmosim_close(alloc: Global, machine: &mut Vmosim)
     ensures { machine.new.handle.value ≡ None }
 {
-    drop(machine.take(alloc));
+    machine.close(alloc);
 }
 
 /// Answers the lines of a script on a machine of its own with `frames` page frames, and writes the text of the replies to the front of

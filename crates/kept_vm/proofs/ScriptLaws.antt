@@ -1,6 +1,5 @@
 -- What the serving of a script over the caller's bytes says of one legal run.
-use Rattle.std.proofs.Common.{◌≡◌, ℕ, zero, suc, ◌+◌, ◌≤◌, ◌==◌, ◌⊎◌, inl, inr, Bool, true, false, cond, T, List, [], ◌∷◌, ◌++◌, length, take, drop, get_or, Option, Some, refl, sym, ap, subst, ◌∙◌, append_assoc, append-nil, take_all, take_at, drop_at, arith}
-use lib.Dec.{leb→le}
+use Rattle.std.proofs.Common.{◌≡◌, ℕ, zero, suc, ◌+◌, ◌≤◌, ◌==◌, ◌⊎◌, inl, inr, Bool, true, false, cond, List, [], ◌∷◌, ◌++◌, length, take, drop, get_or, Option, Some, refl, sym, ap, subst, ◌∙◌, append_assoc, append-nil, take_all, take_at, drop_at, arith}
 use lib.Seq.{drop-length}
 use Rattle.std.specs.Prelude.{slice_get, nat_le, ◌↔◌}
 use Rattle.std.proofs.lemmas.List.{length-append}
@@ -16,7 +15,8 @@ use Rattle.served.specs.Answering.{Run}
 use Rattle.served.specs.Outcome.{AnswersPart, BreaksOff, EndsAs}
 use Rattle.served.proofs.RunLaws.{Run-more}
 use Rattle.vm_session.specs.Plain.{plain}
-use Rattle.vmosim_c.specs.Calls.{IsRun, IsLongRun}
+use Rattle.held_vm.proofs.AnswerLaws.{full_by}
+use Rattle.kept_vm.specs.Kept.{IsRun, IsLongRun}
 
 -- ---- the lines of a script
 
@@ -83,13 +83,6 @@ module _ (legal : RunsAreLegal) (frames limit : ℕ) (script left taken : List �
         let whole : script ≡ broken.script = broken.given ∙ (ap (λ xs. broken.script ++ xs) last.1 ∙ append-nil broken.script) in
         long_part (lines_of broken.script) [] (ap lines_of whole ∙ sym (append-nil (lines_of broken.script))) last.0
   ]
-
--- a sink that has failed since it was emptied is full
-full_by : (room : ℕ) (taken : List ℕ) (faults : ℕ) (was full : Bool) → nat_le room (length taken) ≡ full
-    → HasFailed (cond was 0 0) (cond full faults 0) → room ≤ length taken
-full_by room taken faults was true is failed = leb→le room (length taken) (subst T (sym is) tt)
-full_by room taken faults true false is failed = elim failed [ inl less ↦ absurd (omega (arith, less)) | inr most ↦ absurd (omega (arith, most)) ]
-full_by room taken faults false false is failed = elim failed [ inl less ↦ absurd (omega (arith, less)) | inr most ↦ absurd (omega (arith, most)) ]
 
 -- ---- of a script that was served into a sink for as many bytes as the caller has, and whose text was copied to their front
 module _ (legal : RunsAreLegal) (frames limit : ℕ) (script source left before bytes copied : List ℕ) (old new : Bounded) (status : Status) (content : Content)

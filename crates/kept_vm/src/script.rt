@@ -1,6 +1,6 @@
 //! A whole script that is answered at once.
 
-ghost use Rattle.vmosim_c.specs.Calls.{AnswersScript};
+ghost use Rattle.kept_vm.specs.Kept.{AnswersScript};
 
 use cow_forest::CowForest;
 use script_io::{BoundedSink, SureSource};
@@ -20,7 +20,7 @@ pub enum ScriptError {
 
 /// Answers the lines of a script on a machine of its own with `frames` page frames, and writes the text of the replies to the front of
 /// `out`. Returns the length of the text in bytes.
-pub(crate) fn answer_script(
+pub fn answer_script(
     alloc: Global,
     frames: u32,
     script: &[u8],

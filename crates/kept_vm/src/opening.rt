@@ -2,17 +2,17 @@
 
 ghost use Rattle.std.specs.Prelude.{◌≡◌, MatchResult};
 ghost use Rattle.vm_model.specs.Machine.Machine.{empty_machine};
-ghost use Rattle.vmosim_c.specs.Calls.{machine_kept, IsFrameCount, IsRefusal};
+ghost use Rattle.kept_vm.specs.Kept.{machine_kept, IsFrameCount, IsRefusal};
 
 use cow_forest::CowForest;
 use held_vm::HeldVm;
 use std::alloc::Global;
 use vm_base::FRAMES;
 
-/// The machine that C keeps, over the clone tree.
+/// The machine that is kept, over the clone tree.
 #[derive(Drop)]
 pub struct KeptVm {
-    pub(crate) held: HeldVm<CowForest>,
+    pub held: HeldVm<CowForest>,
 }
 
 /// Why a machine was not opened.
@@ -36,6 +36,10 @@ pub(crate) fn opened(alloc: Global, frames: u32) -> Result<Box<KeptVm>, OpenErro
     };
     match Box::new(alloc, KeptVm { held }) {
         Ok(machine) => Ok(machine),
-        Err(_lack) => Err(OpenError::OutOfMemory),
+        Err(lack) => {
+            // By one call: at the end of the body the tables of the machine would be let go, and that proved, one by one.
+            drop(lack);
+            Err(OpenError::OutOfMemory)
+        }
     }
 }
