@@ -10,6 +10,22 @@ use Rattle.fault.specs.inside.Walks.{changed_where, is_place, HasNoPlace, IsNext
 use Rattle.fault.proofs.PairLaws.{missing}
 use Rattle.fault.proofs.PlaceLaws.{IsOnce, changed-none, changed-then, changed-rest}
 
+-- ---- the next page with translations, in a range of one page or none
+
+-- an empty range has no page
+pub no_list_empty : (places : Places) (v from end : ℕ) → end ≤ from → HasNoList places v from end
+no_list_empty places v from end le root p x found of = let low = of.order in let high = of.below in absurd (omega arith)
+
+-- a page without translations is all of its range
+pub no_list_one : (places : Places) (v from end : ℕ) → end ≤ from + 1 → HasNoList places v from (from + 1) → HasNoList places v from end
+no_list_one places v from end le none root p x found of =
+    let high = of.below in none root p x found (record { koid = of.koid; order = of.order; below = omega arith })
+
+-- a page with translations is the first of its range
+pub next_list_one : (places : Places) (v from end : ℕ) → from < end → IsNextList places v from end from
+next_list_one places v from end lt =
+    record { order = omega arith; below = lt; least = no_list_empty places v from from (omega arith) }
+
 -- ---- the pages of a VMO, one after another
 
 -- it is of a page of the VMO from `first` to below `from`, and passes

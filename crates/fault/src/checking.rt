@@ -1,6 +1,6 @@
 //! Whether an access may touch a page, and room for the translations that it makes.
 
-ghost use Rattle.std.specs.Prelude.{◌≡◌, ◌<◌, ◌≤◌, Some, MatchResult};
+ghost use Rattle.std.specs.Prelude.{◌≡◌, ◌<◌, ◌≤◌, None, Some, MatchResult};
 ghost use Rattle.mapping_set.specs.Tables.{table_of};
 ghost use Rattle.vm_model.specs.Machine.Access.{refusal_at};
 ghost use Rattle.vm_base.specs.declared.refusal.Refusal.TheVariants as Refusal;
@@ -41,6 +41,7 @@ impl Translations {
     /// `NotFound` if the page has no entry, `AccessDenied` if the entry lacks the right, `OutOfRange` if the entry
     /// shows a page past the end of the VMO. If the page has a translation, neither the mappings nor the store are
     /// asked.
+    #[inline(always)]
     #[tactic(auto, using(vm_model::proofs::ThroughLaws::check_laws), unfolding(vm_model::specs::Machine::Access::refusal_at))]
     pub(crate) fn check<P: PageStore>(
         &self,
@@ -68,23 +69,42 @@ impl Translations {
                     link: kept.link,
                 })
             }
-            None => {
-                let Some(entry) = maps.at(root, page) else {
-                    return Err(Refusal::NotFound);
-                };
-                if !entry.perm.contains(right) {
-                    return Err(Refusal::AccessDenied);
-                }
-                if entry.page >= store.count(entry.koid) {
-                    return Err(Refusal::OutOfRange);
-                }
-                Ok(TouchedPage {
-                    entry,
-                    translation: None,
-                    link: 0,
-                })
-            }
+            None => self.check_entry(store, maps, root, page, right),
         }
+    }
+
+    // Does what `check` does for a page that is not translated. The function is not inlined, so that the other pages pay
+    // nothing for it.
+    #[inline(never)]
+    #[tactic(auto, using(vm_model::proofs::ThroughLaws::check_laws), unfolding(vm_model::specs::Machine::Access::refusal_at))]
+    fn check_entry<P: PageStore>(
+        &self,
+        store: &P,
+        maps: &MappingSet,
+        root: RegionName,
+        page: PageNo,
+        right: Perm,
+    ) -> Result<TouchedPage, Refusal>
+        requires backed { AreBacked (P.content store.now) (table_of maps.now) }
+        requires absent { places_of self.now root.0 page ≡ None }
+        ensures { MatchResult result
+            (λ touched. IsTouched (P.content store.now) (table_of maps.now) (places_of self.now) right.0 root.0 page touched)
+            (λ refusal. refusal_at (P.content store.now) right.0 (table_of maps.now root.0 page) ≡ Some refusal) }
+    {
+        let Some(entry) = maps.at(root, page) else {
+            return Err(Refusal::NotFound);
+        };
+        if !entry.perm.contains(right) {
+            return Err(Refusal::AccessDenied);
+        }
+        if entry.page >= store.count(entry.koid) {
+            return Err(Refusal::OutOfRange);
+        }
+        Ok(TouchedPage {
+            entry,
+            translation: None,
+            link: 0,
+        })
     }
 
     /// Makes room for `n` translations more. `n` may be 0. `HostMemory` if the host has too little memory.

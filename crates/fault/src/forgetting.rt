@@ -23,9 +23,6 @@ impl Translations {
         ensures at { places_of self.new ≡ without (is_stale (P.content store.now) v.0 first (first + count)) (places_of self.old) }
         ensures room { room_of self.old ≤ room_of self.new }
     {
-        if self.shows_none(v, first, count) {
-            return;
-        }
         // A VMO has no more pages than fit a number.
         let _pages = store.count(v);
         let end = first + count;
@@ -59,6 +56,7 @@ impl Translations {
     // Forgets the translations of a page of a VMO, whose list this is, if they hold another frame than `frame`. Otherwise
     // answers the first link of the list, which stays. All of them hold the list's frame, so none of those that stay is
     // looked at.
+    #[inline(always)]
     fn forget_other(
         &mut self,
         v: Koid,
@@ -123,7 +121,7 @@ impl Translations {
     {
         let end = first + count;
         let mut from = first;
-        while let Some((page, list)) = self.list_below(v, from, end) {
+        while let Some((page, list)) = self.next_list(v, from, end) {
             self.change_list(v, page, list.first, change);
             from = page + 1;
         }

@@ -9,6 +9,7 @@ use page_store::PageStore;
 use vm_base::{Koid, PageNo, Tag};
 
 /// Returns the frame that a page of a VMO has. `None` if the page is zero.
+#[inline(always)]
 pub(crate) fn frame_of<P: PageStore>(store: &P, v: Koid, page: PageNo) -> Option<Tag>
     requires { page < pages_of (P.content store.now) v.0 }
     ensures { number_of result ≡ frame_at (P.content store.now) v.0 page }

@@ -72,6 +72,7 @@ impl PageMap {
     }
 
     /// Returns the number of a page of a list. `None` if it has none.
+    #[inline(always)]
     #[tactic(auto, unfolding(crate::specs::inside::Pages::links_of))]
     pub(crate) fn find(&self, list: u64, page: u64) -> Option<usize>
         ensures { result ≡ links_of self.now list page }

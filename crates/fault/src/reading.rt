@@ -153,6 +153,7 @@ impl Translations {
 
     // Reads bytes of a page, from `at` bytes into the page on, and answers how many page faults that took. There is
     // room for its translation.
+    #[inline(always)]
     fn read_page<P: PageStore>(
         &mut self,
         store: &P,
@@ -185,7 +186,9 @@ impl Translations {
     }
 }
 
-// The translation for reading of a page with this entry.
+// The translation for reading of a page with this entry. The function is not inlined, so that pages that are translated pay
+// nothing for it.
+#[inline(never)]
 fn to_read<P: PageStore>(store: &P, entry: Entry) -> Translation
     requires { entry.page < pages_of (P.content store.now) entry.koid.0 }
     ensures of_entry { IsOf (P.content store.now) entry result }

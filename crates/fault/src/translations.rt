@@ -1,6 +1,6 @@
 //! The translations: what is kept of each page, and what is found there.
 
-ghost use Rattle.std.specs.Prelude.{◌≡◌, ◌↔◌, ℕ, IsTrue, ◌+◌, ◌<◌, ◌≤◌, true, None, Some, OnOk, IsSome, IfSome, IfNone};
+ghost use Rattle.std.specs.Prelude.{◌≡◌, ◌↔◌, ℕ, IsTrue, ◌+◌, ◌<◌, ◌≤◌, None, Some, OnOk, IsSome, IfSome, IfNone};
 ghost use Rattle.std.specs.Option.{MatchOption};
 ghost use Rattle.balanced_tree.specs.Pairs.{with_pair};
 ghost use Rattle.slab.specs.Slab.{get};
@@ -65,6 +65,7 @@ impl Translations {
     }
 
     /// Returns the translation of a page of an address space, with the number of its link. `None` if it has none.
+    #[inline(always)]
     pub(crate) fn find(&self, root: RegionName, page: PageNo) -> Option<Kept>
         ensures { places_of self.now root.0 page ≡ translation_in result }
     {
@@ -268,17 +269,8 @@ impl Translations {
         }
     }
 
-    /// Returns whether none of `count` pages of a VMO from `first` on has a translation. `first + count` may pass 2^64.
-    pub(crate) fn shows_none(&self, v: Koid, first: PageNo, count: u64) -> bool
-        ensures { result ≡ true → HasNoList (places_of self.now) v.0 first (first + count) }
-    {
-        match self.lists.next(v.0, first) {
-            Some((page, _)) => page - first >= count,
-            None => true,
-        }
-    }
-
     /// Returns the list of the translations of a page of a VMO. `None` if it has none.
+    #[inline(always)]
     pub(crate) fn list_at(&self, v: Koid, page: PageNo) -> Option<FrameList>
         ensures { MatchOption result ((list_of self.now v.0 page ≡ None) × HasNoList (places_of self.now) v.0 page (page + 1))
             (λ list. (list_of self.now v.0 page ≡ Some list.first) × HasFrame (places_of self.now) v.0 page list.frame) }
@@ -292,8 +284,34 @@ impl Translations {
         }
     }
 
-    /// Returns the first page of a VMO from `from` to below `end` that has translations, and their list.
+    /// Returns the first page of a VMO from `from` to below `end` that has translations, and their list. If that is one page,
+    /// the call costs one look-up.
+    #[inline(always)]
     pub(crate) fn list_below(
+        &self,
+        v: Koid,
+        from: PageNo,
+        end: PageNo,
+    ) -> Option<(PageNo, FrameList)>
+        ensures { MatchOption result (HasNoList (places_of self.now) v.0 from end)
+            (λ found. IsNextList (places_of self.now) v.0 from end found.0
+            × (list_of self.now v.0 found.0 ≡ Some found.1.first) × HasFrame (places_of self.now) v.0 found.0 found.1.frame) }
+    {
+        if end <= from {
+            return None;
+        }
+        if end - from > 1 {
+            return self.next_list(v, from, end);
+        }
+        match self.list_at(v, from) {
+            Some(list) => Some((from, list)),
+            None => None,
+        }
+    }
+
+    /// Does what `list_below` does, by a search for the next list.
+    #[inline(always)]
+    pub(crate) fn next_list(
         &self,
         v: Koid,
         from: PageNo,

@@ -31,14 +31,6 @@ returns-clause-at g c =
     places-without (is_stale (g.P.PageStore.content c.args.store.now) c.args.v.0 c.args.first (c.args.first + c.args.count)) (places_of c.loop-page.self) (places_of c.args.self.now)
     ((pages-end dropped dropped-once c.args.v.0 c.args.first (λ k. holds_other (frame_at (g.P.PageStore.content c.args.store.now) c.args.v.0 k.entry.page) k) (places_of c.args.self.now) (places_of c.loop-page.self) c.loop-page.from (c.args.first + c.args.count) inv.changed inv.end c.in_default.ensures))
 
-pub returns-then-shows_none-clause-at : goal.returns-then-shows_none-clause-at
-returns-then-shows_none-clause-at g c =
-    places-without (is_stale (g.P.PageStore.content c.args.store.now) c.args.v.0 c.args.first (c.args.first + c.args.count)) (places_of c.args.self.now) (places_of c.args.self.now)
-    (pages-end dropped dropped-once c.args.v.0 c.args.first (λ k. holds_other (frame_at (g.P.PageStore.content c.args.store.now) c.args.v.0 k.entry.page) k)
-    (places_of c.args.self.now) (places_of c.args.self.now) c.args.first (c.args.first + c.args.count)
-    (pages-start dropped dropped-once c.args.v.0 c.args.first (λ k. holds_other (frame_at (g.P.PageStore.content c.args.store.now) c.args.v.0 k.entry.page) k) (places_of c.args.self.now))
-    (omega arith) (c.shows_none.ensures c.if-shows_none.true))
-
 pub overflow_add-end : goal.overflow_add-end
 overflow_add-end g c = omega (arith, c.requires.range, pages_of-at (g.P.PageStore.content c.args.store.now) c.args.v.0 c.count-pages.result c.count-pages.ensures)
 
