@@ -83,19 +83,10 @@ module _ {arena : Arena} {rows : Rows Row} {v p : ℕ} {node : Node} (leaf : IsL
       (record { shows = own-shown leaf its.0 own ∙ its.2; last = own-last (tree_of arena rows) (is_taken pool) v p node its.0 tag.0 exact leaf.visible own its.2 })
       (λ room. leaf-row leaf rows (Some (slot.Frame (record { 0 = tag.0 }) false false)) (own ∙ ap Some plain))
 
-  -- the row that the node's list has, if it has a frame
-  pub found-own : (tag : Tag) → tag_there (slots_of rows node.list.0 p) ≡ Some tag → HasOwned arena rows rows pool pool v p tag.0
-  found-own tag shown = there (slots_of rows node.list.0 p) refl shown
-    where
-      there : (o : Option Slot) → slots_of rows node.list.0 p ≡ o → tag_there o ≡ Some tag → HasOwned arena rows rows pool pool v p tag.0
-      there None at e = absurd (cc)
-      there (Some row) at e =
-          owned-own (holder.Own row) tag (sym (ap holder_of (walk-own (tree_of arena rows) leaf.forest v p node row leaf.visible.at at))) e
-
-  -- if it has none, the row that is found is no own one with a frame
-  pub found-bare : (found : Holder) → found ≡ holder_of (walk (tree_of arena rows) v p) → tag_there (slots_of rows node.list.0 p) ≡ None →
+  -- where the node's list has no row, the row that is found is no own one
+  pub found-bare : (found : Holder) → found ≡ holder_of (walk (tree_of arena rows) v p) → slots_of rows node.list.0 p ≡ None →
       own_frame found ≡ None
-  found-bare (holder.Own row) is none = sym (ap tag_there (own-row leaf row is)) ∙ none
+  found-bare (holder.Own row) is none = ap tag_there (sym (own-row leaf row is) ∙ none)
   found-bare (holder.Above n q side row) is none = refl
   found-bare holder.Nothing is none = refl
 

@@ -1,38 +1,27 @@
 //! Owning a page before it is written.
 
-ghost use Rattle.std.specs.Prelude.{◌≡◌, ◌≤◌, ◌⊎◌, ℕ, None, Some};
+ghost use Rattle.std.specs.Prelude.{◌≡◌, ◌≤◌, ◌⊎◌, ℕ, None, IsSomeAnd};
 ghost use Rattle.frame_pool.specs.Pool.{is_taken};
 ghost use Rattle.page_list.specs.Lists.{slots_of};
-ghost use Rattle.cow_arena.specs.declared.node.Node.{Node};
 ghost use Rattle.cow_arena.specs.Nodes.{nodes_of};
 ghost use Rattle.cow_arena.specs.Walk.{walk};
+ghost use Rattle.page_list.specs.declared.row.Slot.TheVariants as slot;
+ghost use Rattle.cow_split.specs.declared.answers.Holder.TheVariants as holder;
 ghost use Rattle.cow_split.specs.Trees.{tree_of, holder_of};
 ghost use Rattle.cow_split.specs.Sight.{IsPage};
 ghost use Rattle.cow_split.specs.Exact.{IsExact, all_in_sight};
 ghost use Rattle.cow_fork.specs.Frames.{HasSole, HasFree};
 ghost use Rattle.cow_merge.specs.Ranges.{AreLinked};
 ghost use Rattle.cow_jump.specs.Jumps.{AreJumps};
-ghost use Rattle.cow_forest.specs.Owning.{tag_there, own_frame, HasOwned};
+ghost use Rattle.cow_forest.specs.Owning.{own_frame, HasOwned};
 
 use cow_arena::{CowArena, NodeId};
 use cow_fork::fork_holder;
-use cow_jump::{JumpTable, holder_by_jumps};
+use cow_jump::{JumpTable, above_by_jumps};
 use cow_split::Holder;
 use frame_pool::{Backlink, FramePool};
-use page_list::{ListId, PageLists, Slot};
+use page_list::{PageLists, Slot};
 use vm_base::{PageNo, Tag};
-
-/// Returns the frame of the row that a list has for a page, if it has one with a frame.
-#[inline(always)]
-fn own_tag(lists: &PageLists, list: ListId, page: PageNo) -> Option<Tag>
-    ensures { result ≡ tag_there (slots_of lists.now list.0 page) }
-{
-    match lists.find(list, page) {
-        Some(Slot::Frame { tag, .. }) => Some(tag),
-        Some(Slot::Zero) => None,
-        None => None,
-    }
-}
 
 /// Gives a page of a VMO's node a frame that no other VMO shows, and answers this frame. A frame that the VMO shows
 /// alone is kept. If there is room for a row, the page has a row of its own afterwards. Otherwise a page that is sole
@@ -53,16 +42,58 @@ pub(crate) fn own_page(
     requires room { HasSole (tree_of arena.now lists.old) leaf.0 page ⊎ ((1 ≤ lists.old.spare) × HasFree frames.old) }
     ensures { HasOwned arena.now lists.old lists.new frames.old frames.new leaf.0 page result.0 }
 {
-    if let Some(tag) = own_tag(lists, arena.look(leaf).list, page) {
-        return tag;
+    if let Some(row) = lists.find(arena.look(leaf).list, page) {
+        return own_row(arena, lists, frames, leaf, page, row);
     }
-    own_further(arena, lists, frames, jumps, leaf, page)
+    own_above(arena, lists, frames, jumps, leaf, page)
 }
 
-/// Does what `own_page` does for a page that has no row of its own with a frame. The function is not inlined, so that the other pages
-/// pay nothing for it.
+/// Does what `own_page` does for a page with this row of its own.
+#[inline(always)]
+fn own_row(
+    arena: &CowArena,
+    lists: &mut PageLists,
+    frames: &mut FramePool,
+    leaf: NodeId,
+    page: PageNo,
+    row: Slot,
+) -> Tag
+    requires exact { IsExact (tree_of arena.now lists.old) all_in_sight (is_taken frames.old) }
+    requires linked { AreLinked lists.old frames.old }
+    requires page { IsPage (tree_of arena.now lists.old) leaf.0 page }
+    requires room { HasSole (tree_of arena.now lists.old) leaf.0 page ⊎ ((1 ≤ lists.old.spare) × HasFree frames.old) }
+    requires found { holder.Own row ≡ holder_of (walk (tree_of arena.now lists.old) leaf.0 page) }
+    ensures { HasOwned arena.now lists.old lists.new frames.old frames.new leaf.0 page result.0 }
+{
+    match row {
+        Slot::Frame { tag, .. } => tag,
+        Slot::Zero => own_zero(arena, lists, frames, leaf, page),
+    }
+}
+
+/// Does what `own_page` does for a page whose own row says zero. The function is not inlined, so that pages with a frame in
+/// their own row pay nothing for it.
 #[inline(never)]
-fn own_further(
+fn own_zero(
+    arena: &CowArena,
+    lists: &mut PageLists,
+    frames: &mut FramePool,
+    leaf: NodeId,
+    page: PageNo,
+) -> Tag
+    requires exact { IsExact (tree_of arena.now lists.old) all_in_sight (is_taken frames.old) }
+    requires linked { AreLinked lists.old frames.old }
+    requires page { IsPage (tree_of arena.now lists.old) leaf.0 page }
+    requires room { HasSole (tree_of arena.now lists.old) leaf.0 page ⊎ ((1 ≤ lists.old.spare) × HasFree frames.old) }
+    requires found { holder.Own slot.Zero ≡ holder_of (walk (tree_of arena.now lists.old) leaf.0 page) }
+    ensures { HasOwned arena.now lists.old lists.new frames.old frames.new leaf.0 page result.0 }
+{
+    own_found(arena, lists, frames, leaf, page, Holder::Own(Slot::Zero))
+}
+
+/// Does what `own_page` does for a page that has no row of its own. It is not inlined either.
+#[inline(never)]
+fn own_above(
     arena: &CowArena,
     lists: &mut PageLists,
     frames: &mut FramePool,
@@ -75,10 +106,10 @@ fn own_further(
     requires linked { AreLinked lists.old frames.old }
     requires page { IsPage (tree_of arena.now lists.old) leaf.0 page }
     requires room { HasSole (tree_of arena.now lists.old) leaf.0 page ⊎ ((1 ≤ lists.old.spare) × HasFree frames.old) }
-    requires bare { (node : Node) → nodes_of arena.now leaf.0 ≡ Some node → tag_there (slots_of lists.old node.list.0 page) ≡ None }
+    requires bare { IsSomeAnd (nodes_of arena.now leaf.0) (λ node. slots_of lists.old node.list.0 page ≡ None) }
     ensures { HasOwned arena.now lists.old lists.new frames.old frames.new leaf.0 page result.0 }
 {
-    let found = holder_by_jumps(arena, lists, jumps, leaf, page);
+    let found = above_by_jumps(arena, lists, jumps, leaf, page);
     own_found(arena, lists, frames, leaf, page, found)
 }
 
