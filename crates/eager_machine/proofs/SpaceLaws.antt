@@ -1,5 +1,5 @@
 -- What commands on regions do to the machine, put together from what was done to regions and mappings.
-use Rattle.std.proofs.Common.{◌≡◌, ℕ, ◌+◌, ◌*◌, ◌/◌, ◌%◌, Option, Some, refl, sym, ap, subst, ◌∙◌, arith}
+use Rattle.std.proofs.Common.{◌≡◌, ℕ, ◌+◌, ◌*◌, ◌/◌, ◌%◌, ◌&&◌, Bool, true, false, not, cond, Option, Some, refl, sym, ap, subst, ◌∙◌, arith}
 use Rattle.vm_base.specs.Pages.{rounded}
 use Rattle.vm_base.specs.declared.limits.TheConstants.{PAGE}
 use Rattle.vm_base.specs.declared.refusal.Refusal.{Refusal}
@@ -110,3 +110,11 @@ page_at told first page is e = let same = address_same e in omega (arith, is, sa
 
 pub address_of : (told rest first page : ℕ) → rest ≡ told % PAGE → rest ≡ 0 → page ≡ told / PAGE → first ≡ page → Address (first * PAGE) ≡ Address told
 address_of told rest first page off none is same = let at : first * PAGE ≡ told = omega (arith, off, none, is, same) in ap Address at
+
+-- ---- what refuses
+
+-- a row that asks for two names, of which one is open
+pub other_open : (given is_open : Bool) (refusal : Refusal) (rest answer : Option Refusal) → is_open ≡ true → answer ≡ cond (not given) (Some refusal) rest
+    → answer ≡ cond (not (given && is_open)) (Some refusal) rest
+other_open true is_open refusal rest answer on e = e ∙ ap (λ (b : Bool). cond (not b) (Some refusal) rest) (sym on)
+other_open false is_open refusal rest answer on e = e

@@ -15,11 +15,11 @@ ghost use Rattle.eager_machine.specs.inside.Reaching.{named_in};
 ghost use Rattle.eager_machine.specs.declared.groups.Group.{Group};
 
 use crate::accessing::refusal_in_memory;
-use crate::groups::{Group, group_of};
-use eager_spaces::{
+use crate::asking_spaces::{
     refusal_by_region, refusal_to_allocate, refusal_to_create_root, refusal_to_map,
     refusal_to_protect, refusal_to_unmap,
 };
+use crate::groups::{Group, group_of};
 use eager_vmos::EagerVmos;
 use mapping_set::MappingSet;
 use region_tree::Regions;

@@ -13,6 +13,7 @@ use crate::spaces::live_region;
 use eager_vmos::EagerVmos;
 use mapping_set::MappingSet;
 use ready_map::ReadyMap;
+use region_ops::{Wanted, is_map_place, map_at, piece_at};
 use region_tree::Regions;
 use vm_base::{HostMemory, MapFlags, Perm, RegionName, VmoName, in_page, page_count, page_of};
 
@@ -53,27 +54,25 @@ pub(crate) fn vmar_map(
         return Ok(None);
     }
     let first = page_of(told);
-    match eager_spaces::map(
+    let count = page_count(len);
+    let wanted = Wanted::by(flags, offset);
+    if !is_map_place(regions, maps, region, above, wanted, count, first) {
+        return Ok(None);
+    }
+    let piece = piece_at(above, region, &target, vmo_offset, len, perm, first);
+    match map_at(
         &mut vmos.pages,
         &mut vmos.vmos,
-        regions,
         maps,
-        region,
-        above,
-        offset,
-        &target,
-        vmo_offset,
-        len,
-        perm,
-        flags,
-        first,
+        above.root,
+        piece,
+        wanted.overwriting,
     ) {
-        Ok(Some(_)) => {
-            ready.drop_range(above.root, first, first + page_count(len));
+        Ok(()) => {
+            ready.drop_range(above.root, first, first + count);
             Ok(Some(()))
         }
-        Ok(None) => Ok(None),
-        Err(_) => Err(HostMemory),
+        Err(lack) => Err(lack),
     }
 }
 

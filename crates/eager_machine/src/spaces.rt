@@ -14,8 +14,9 @@ ghost use Rattle.eager_machine.specs.inside.Acting.{MayDoAll, DoesAll, AreAllKep
 use eager_vmos::EagerVmos;
 use mapping_set::MappingSet;
 use ready_map::ReadyMap;
+use region_ops::{Wanted, allocate_at, is_place};
 use region_tree::{Region, Regions};
-use vm_base::{HostMemory, MapFlags, Perm, RegionName, in_page, page_of};
+use vm_base::{HostMemory, MapFlags, Perm, RegionName, in_page, page_count, page_of};
 
 /// Returns the live region of a name.
 pub(crate) fn live_region(regions: &Regions, name: RegionName) -> Region
@@ -46,7 +47,7 @@ pub(crate) fn root_create(
         vmos.now (spaces_of (regions_of regions.new) (table_of maps.now)) rows) }
     ensures noted { AreNoted (regions_of regions.new) (places_of maps.now) }
 {
-    match eager_spaces::create_root(regions, maps, region) {
+    match region_ops::create_root(regions, maps, region) {
         Ok(()) => Ok(()),
         Err(_) => Err(HostMemory),
     }
@@ -83,21 +84,15 @@ pub(crate) fn vmar_allocate(
     if in_page(told) != 0 {
         return Ok(None);
     }
-    match eager_spaces::allocate(
-        regions,
-        maps,
-        region,
-        parent,
-        above,
-        offset,
-        len,
-        flags,
-        caps,
-        page_of(told),
-    ) {
-        Ok(Some(_)) => Ok(Some(())),
-        Ok(None) => Ok(None),
-        Err(_) => Err(HostMemory),
+    let first = page_of(told);
+    let count = page_count(len);
+    let wanted = Wanted::by(flags, offset);
+    if !is_place(regions, maps, parent, above, wanted, count, first) {
+        return Ok(None);
+    }
+    match allocate_at(regions, maps, region, parent, above, first, count, caps) {
+        Ok(()) => Ok(Some(())),
+        Err(lack) => Err(lack),
     }
 }
 

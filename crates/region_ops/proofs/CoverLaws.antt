@@ -1,22 +1,32 @@
 -- What a region finds on a range of pages, piece by piece, and what a change of permissions leaves as it is.
-use Rattle.std.proofs.Common.{◌≡◌, ◌≢◌, ℕ, ◌+◌, ◌<◌, ◌≤◌, Bool, true, false, not, ◌&&◌, ◌||◌, ◌==◌, Option, None, Some, refl, sym, ap, subst, ◌∙◌, inl, inr, arith}
+use Rattle.std.proofs.Common.{◌≡◌, ◌≢◌, ℕ, ◌+◌, ◌/◌, ◌<◌, ◌≤◌, Bool, true, false, not, ◌&&◌, ◌||◌, ◌==◌, Option, None, Some, refl, sym, ap, subst, ◌∙◌, inl, inr, arith}
 use Rattle.std.specs.Prelude.{IsSome}
 use Rattle.std.proofs.lemmas.Bool.{cases_Bool, cases_lt, not-false}
 use Rattle.vm_base.specs.Entries.{passes}
 use Rattle.vm_base.specs.Search.{count_below, sum_below}
 use Rattle.vm_base.specs.declared.flags.Perm.{Perm}
-use Rattle.vm_base.specs.declared.limits.TheConstants.{NAMES, ROOT_END}
+use Rattle.vm_base.specs.declared.limits.TheConstants.{PAGE, NAMES, ROOT_END}
+use Rattle.vm_base.specs.declared.names.RegionName.{RegionName}
+use Rattle.vm_base.specs.Pages.{rounded}
 use Rattle.vm_base.proofs.SearchLaws.{any_from_at, any_from-join, none_from, none_from_at}
 use Rattle.vm_base.proofs.EntryLaws.{passes-none, passes-some}
+use Rattle.vm_model.specs.declared.command.Command.TheVariants.{VmarProtect}
+use Rattle.vm_model.specs.declared.reply.Reply.TheVariants.{Done}
 use Rattle.vm_model.specs.declared.space.Entry.{Entry}
+use Rattle.vm_model.specs.declared.space.Region.{Region}
+use Rattle.vm_model.specs.Machine.State.{State}
+use Rattle.vm_model.specs.Machine.Refusals.{refusals, first_of}
+use Rattle.vm_model.specs.Machine.Step.{Step}
 use Rattle.vm_model.specs.Space.Rights.{has}
-use Rattle.vm_model.specs.Space.Table.{mapping_from, is_in}
+use Rattle.vm_model.specs.Space.Table.{mapping_from, with_pages, with_perm, is_in}
 use Rattle.vm_model.specs.Space.AddressSpaces.{Spaces, mapped_count}
 use Rattle.vm_model.specs.Space.Mappings.{protected, has_hole, forbids}
 use Rattle.mapping_set.specs.declared.piece.Piece.{Piece}
 use Rattle.mapping_set.specs.Tables.{IsFull, IsBareFrom, IsNextPiece}
 use Rattle.region_ops.specs.inside.Covers.{IsCovered}
 use Rattle.vm_model.proofs.MappingLaws.{shows-protected}
+use Rattle.vm_model.proofs.RegionLaws.{region_of-at}
+use Rattle.vm_model.proofs.StepLaws.{Step-done}
 
 -- ---- what a region finds, piece by piece
 
@@ -101,3 +111,13 @@ module _ (entries : ℕ → Option Entry) (region perm : ℕ) where
 pub mapped_count-protected : (spaces : Spaces) (root first end : ℕ) (perm : Perm) (v : ℕ) → mapped_count (protected spaces root first end perm) v ≡ mapped_count spaces v
 unfolding mapped_count
 mapped_count-protected spaces root first end perm v = λ i. sum_below NAMES (λ r. count_below ROOT_END (λ p. shows-protected spaces root first end perm v r p i))
+
+-- the step, if nothing refuses it
+pub protect_done : (s : State) (region : RegionName) (addr len : ℕ) (perm : Perm) (above : Region) → s.spaces.regions region.0 ≡ Some above
+    → first_of (refusals s (VmarProtect region addr len perm)) ≡ None → (table : ℕ → ℕ → Option Entry)
+    → table ≡ with_pages s.spaces.table above.root.0 (addr / PAGE) (addr / PAGE + rounded len / PAGE) (with_perm perm (s.spaces.table above.root.0))
+    → Step s (VmarProtect region addr len perm) Done (record s { spaces = record s.spaces { table = table } })
+protect_done s region addr len perm above given none table e =
+    let same = e ∙ ap (λ (r : Region). with_pages s.spaces.table r.root.0 (addr / PAGE) (addr / PAGE + rounded len / PAGE) (with_perm perm (s.spaces.table r.root.0)))
+    (sym (region_of-at s.spaces.regions region.0 above given)) in
+    Step-done s (VmarProtect region addr len perm) Done (record s { spaces = record s.spaces { table = table } }) none (refl, λ i. record s { spaces = record s.spaces { table = same i } })

@@ -1,28 +1,28 @@
 -- Laws of unmapping a range: what is mapped in it, and the step.
-use Rattle.std.proofs.Common.{◌≡◌, ℕ, ◌+◌, ◌-◌, ◌/◌, ◌<◌, ◌≤◌, Bool, true, false, cond, ◌||◌, Option, None, Some, refl, sym, ap, ◌∙◌, inl, inr, arith}
+use Rattle.std.proofs.Common.{◌≡◌, ℕ, ◌+◌, ◌-◌, ◌/◌, ◌<◌, ◌≤◌, true, false, Option, None, Some, refl, sym, ap, ◌∙◌, inl, inr, arith}
 use Rattle.std.specs.Prelude.{nat_lt, is_some}
 use Rattle.std.proofs.lemmas.Bool.{cases_Bool, both_ways, ltb-true, ltb-false}
 use Rattle.vm_base.specs.Pages.{rounded}
 use Rattle.vm_base.specs.declared.limits.TheConstants.{PAGE}
 use Rattle.vm_base.specs.declared.names.RegionName.{RegionName}
-use Rattle.vm_base.specs.declared.refusal.Refusal.TheVariants.{InvalidArgs}
+use Rattle.vm_base.specs.declared.refusal.Refusal.TheVariants.{HostMemory}
 use Rattle.vm_base.proofs.SearchLaws.{any_from_at, none_from}
 use Rattle.vm_model.specs.declared.command.Command.{Command}
 use Rattle.vm_model.specs.declared.command.Command.TheVariants.{VmarUnmap}
-use Rattle.vm_model.specs.declared.reply.Reply.TheVariants.{Done}
+use Rattle.vm_model.specs.declared.reply.Reply.TheVariants.{Done, Refused}
 use Rattle.vm_model.specs.declared.space.Entry.{Entry}
 use Rattle.vm_model.specs.declared.space.Region.{Region}
 use Rattle.vm_model.specs.Contents.Content.{Content}
-use Rattle.vm_model.specs.Space.Regions.{region_of, cuts_child, killed}
+use Rattle.vm_model.specs.Space.Regions.{region_of, killed}
 use Rattle.vm_model.specs.Space.Table.{with_pages}
 use Rattle.vm_model.specs.Space.AddressSpaces.{Spaces, is_mapped, mapped_count}
-use Rattle.vm_model.specs.Space.Mappings.{is_outside, is_mapped_in, lies_below_in, unmapped}
+use Rattle.vm_model.specs.Space.Mappings.{is_mapped_in, lies_below_in, unmapped}
 use Rattle.vm_model.specs.Machine.State.{State, is_live}
 use Rattle.vm_model.specs.Machine.Leaving.{pruned}
 use Rattle.vm_model.specs.Machine.Refusals.{refusals, first_of}
-use Rattle.vm_model.specs.Machine.Step.{Effect}
+use Rattle.vm_model.specs.Machine.Step.{Effect, Step}
 use Rattle.vm_model.proofs.RegionLaws.{region_of-at}
-use Rattle.vm_model.proofs.StepLaws.{Step-done}
+use Rattle.vm_model.proofs.StepLaws.{Step-done, Step-lacks}
 use Rattle.mapping_set.specs.declared.piece.Piece.{Piece}
 use Rattle.mapping_set.specs.Tables.{IsBare, IsBareFrom, IsNextPiece}
 use Rattle.vmo_table.specs.Table.{Table as Vmos}
@@ -98,7 +98,7 @@ Does-gone c vmos spaces command d vmos_new now gone none effect = record {
 -- ---- the step
 
 module _ (c : Content) (vmos : Vmos) (spaces : Spaces) (region : RegionName) (addr len : ℕ) (above : Region)
-    (given : spaces.regions region.0 ≡ Some above) (live : above.live ≡ true) where
+    (given : spaces.regions region.0 ≡ Some above) where
   abbrev pub first : ℕ
   first = addr / PAGE
 
@@ -108,13 +108,12 @@ module _ (c : Content) (vmos : Vmos) (spaces : Spaces) (region : RegionName) (ad
   here : region_of spaces.regions region.0 ≡ above
   here = region_of-at spaces.regions region.0 above given
 
-  rows : (s : State) → first_of (refusals (with_all s c vmos spaces) (VmarUnmap region addr len))
-      ≡ cond (is_outside above addr len count || cuts_child spaces.regions region.0 first (first + count)) (Some InvalidArgs) None
-  rows s = grind (arith, here, given, live)
-
-  module _ (right : (is_outside above addr len count || cuts_child spaces.regions region.0 first (first + count)) ≡ false) where
-    none : (s : State) → first_of (refusals (with_all s c vmos spaces) (VmarUnmap region addr len)) ≡ None
-    none s = rows s ∙ ap (λ (b : Bool). cond b (Some InvalidArgs) None) right
+  module _ (none : (s : State) → first_of (refusals (with_all s c vmos spaces) (VmarUnmap region addr len)) ≡ None) where
+    -- the host may lack memory for it if a page is mapped
+    pub unmap_lacks : is_mapped_in (spaces.table above.root.0) first (first + count) ≡ true → (s : State)
+        → Step (with_all s c vmos spaces) (VmarUnmap region addr len) (Refused HostMemory) (with_all s c vmos spaces)
+    unmap_lacks mapped s =
+        Step-lacks (with_all s c vmos spaces) (VmarUnmap region addr len) (none s) (ap (λ (r : Region). is_mapped_in (spaces.table r.root.0) first (first + count)) here ∙ mapped)
 
     -- the entries go, and then the regions
     pub unmap_done : (d : Content) (vmos_new : Vmos) (table_new : ℕ → ℕ → Option Entry) (regions_new : ℕ → Option Region)

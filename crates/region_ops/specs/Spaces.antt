@@ -1,8 +1,10 @@
 -- The address spaces of a state as the regions and the set of mappings have them, and what the calls promise in these
 -- words.
-use Rattle.std.specs.Prelude.{◌≡◌, ℕ, ◌+◌, ◌/◌, Bool, true, false, ◌&&◌, ◌==◌, if◌then◌else◌, Option, None}
-use Rattle.vm_base.specs.Entries.{passes, with_key}
+use Rattle.std.specs.Prelude.{◌≡◌, ℕ, ◌+◌, ◌/◌, Bool, true, false, ◌&&◌, ◌==◌, if◌then◌else◌, Option, None, Some}
+use Rattle.vm_base.specs.Entries.{passes}
 use Rattle.vm_base.specs.declared.limits.TheConstants.{PAGE}
+use Rattle.vm_base.specs.declared.names.RegionName.{RegionName}
+use Rattle.vm_base.specs.declared.names.VmoName.{VmoName}
 use Rattle.vm_base.specs.declared.refusal.Refusal.{Refusal}
 use Rattle.vm_base.specs.declared.refusal.Refusal.TheVariants.{AlreadyExists, NoResources}
 use Rattle.vm_model.specs.declared.command.Command.{Command}
@@ -11,11 +13,12 @@ use Rattle.vm_model.specs.declared.space.Entry.{Entry}
 use Rattle.vm_model.specs.Contents.Content.{Content}
 use Rattle.vm_model.specs.Space.AddressSpaces.{Spaces}
 use Rattle.vm_model.specs.Space.Table.{is_in}
-use Rattle.vm_model.specs.declared.space.Region.{Region}
-use Rattle.vm_model.specs.Space.Regions.{region_of, region_below}
+use Rattle.vm_model.specs.declared.names.Target.{Target}
+use Rattle.vm_model.specs.Space.Regions.{region_of}
 use Rattle.vm_model.specs.Space.Places.{is_free, has_place, limit_of}
 use Rattle.vm_model.specs.Machine.State.{State}
 use Rattle.vm_model.specs.Machine.Leaving.{pruned}
+use Rattle.vm_model.specs.Machine.Refusals.{refusals, first_of}
 use Rattle.vm_model.specs.Machine.Step.{Step}
 use Rattle.vmo_table.specs.Table.{Table as Vmos, with_vmos, CountsKeepers, IsWellCounted}
 
@@ -66,7 +69,16 @@ pub record HasNoPlace (spaces : Spaces) (name : ℕ) (fixed limited : Bool) (off
   pub full : fixed ≡ false → (refusal ≡ NoResources)
       × (has_place spaces name count (limit_of (region_of spaces.regions name) limited offset) ≡ false)
 
--- A region was allocated on a free place of another, which is `above`.
-pub record IsAllocated (spaces : Spaces) (regions_new : ℕ → Option Region) (name parent : ℕ) (above : Region) (first count caps : ℕ) : Type 0 where
-  pub free : is_free spaces parent first (first + count) ≡ true
-  pub is : regions_new ≡ with_key spaces.regions name (region_below parent above first count caps)
+-- the answer is what refuses the command where these are the address spaces, whatever else the state has
+abbrev pub IsRefusalOf : Spaces → Command → Option Refusal → Type 0
+IsRefusalOf spaces command answer = (s : State) → answer ≡ first_of (refusals (with_spaces s spaces) command)
+
+-- the same of a command that gives a name which no region has yet
+abbrev pub IsRefusalOfNew : Spaces → (RegionName → Command) → Option Refusal → Type 0
+IsRefusalOfNew spaces command answer = (name : RegionName) → spaces.regions name.0 ≡ None → IsRefusalOf spaces (command name) answer
+
+-- the same of a command by a name that stands for the target, where this is the content of the store
+abbrev pub IsRefusalBy : Content → Spaces → Target → (VmoName → Command) → Option Refusal → Type 0
+IsRefusalBy c spaces target command answer =
+    (s : State) (name : VmoName) → s.names name.0 ≡ Some target
+    → answer ≡ first_of (refusals (record s { content = c; spaces = spaces }) (command name))

@@ -1,6 +1,6 @@
 //! Mapping a part of a VMO into a region (`zx_vmar_map`).
 
-ghost use Rattle.std.specs.Prelude.{◌≡◌, ◌+◌, ◌-◌, ◌*◌, ◌/◌, ◌%◌, ◌≤◌, true, false, not, ◌&&◌, ◌||◌, nat_lt, if◌then◌else◌, None, Some, MatchResult};
+ghost use Rattle.std.specs.Prelude.{◌≡◌, ◌+◌, ◌-◌, ◌*◌, ◌/◌, ◌%◌, ◌≤◌, ◌↔◌, true, false, not, ◌&&◌, ◌||◌, nat_lt, if◌then◌else◌, None, Some, IsTrue, MatchResult};
 ghost use Rattle.vm_base.specs.Pages.{rounded};
 ghost use Rattle.vm_base.specs.declared.limits.TheConstants.{PAGE, VMO_PAGES, ROOT_END};
 ghost use Rattle.vm_base.specs.declared.names.VmoName.{VmoName};
@@ -8,7 +8,7 @@ ghost use Rattle.vm_model.specs.declared.command.Command.{Command};
 ghost use Rattle.vm_model.specs.declared.reply.Reply.{Reply};
 ghost use Rattle.vm_model.specs.declared.names.NameKind.TheVariants.{Slice};
 ghost use Rattle.vm_model.specs.Naming.Names.{is_kind};
-ghost use Rattle.vm_model.specs.Space.Rights.{has, writing};
+ghost use Rattle.vm_model.specs.Space.Rights.{has, writing, specific, overwrite, upper_limit};
 ghost use Rattle.vm_model.specs.Space.Mappings.{cap_of, entry_of, is_mismapped, IsMapPlace};
 ghost use Rattle.vm_model.specs.Space.Table.{with_pages};
 ghost use Rattle.vm_model.specs.Machine.Refusals.{first_of};
@@ -16,18 +16,20 @@ ghost use Rattle.vm_model.specs.Machine.Step.{reply_of};
 ghost use Rattle.vmo_table.specs.Table.{names_of, IsNamed};
 ghost use Rattle.mapping_set.specs.Tables.{table_of, spare_of, places_of, IsBare};
 ghost use Rattle.region_tree.specs.Tree.{regions_of, is_live_region, spaces_of, AreNoted, IsVacant};
-ghost use Rattle.region_ops.specs.Spaces.{AreWell, AreAllWell, Does, LetsGo, HasNoPlace};
+ghost use Rattle.pages.specs.Names.{IsInside};
+ghost use Rattle.region_ops.specs.Spaces.{AreWell, AreAllWell, Does, LetsGo, HasNoPlace, IsRefusalBy};
 ghost use Rattle.region_ops.specs.inside.Mapping.{map_rows, no_entries, IsPuttable, Puts};
 
 use crate::leaving::clear_range;
-use crate::placing::{Wanted, allows, find_place, is_misplaced, live_region};
+use crate::placing::{Wanted, allows, find_place, is_misplaced, is_place, live_region};
 use crate::ranges::lacks_reading;
 use bitflags::Flags;
 use mapping_set::{Entry, MappingSet, Piece};
 use pages::{Pages, pages_of_name};
 use region_tree::{Region, Regions};
 use vm_base::{
-    MapFlags, PAGE, PageNo, Perm, Refusal, RegionName, VMO_PAGES, in_page, page_count, page_of,
+    HostMemory, MapFlags, PAGE, PageNo, Perm, Refusal, RegionName, VMO_PAGES, in_page, page_count,
+    page_of,
 };
 use vm_model::{NameKind, Target};
 use vmo_table::VmoTable;
@@ -106,6 +108,49 @@ pub fn map_in<P: Pages>(
         (P.content store.new) vmos.new (spaces_of (regions_of regions.now) (table_of maps.new)) }
     ensures places { noted ≡ true → places_of maps.new ≡ places_of maps.old }
 {
+    let first = match ask_to_map(
+        store, regions, maps, region, above, offset, t, vmo_offset, len, perm, flags, noted,
+    ) {
+        Ok(first) => first,
+        Err(refusal) => return Err(refusal),
+    };
+    let piece = piece_at(above, region, t, vmo_offset, len, perm, first);
+    let overwriting = flags.contains(MapFlags::OVERWRITE);
+    match map_at(store, vmos, maps, above.root, piece, overwriting) {
+        Ok(()) => Ok(first * PAGE),
+        Err(_) => Err(Refusal::HostMemory),
+    }
+}
+
+/// Finds the first page of a place for a mapping of what `t` stands for in a live region, which is `above`. Refusals as for
+/// `map`, without `HostMemory`. Nothing changes. With `noted` the set of mappings has noted the live children of each region,
+/// and a place costs one search.
+pub fn ask_to_map<P: Pages>(
+    store: &P,
+    regions: &Regions,
+    maps: &MappingSet,
+    region: RegionName,
+    above: Region,
+    offset: u64,
+    t: &Target,
+    vmo_offset: u64,
+    len: u64,
+    perm: Perm,
+    flags: MapFlags,
+    noted: bool,
+) -> Result<PageNo, Refusal>
+    requires above { regions_of regions.now region.0 ≡ Some above }
+    requires live { above.live ≡ true }
+    requires end { above.first + above.count ≤ ROOT_END }
+    requires inside { IsInside (P.content store.now) t.now }
+    requires noted { noted ≡ true → AreNoted (regions_of regions.now) (places_of maps.now) }
+    ensures { let spaces = spaces_of (regions_of regions.now) (table_of maps.now) in
+        let command = λ (name : VmoName). Command.VmarMap region offset name vmo_offset len perm flags in
+        MatchResult result (λ first. IsRefusalBy (P.content store.now) spaces t.now command None
+        × IsMapPlace spaces region.0 (has flags.0 overwrite) (has flags.0 specific) (has flags.0 upper_limit) offset
+        (rounded len / PAGE) first)
+        (λ refusal. IsRefusalBy (P.content store.now) spaces t.now command (Some refusal)) }
+{
     let wanted = Wanted::by(flags, offset);
     let faults = flags.contains(MapFlags::ALLOW_FAULTS);
     let pages = pages_of_name(store, t);
@@ -114,24 +159,15 @@ pub fn map_in<P: Pages>(
     ) {
         return Err(refusal);
     }
-    let count = page_count(len);
-    let first = find_map_place(regions, maps, region, above, wanted, count, noted)?;
-    let Ok(()) = maps.reserve(2) else {
-        return Err(Refusal::HostMemory);
-    };
-    let entry = entry_of(above, region, t, vmo_offset, perm);
-    let piece = Piece {
-        first,
-        count,
-        entry,
-    };
-    put(store, vmos, maps, above.root, piece, wanted.overwriting);
-    Ok(first * PAGE)
+    match find_map_place(regions, maps, region, above, wanted, page_count(len), noted) {
+        Ok(first) => Ok(first),
+        Err(refusal) => Err(refusal),
+    }
 }
 
 /// Returns the refusal of a mapping that is decided before a place is looked for, if there is one. The name that is
 /// mapped has `pages` pages.
-pub fn map_refusal(
+fn map_refusal(
     regions: &Regions,
     region: RegionName,
     above: Region,
@@ -221,7 +257,7 @@ fn passes(pages: PageNo, offset: u64, len: u64) -> bool
 
 /// Returns the first page of a place for a mapping of `count` pages in a live region, which is `above`. A mapping that
 /// overwrites has its place at the offset. Any other has a free place, as `find_place` finds it.
-pub fn find_map_place(
+fn find_map_place(
     regions: &Regions,
     maps: &MappingSet,
     region: RegionName,
@@ -249,18 +285,58 @@ pub fn find_map_place(
     find_place(regions, maps, region, above, wanted, count, noted)
 }
 
-/// Returns the entry of the first page of a mapping in a region, which is `above`: it shows what the name stands for,
-/// from `vmo_offset` bytes into it on.
-pub fn entry_of(above: Region, region: RegionName, t: &Target, vmo_offset: u64, perm: Perm) -> Entry
-    requires { t.now.first ≤ VMO_PAGES }
-    ensures { result ≡ entry_of above region.0 t.now (vmo_offset / PAGE) perm }
+/// Returns whether a mapping of `count` pages may begin at a page of a live region, which is `above`. A mapping that
+/// overwrites begins at the offset, and any other as `is_place` says.
+pub fn is_map_place(
+    regions: &Regions,
+    maps: &MappingSet,
+    region: RegionName,
+    above: Region,
+    wanted: Wanted,
+    count: u64,
+    first: PageNo,
+) -> bool
+    requires noted { AreNoted (regions_of regions.now) (places_of maps.now) }
+    requires above { regions_of regions.now region.0 ≡ Some above }
+    requires live { above.live ≡ true }
+    requires end { above.first + above.count ≤ ROOT_END }
+    ensures { IsTrue result ↔ IsMapPlace (spaces_of (regions_of regions.now) (table_of maps.now)) region.0
+        wanted.overwriting wanted.fixed wanted.limited wanted.offset count first }
 {
-    Entry {
-        koid: t.koid,
-        page: t.first + page_of(vmo_offset),
-        perm,
-        cap: cap_of(above, t),
-        region,
+    if wanted.overwriting {
+        return first == above.first + page_of(wanted.offset);
+    }
+    is_place(regions, maps, region, above, wanted, count, first)
+}
+
+/// Returns a mapping in a region, which is `above`, from the page `first` of the address space on: it shows `len` bytes of
+/// what the name stands for, rounded up to whole pages, from `vmo_offset` bytes into it on.
+pub fn piece_at(
+    above: Region,
+    region: RegionName,
+    t: &Target,
+    vmo_offset: u64,
+    len: u64,
+    perm: Perm,
+    first: PageNo,
+) -> Piece
+    requires { t.now.first ≤ VMO_PAGES }
+    ensures { result ≡ record {
+      first = first;
+      count = rounded len / PAGE;
+      entry = entry_of above region.0 t.now (vmo_offset / PAGE) perm;
+    } }
+{
+    Piece {
+        first,
+        count: page_count(len),
+        entry: Entry {
+            koid: t.koid,
+            page: t.first + page_of(vmo_offset),
+            perm,
+            cap: cap_of(above, t),
+            region,
+        },
     }
 }
 
@@ -284,8 +360,34 @@ fn without_writing(caps: Perm) -> Perm
 }
 
 /// Puts a mapping at its place, and counts its pages as keepers of its VMO. With `overwriting`, what is mapped there is
-/// taken out.
-pub fn put<P: Pages>(
+/// taken out. `HostMemory`, with nothing changed, if the host has too little memory.
+pub fn map_at<P: Pages>(
+    store: &mut P,
+    vmos: &mut VmoTable,
+    maps: &mut MappingSet,
+    root: RegionName,
+    piece: Piece,
+    overwriting: bool,
+) -> Result<(), HostMemory>
+    requires well { AreWell (P.content store.old) vmos.old (table_of maps.old) }
+    requires place { IsPuttable (names_of vmos.old) (table_of maps.old) root.0 piece overwriting }
+    ensures puts { MatchResult result
+        (λ _. Puts (P.content store.old) vmos.old (table_of maps.old) root.0 piece
+        (P.content store.new) vmos.new (table_of maps.new))
+        (λ lack. (P.content store.new ≡ P.content store.old) × (vmos.new ≡ vmos.old)
+        × (table_of maps.new ≡ table_of maps.old) × (places_of maps.new ≡ places_of maps.old)) }
+    ensures places { IsVacant (places_of maps.old) root.0 piece.entry.region.0 piece.first piece.count
+        → places_of maps.new ≡ places_of maps.old }
+{
+    let Ok(()) = maps.reserve(2) else {
+        return Err(HostMemory);
+    };
+    put(store, vmos, maps, root, piece, overwriting);
+    Ok(())
+}
+
+/// Puts a mapping at its place. There is room for it.
+fn put<P: Pages>(
     store: &mut P,
     vmos: &mut VmoTable,
     maps: &mut MappingSet,

@@ -1,8 +1,10 @@
 //! The region that a call is about, what it allows, and where in it a place is.
 
-ghost use Rattle.std.specs.Prelude.{◌≡◌, ℕ, ◌+◌, ◌/◌, ◌≤◌, true, false, Some, MatchResult};
+ghost use Rattle.std.specs.Prelude.{◌≡◌, ℕ, ◌+◌, ◌/◌, ◌≤◌, ◌↔◌, true, false, not, min, is_some, if◌then◌else◌, Option, Some, IsTrue, MatchResult};
 ghost use Rattle.vm_base.specs.declared.limits.TheConstants.{PAGE, ROOT_END};
-ghost use Rattle.vm_model.specs.Space.Places.{IsPlace, is_misplaced};
+ghost use Rattle.vm_base.specs.declared.refusal.Refusal.{Refusal};
+ghost use Rattle.vm_base.specs.declared.refusal.Refusal.TheVariants.{BadHandle, BadState};
+ghost use Rattle.vm_model.specs.Space.Places.{IsPlace, is_misplaced, limit_of};
 ghost use Rattle.vm_model.specs.Space.Rights.{has, specific, overwrite, upper_limit};
 ghost use Rattle.std.specs.Option.{MatchOption};
 ghost use Rattle.vm_base.specs.declared.limits.TheConstants.{PAGES_END};
@@ -32,7 +34,7 @@ pub(crate) fn live_region(regions: &Regions, name: RegionName) -> Region
 }
 
 /// Returns whether a region allows these permissions to what is in it.
-pub fn allows(region: Region, caps: Perm) -> bool
+pub(crate) fn allows(region: Region, caps: Perm) -> bool
     ensures { result ≡ has region.caps.0 caps.0 }
 {
     region.caps.contains(caps)
@@ -73,7 +75,7 @@ impl Wanted {
 
 /// Returns whether no place can be asked for like this. That is so if the offset is not at a page, `len` is 0, both ways
 /// are asked for, an offset is given with neither, or a fixed place passes the region's end.
-pub fn is_misplaced(above: Region, wanted: Wanted, len: u64) -> bool
+pub(crate) fn is_misplaced(above: Region, wanted: Wanted, len: u64) -> bool
     ensures { result ≡ is_misplaced above wanted.fixed wanted.limited wanted.offset len }
 {
     if in_page(wanted.offset) != 0 || len == 0 {
@@ -88,7 +90,7 @@ pub fn is_misplaced(above: Region, wanted: Wanted, len: u64) -> bool
 /// Returns the first page of a free place of `count` pages in a live region, which is `above`. A fixed place ends in the
 /// region. Refusals: `AlreadyExists` if the fixed place is not free, `NoResources` if no free place fits. If the live
 /// children of each region are noted, the call costs one search.
-pub fn find_place(
+pub(crate) fn find_place(
     regions: &Regions,
     maps: &MappingSet,
     name: RegionName,
@@ -178,4 +180,59 @@ fn find_gap(
     } else {
         regions.find_gap(maps, name, count, limit)
     }
+}
+
+/// Returns whether a page begins a free place of `count` pages in a live region, which is `above`, that suits the request.
+pub fn is_place(
+    regions: &Regions,
+    maps: &MappingSet,
+    name: RegionName,
+    above: Region,
+    wanted: Wanted,
+    count: u64,
+    first: PageNo,
+) -> bool
+    requires noted { AreNoted (regions_of regions.now) (places_of maps.now) }
+    requires above { regions_of regions.now name.0 ≡ Some above }
+    requires live { above.live ≡ true }
+    requires end { above.first + above.count ≤ ROOT_END }
+    ensures { IsTrue result ↔ IsPlace (spaces_of (regions_of regions.now) (table_of maps.now)) name.0
+        wanted.fixed wanted.limited wanted.offset count first }
+{
+    let end = above.first + longest(above, wanted);
+    if first > end || count > end - first {
+        return false;
+    }
+    if wanted.fixed && first != above.first + page_of(wanted.offset) {
+        return false;
+    }
+    regions.is_free_noted(maps, name, above, first, count)
+}
+
+/// Returns how many pages behind the start of a region a place may end at most.
+fn longest(above: Region, wanted: Wanted) -> u64
+    ensures { result ≡ min (limit_of above wanted.limited wanted.offset) above.count }
+{
+    if wanted.limited {
+        page_of(wanted.offset).min(above.count)
+    } else {
+        above.count
+    }
+}
+
+/// Returns the region of a name, if it is live, for a command that asks for it before anything else. Refusals: `BadHandle`
+/// if the name was never given, `BadState` if the region is dead.
+pub fn ask_for_region(regions: &Regions, name: RegionName) -> Result<Region, Refusal>
+    ensures { MatchResult result
+        (λ above. (regions_of regions.now name.0 ≡ Some above) × (above.live ≡ true) × (above.first + above.count ≤ ROOT_END))
+        (λ refusal. (rest : Option Refusal) → Some refusal ≡ if not (is_some (regions_of regions.now name.0)) then Some BadHandle
+        else if not (region_of (regions_of regions.now) name.0).live then Some BadState else rest) }
+{
+    let Some(region) = regions.get(name) else {
+        return Err(Refusal::BadHandle);
+    };
+    if !region.live {
+        return Err(Refusal::BadState);
+    }
+    Ok(region)
 }

@@ -1,6 +1,7 @@
 //! Changing what accesses to mapped pages may do (`zx_vmar_protect`).
 
-ghost use Rattle.std.specs.Prelude.{◌≡◌, ◌+◌, ◌<◌, ◌≤◌, ℕ, true, false, not, Some};
+ghost use Rattle.std.specs.Prelude.{◌≡◌, ◌+◌, ◌/◌, ◌<◌, ◌≤◌, ℕ, true, false, not, None, Some, MatchResult};
+ghost use Rattle.vm_base.specs.Pages.{rounded};
 ghost use Rattle.std.specs.Option.{MatchOption};
 ghost use Rattle.vm_model.specs.declared.command.Command.{Command};
 ghost use Rattle.vm_model.specs.declared.reply.Reply.{Reply};
@@ -8,18 +9,18 @@ ghost use Rattle.vm_model.specs.Machine.State.{State};
 ghost use Rattle.vm_model.specs.Machine.Step.{Step, reply_of};
 ghost use Rattle.vm_model.specs.Space.AddressSpaces.{mapped_count};
 ghost use Rattle.vm_model.specs.Space.Mappings.{has_hole, forbids};
-ghost use Rattle.vm_base.specs.declared.limits.TheConstants.{ROOT_END};
+ghost use Rattle.vm_base.specs.declared.limits.TheConstants.{PAGE, ROOT_END};
 ghost use Rattle.mapping_set.specs.Tables.{table_of, places_of};
 ghost use Rattle.region_tree.specs.Tree.{regions_of, is_live_region, spaces_of};
-ghost use Rattle.region_ops.specs.Spaces.{with_spaces};
+ghost use Rattle.region_ops.specs.Spaces.{with_spaces, IsRefusalOf};
 ghost use Rattle.region_ops.specs.inside.Covers.{IsCovered};
 
 use crate::placing::{allows, live_region};
-use crate::ranges::{is_outside, lacks_reading};
+use crate::ranges::{PageRange, is_outside, lacks_reading, pages_at};
 use bitflags::Flags;
 use mapping_set::MappingSet;
 use region_tree::{Region, Regions};
-use vm_base::{PageNo, Perm, Refusal, RegionName, page_count, page_of};
+use vm_base::{PageNo, Perm, Refusal, RegionName};
 
 /// Changes what accesses to a range of a live region may do (`zx_vmar_protect`). The range is `len` bytes, rounded up
 /// to whole pages, from an address on. The call costs the pieces of the range. Refusals, in their order:
@@ -69,43 +70,71 @@ pub fn protect_in(
         ≡ mapped_count (spaces_of (regions_of regions.now) (table_of maps.old)) v }
     ensures places { places_of maps.new ≡ places_of maps.old }
 {
+    let range = match ask_to_protect(regions, maps, region, above, addr, len, perm) {
+        Ok(range) => range,
+        Err(refusal) => return Err(refusal),
+    };
+    let Ok(()) = maps.reserve(2) else {
+        return Err(Refusal::HostMemory);
+    };
+    maps.restrict(above.root, range.first, range.count, perm);
+    Ok(())
+}
+
+/// Finds the pages of a range of a live region, which is `above`, whose permissions are to be changed. Each of them has an
+/// entry that belongs to the region. Refusals as for `protect`, without `HostMemory`. Nothing changes. The call costs the
+/// pieces of the range.
+pub fn ask_to_protect(
+    regions: &Regions,
+    maps: &MappingSet,
+    region: RegionName,
+    above: Region,
+    addr: u64,
+    len: u64,
+    perm: Perm,
+) -> Result<PageRange, Refusal>
+    requires above { regions_of regions.now region.0 ≡ Some above }
+    requires live { above.live ≡ true }
+    requires end { above.first + above.count ≤ ROOT_END }
+    ensures { let spaces = spaces_of (regions_of regions.now) (table_of maps.now) in MatchResult result
+        (λ range. (range ≡ record { first = addr / PAGE; count = rounded len / PAGE })
+        × (has_hole (table_of maps.now above.root.0) region.0 range.first (range.first + range.count) ≡ false)
+        × IsRefusalOf spaces (Command.VmarProtect region addr len perm) None)
+        (λ refusal. IsRefusalOf spaces (Command.VmarProtect region addr len perm) (Some refusal)) }
+{
     if !allows(above, perm) {
         return Err(Refusal::AccessDenied);
     }
     if is_outside(above, addr, len) {
         return Err(Refusal::InvalidArgs);
     }
-    let first = page_of(addr);
-    let count = page_count(len);
-    if regions.meets(region, first, count) || lacks_reading(perm) {
+    let range = pages_at(addr, len);
+    if regions.meets(region, range.first, range.count) || lacks_reading(perm) {
         return Err(Refusal::InvalidArgs);
     }
-    let cover = cover_of(maps, above.root, region, first, first + count, perm);
+    let end = range.first + range.count;
+    let cover = cover_of(maps, above.root, region, range.first, end, perm);
     if !cover.whole {
         return Err(Refusal::NotFound);
     }
     if !cover.allowed {
         return Err(Refusal::AccessDenied);
     }
-    let Ok(()) = maps.reserve(2) else {
-        return Err(Refusal::HostMemory);
-    };
-    maps.restrict(above.root, first, count, perm);
-    Ok(())
+    Ok(range)
 }
 
 /// A region's cover of a range of pages whose permissions are to be changed.
 #[derive(Clone, Copy, Debug)]
-pub struct Cover {
+struct Cover {
     /// Each page has an entry that belongs to the region.
-    pub whole: bool,
+    whole: bool,
     /// True if each entry may be changed to the permissions. This counts only if `whole` is true.
-    pub allowed: bool,
+    allowed: bool,
 }
 
 /// Returns a region's cover of the pages from `first` to below `end`. The function looks at each piece once, and at none
 /// behind a page that has no entry of the region.
-pub fn cover_of(
+fn cover_of(
     maps: &MappingSet,
     root: RegionName,
     region: RegionName,

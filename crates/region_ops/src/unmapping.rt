@@ -1,7 +1,9 @@
 //! Unmapping a range (`zx_vmar_unmap`), and destroying a region (`zx_vmar_destroy`).
 
-ghost use Rattle.std.specs.Prelude.{◌≡◌, ℕ, ◌+◌, ◌≤◌, true, Option, OnOk, OnErr, None, Some};
-ghost use Rattle.vm_base.specs.declared.limits.TheConstants.{ROOT_END};
+ghost use Rattle.std.specs.Prelude.{◌≡◌, ℕ, ◌+◌, ◌/◌, ◌≤◌, true, Option, OnOk, OnErr, None, Some, MatchResult};
+ghost use Rattle.vm_base.specs.Pages.{rounded};
+ghost use Rattle.vm_base.specs.declared.limits.TheConstants.{PAGE, ROOT_END};
+ghost use Rattle.vm_model.specs.declared.space.Entry.{Entry};
 ghost use Rattle.vm_model.specs.declared.space.Region.{Region};
 ghost use Rattle.vm_model.specs.declared.command.Command.{Command};
 ghost use Rattle.vm_model.specs.declared.reply.Reply.{Reply};
@@ -11,15 +13,15 @@ ghost use Rattle.vm_model.specs.Space.Table.{with_pages};
 ghost use Rattle.vm_model.specs.Space.Mappings.{is_mapped_in, lies_below_in};
 ghost use Rattle.mapping_set.specs.Tables.{table_of, places_of};
 ghost use Rattle.region_tree.specs.Tree.{regions_of, is_live_region, with_one_dead, spaces_of, AreNoted};
-ghost use Rattle.region_ops.specs.Spaces.{AreWell, AreAllWell, LetsGo, Does};
+ghost use Rattle.region_ops.specs.Spaces.{AreWell, AreAllWell, LetsGo, Does, IsRefusalOf};
 
 use crate::leaving::{clear_range, clear_region};
 use crate::placing::live_region;
-use crate::ranges::is_outside;
+use crate::ranges::{PageRange, is_outside, pages_at};
 use mapping_set::MappingSet;
 use pages::Pages;
 use region_tree::{Region, Regions};
-use vm_base::{HostMemory, PageNo, Refusal, RegionName, page_count, page_of};
+use vm_base::{HostMemory, PageNo, Refusal, RegionName};
 use vmo_table::VmoTable;
 
 /// Unmaps a range of a live region (`zx_vmar_unmap`): `len` bytes, rounded up to whole pages, from an address on.
@@ -70,19 +72,44 @@ pub fn unmap_in<P: Pages>(
     ensures noted { AreNoted (regions_of regions.old) (places_of maps.old)
         → AreNoted (regions_of regions.new) (places_of maps.new) }
 {
+    let range = match ask_to_unmap(regions, region, above, addr, len) {
+        Ok(range) => range,
+        Err(refusal) => return Err(refusal),
+    };
+    let Ok(()) = clear_mapped(store, vmos, maps, above.root, range.first, range.count) else {
+        return Err(Refusal::HostMemory);
+    };
+    destroy_within(regions, maps, region, range.first, range.count);
+    Ok(())
+}
+
+/// Finds the pages of a range of a live region, which is `above`, that is to be unmapped. `InvalidArgs` as for `unmap`.
+/// Nothing changes.
+pub fn ask_to_unmap(
+    regions: &Regions,
+    region: RegionName,
+    above: Region,
+    addr: u64,
+    len: u64,
+) -> Result<PageRange, Refusal>
+    requires above { regions_of regions.now region.0 ≡ Some above }
+    requires live { above.live ≡ true }
+    requires end { above.first + above.count ≤ ROOT_END }
+    ensures { MatchResult result
+        (λ range. (range ≡ record { first = addr / PAGE; count = rounded len / PAGE })
+        × ((table : ℕ → ℕ → Option Entry)
+        → IsRefusalOf (spaces_of (regions_of regions.now) table) (Command.VmarUnmap region addr len) None))
+        (λ refusal. (table : ℕ → ℕ → Option Entry)
+        → IsRefusalOf (spaces_of (regions_of regions.now) table) (Command.VmarUnmap region addr len) (Some refusal)) }
+{
     if is_outside(above, addr, len) {
         return Err(Refusal::InvalidArgs);
     }
-    let first = page_of(addr);
-    let count = page_count(len);
-    if regions.cuts(region, first, count) {
+    let range = pages_at(addr, len);
+    if regions.cuts(region, range.first, range.count) {
         return Err(Refusal::InvalidArgs);
     }
-    let Ok(()) = clear_mapped(store, vmos, maps, above.root, first, count) else {
-        return Err(Refusal::HostMemory);
-    };
-    destroy_within(regions, maps, region, first, count);
-    Ok(())
+    Ok(range)
 }
 
 /// Destroys a live region and all below it, with their mappings (`zx_vmar_destroy`). A VMO that nothing keeps any more
@@ -177,7 +204,7 @@ pub fn is_mapped_in(maps: &MappingSet, root: RegionName, first: PageNo, count: u
 
 /// Destroys all regions below a live one that have no page but of `count` pages from `first` on. A region without a
 /// live child comes before its parent.
-pub fn destroy_within(
+fn destroy_within(
     regions: &mut Regions,
     maps: &mut MappingSet,
     region: RegionName,
@@ -200,7 +227,7 @@ pub fn destroy_within(
 }
 
 /// Takes back that a region is noted in its parent, if it has one. `region` is what it was before it died.
-pub fn free_in_parent(maps: &mut MappingSet, region: Region)
+fn free_in_parent(maps: &mut MappingSet, region: Region)
     ensures table { table_of maps.new ≡ table_of maps.old }
     ensures noted { (was now : ℕ → Option Region) (n : ℕ) → was n ≡ Some region → region.live ≡ true
         → now ≡ with_one_dead was n → AreNoted was (places_of maps.old) → AreNoted now (places_of maps.new) }

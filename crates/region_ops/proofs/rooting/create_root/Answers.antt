@@ -2,7 +2,7 @@ use Rattle.std.proofs.Common.{refl, sym, ◌∙◌}
 use Rattle.vm_model.specs.Space.Regions.{root_region}
 use Rattle.region_tree.specs.Tree.{regions_of}
 use Rattle.region_tree.proofs.NotedLaws.{AreNoted-root, none_given}
-use Rattle.eager_spaces.proofs.rooting.create_root.Goals as goal
+use Rattle.region_ops.proofs.rooting.create_root.Goals as goal
 
 pub returns-in-Ok-clause-noted : goal.returns-in-Ok-clause-noted
 returns-in-Ok-clause-noted c =

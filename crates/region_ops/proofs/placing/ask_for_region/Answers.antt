@@ -4,7 +4,7 @@ use Rattle.vm_base.proofs.EntryLaws.{passes-some}
 use Rattle.vm_model.specs.declared.space.Region.{Region}
 use Rattle.region_ops.proofs.PlaceLaws.{live_end}
 use Rattle.region_tree.specs.Tree.{regions_of}
-use Rattle.eager_spaces.proofs.asking.live_region.Goals as goal
+use Rattle.region_ops.proofs.placing.ask_for_region.Goals as goal
 
 pub returns : goal.returns
 returns c =

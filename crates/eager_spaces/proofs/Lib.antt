@@ -1,2 +1,0 @@
-pub mod ToldLaws
-pub mod AskLaws
