@@ -1,5 +1,5 @@
 -- A command that is refused changes nothing.
-use Rattle.std.proofs.Common.{◌≡◌, ℕ, Bool, true, false, not, Option, Some, refl, sym, ap, ◌∙◌, subst}
+use Rattle.std.proofs.Common.{◌≡◌, ℕ, Bool, true, false, not, Option, Some, refl, sym, ap, ◌∙◌}
 use Rattle.vm_base.specs.declared.refusal.Refusal.{Refusal}
 use Rattle.vm_model.specs.declared.command.Command.{Command}
 use Rattle.vm_model.specs.declared.reply.Reply.TheVariants.{Refused}
@@ -9,36 +9,31 @@ use Rattle.vm_model.specs.Space.AddressSpaces.{Spaces}
 use Rattle.vm_model.specs.Space.Regions.{region_of}
 use Rattle.vm_model.specs.Machine.Refusals.{refusals, first_of}
 use Rattle.vm_model.specs.Machine.State.{State}
-use Rattle.vm_model.specs.Machine.Step.{Step, StepAfter}
 use Rattle.vm_model.proofs.RegionLaws.{region_of-at}
 use Rattle.vmo_table.specs.Table.{Table as Vmos}
 use Rattle.pin_table.specs.Table.{Table as Pins}
 use Rattle.vmo_ops.specs.Targets.{with_tables}
 use Rattle.region_ops.specs.Spaces.{with_all, with_spaces, Does}
+use Rattle.region_ops.proofs.PlaceLaws.{Step-refused}
 use Rattle.fault.specs.Table.{Places}
 use Rattle.vm_core.specs.inside.Calls.{Steps, StepsSpaces, LeavesVmos, LeavesTables, LeavesSpaces}
-
-step_refused : (s : State) (command : Command) (refusal : Refusal) → first_of (refusals s command) ≡ Some refusal → Step s command (Refused refusal) s
-step_refused s command refusal refused = record {
-  outcome = subst (λ (o : Option Refusal). StepAfter o s command (Refused refusal) s) (sym refused) (record { answer = refl; same = refl });
-}
 
 pub refused_tables : {c : Content} {vmos : Vmos} {pins : Pins} {command : Command} {refusal : Refusal}
     → ((s : State) → first_of (refusals (with_tables s c vmos pins) command) ≡ Some refusal) → Steps c vmos pins command (Refused refusal) c vmos pins
 refused_tables {c} {vmos} {pins} {command} {refusal} refused =
-    record { step = λ s well. step_refused (with_tables s c vmos pins) command refusal (refused s) }
+    record { step = λ s well. Step-refused (with_tables s c vmos pins) command refusal (refused s) }
 
 pub refused_spaces : {c : Content} {vmos : Vmos} {spaces : Spaces} {command : Command} {refusal : Refusal}
     → ((s : State) → first_of (refusals (with_all s c vmos spaces) command) ≡ Some refusal) → Does c vmos spaces command (Refused refusal) c vmos spaces
 refused_spaces {c} {vmos} {spaces} {command} {refusal} refused = record {
-  step = λ s well. step_refused (with_all s c vmos spaces) command refusal (refused s);
+  step = λ s well. Step-refused (with_all s c vmos spaces) command refusal (refused s);
   counted = λ s well. well.counted;
 }
 
 -- the same of the address spaces alone
 pub refused_steps : {spaces : Spaces} {command : Command} {refusal : Refusal}
     → ((s : State) → first_of (refusals (with_spaces s spaces) command) ≡ Some refusal) → StepsSpaces spaces command (Refused refusal) spaces
-refused_steps {spaces} {command} {refusal} refused = record { step = λ s good. step_refused (with_spaces s spaces) command refusal (refused s) }
+refused_steps {spaces} {command} {refusal} refused = record { step = λ s good. Step-refused (with_spaces s spaces) command refusal (refused s) }
 
 -- and all translations are left
 pub left_vmos : {old new : Content} {vmos : Vmos} {places : Places} {command : Command} {refusal : Refusal} → LeavesVmos old vmos places command (Refused refusal) new places

@@ -70,7 +70,6 @@ pub(crate) fn vmar_map<P: PageStore>(
 }
 
 /// Unmaps a range.
-#[tactic(auto, unfolding(vm_model::specs::Space::Regions::region_of, vm_base::specs::Entries::passes))]
 pub(crate) fn vmar_unmap<P: PageStore>(
     store: &mut P,
     vmos: &mut VmoTable,
@@ -90,12 +89,10 @@ pub(crate) fn vmar_unmap<P: PageStore>(
         (Command.VmarUnmap region addr len) (reply_for result) (places_of translations.new) }
     ensures noted { AreNoted (regions_of regions.new) (notes_of maps.new) }
 {
-    let Some(above) = regions.get(region) else {
-        return Answer::Refused(Refusal::BadHandle);
+    let above = match region_ops::ask_for_region(regions, region) {
+        Ok(above) => above,
+        Err(refusal) => return Answer::Refused(refusal),
     };
-    if !above.live {
-        return Answer::Refused(Refusal::BadState);
-    }
     match region_ops::unmap_in(store, vmos, regions, maps, region, above, addr, len) {
         Ok(()) => {
             forget_pages(translations, above.root, page_of(addr), page_count(len));
@@ -106,7 +103,6 @@ pub(crate) fn vmar_unmap<P: PageStore>(
 }
 
 /// Changes what accesses to a range may do. Each VMO is mapped as often as before.
-#[tactic(auto, unfolding(vm_model::specs::Space::Regions::region_of, vm_base::specs::Entries::passes))]
 pub(crate) fn vmar_protect(
     regions: &Regions,
     maps: &mut MappingSet,
@@ -127,12 +123,10 @@ pub(crate) fn vmar_protect(
         ≡ mapped_count (spaces_of (regions_of regions.now) (table_of maps.old)) v }
     ensures noted { AreNoted (regions_of regions.now) (notes_of maps.new) }
 {
-    let Some(above) = regions.get(region) else {
-        return Answer::Refused(Refusal::BadHandle);
+    let above = match region_ops::ask_for_region(regions, region) {
+        Ok(above) => above,
+        Err(refusal) => return Answer::Refused(refusal),
     };
-    if !above.live {
-        return Answer::Refused(Refusal::BadState);
-    }
     match region_ops::protect_in(regions, maps, region, above, addr, len, perm) {
         Ok(()) => {
             forget_pages(translations, above.root, page_of(addr), page_count(len));
@@ -153,12 +147,10 @@ pub(crate) fn list_maps(
     ensures { StepsSpaces (spaces_of (regions_of regions.now) (table_of maps.now)) (Command.Maps region)
         (reply_for result) (spaces_of (regions_of regions.now) (table_of maps.now)) }
 {
-    let Some(listed) = regions.get(region) else {
-        return Answer::Refused(Refusal::BadHandle);
+    let listed = match region_ops::ask_for_region(regions, region) {
+        Ok(listed) => listed,
+        Err(refusal) => return Answer::Refused(refusal),
     };
-    if !listed.live {
-        return Answer::Refused(Refusal::BadState);
-    }
     match attribution::runs_in(alloc, maps, listed.root, listed.first, listed.count) {
         Ok(runs) => Answer::Runs(runs),
         Err(_) => Answer::Refused(Refusal::HostMemory),

@@ -32,12 +32,9 @@ pub(crate) fn root_create(
     ensures name { region.0 < NAMES }
     ensures noted { AreNoted (regions_of regions.new) (notes_of maps.now) }
 {
-    if regions.get(region).is_some() {
-        return Answer::Refused(Refusal::NameInUse);
-    }
-    match regions.add_root(region) {
+    match region_ops::create_root(regions, maps, region) {
         Ok(()) => Answer::Done,
-        Err(_) => Answer::Refused(Refusal::HostMemory),
+        Err(refusal) => Answer::Refused(refusal),
     }
 }
 
@@ -81,7 +78,6 @@ pub(crate) fn vmar_allocate(
 
 /// Destroys a region and all below it. `BadHandle` if it was never given, `BadState` if it is destroyed already. What
 /// is mapped in these regions is unmapped, and the translations of their pages are forgotten.
-#[tactic(auto, unfolding(vm_model::specs::Space::Regions::region_of, vm_base::specs::Entries::passes))]
 pub(crate) fn vmar_destroy<P: PageStore>(
     store: &mut P,
     vmos: &mut VmoTable,
@@ -99,12 +95,10 @@ pub(crate) fn vmar_destroy<P: PageStore>(
         (Command.VmarDestroy region) (reply_for result) (places_of translations.new) }
     ensures noted { AreNoted (regions_of regions.new) (notes_of maps.new) }
 {
-    let Some(dying) = regions.get(region) else {
-        return Answer::Refused(Refusal::BadHandle);
+    let dying = match region_ops::ask_for_region(regions, region) {
+        Ok(dying) => dying,
+        Err(refusal) => return Answer::Refused(refusal),
     };
-    if !dying.live {
-        return Answer::Refused(Refusal::BadState);
-    }
     region_ops::destroy_in(store, vmos, regions, maps, region, dying);
     forget_pages(translations, dying.root, dying.first, dying.count);
     Answer::Done

@@ -1,8 +1,6 @@
 use Rattle.std.proofs.Common.{sym}
-use Rattle.std.proofs.lemmas.Bool.{not-false}
-use Rattle.vm_model.proofs.RegionLaws.{region_bounds}
+use Rattle.vm_core.proofs.RefusedLaws.{refused_steps}
 use Rattle.vm_core.proofs.mappings.list_maps.Goals as goal
 
-pub runs_in-requires : goal.runs_in-requires
-runs_in-requires c =
-    (region_bounds _ c.in-Some.ensures.good _ _ (sym c.in-Some.ensures.region) (not-false c.in-Some.listed.live c.if-not-listed.false)).0
+pub returns-in-Err : goal.returns-in-Err
+returns-in-Err c = refused_steps (λ s. sym (c.in-Err.ensures _))

@@ -1,5 +1,4 @@
 use Rattle.std.proofs.Common.{◌/◌, refl, sym, arith}
-use Rattle.std.proofs.lemmas.Bool.{not-false}
 use Rattle.vm_base.specs.Pages.{rounded}
 use Rattle.vm_base.specs.declared.limits.TheConstants.{PAGE}
 use Rattle.vm_model.specs.declared.command.Command.TheVariants.{VmarProtect}
@@ -10,41 +9,32 @@ use Rattle.region_tree.specs.Tree.{regions_of, spaces_of}
 use Rattle.region_ops.specs.Spaces.{with_spaces}
 use Rattle.fault.specs.Table.{places_of}
 use Rattle.vm_core.specs.inside.Resets.{without_pages}
-use Rattle.vm_model.proofs.RegionLaws.{region_bounds}
 use Rattle.vm_core.proofs.BoundLaws.{done_bounds}
 use Rattle.vm_core.proofs.LeavesLaws.{left_region}
-use Rattle.vm_core.proofs.RefusedLaws.{dead, refused_steps, left_spaces}
+use Rattle.vm_core.proofs.RefusedLaws.{refused_steps, left_spaces}
 use Rattle.vm_core.proofs.mappings.vmar_protect.Goals as goal
 
 pub forget_pages-requires : goal.forget_pages-requires
 forget_pages-requires c =
     let s = with_spaces c.requires.good.0 (spaces_of (regions_of c.args.regions.now) (table_of c.args.maps.now)) in
-    let bound = done_bounds s (VmarProtect c.args.region c.args.addr c.args.len c.args.perm) Done _ c.requires.good.1 (c.in-Ok.ensures.step c.requires.good.0) (λ refusal e. cc) in
+    let bound = done_bounds s (VmarProtect c.args.region c.args.addr c.args.len c.args.perm) Done _ c.requires.good.1 (c.in-Ok-protect_in.ensures.step c.requires.good.0) (λ refusal e. cc) in
     omega (arith, bound, c.page_of.ensures, c.page_count.ensures)
 
-pub returns-in_default : goal.returns-in_default
-returns-in_default c = record { step = refused_steps (λ s. rw (← c.in_default.ensures.region) refl); left = left_spaces; mapped = λ v. refl; noted = c.requires.noted }
-
-pub returns-then-not-above : goal.returns-then-not-above
-returns-then-not-above c =
-    let not_live = dead (regions_of c.args.regions.now) c.args.region.0 c.in-Some.ensures.region c.if-not-above.true in
-    record { step = refused_steps (λ s. rw (← c.in-Some.ensures.region) (rw not_live refl)); left = left_spaces; mapped = λ v. refl; noted = c.requires.noted }
-
 pub returns-in-Err : goal.returns-in-Err
-returns-in-Err c = record { step = record { step = λ s good. c.in-Err.ensures.step s }; left = left_spaces; mapped = c.in-Err.ensures.mapped; noted = rw c.in-Err.ensures.places c.requires.noted }
+returns-in-Err c = record { step = refused_steps (λ s. sym (c.in-Err.ensures _)); left = left_spaces; mapped = λ v. refl; noted = c.requires.noted }
 
-pub returns-in-Ok : goal.returns-in-Ok
-returns-in-Ok c = record {
-  step = record { step = λ s good. c.in-Ok.ensures.step s };
+pub returns-in-Err-protect_in : goal.returns-in-Err-protect_in
+returns-in-Err-protect_in c = record { step = record { step = λ s good. c.in-Err-protect_in.ensures.step s }; left = left_spaces; mapped = c.in-Err-protect_in.ensures.mapped; noted = rw c.in-Err-protect_in.ensures.places c.requires.noted }
+
+pub returns-in-Ok-protect_in : goal.returns-in-Ok-protect_in
+returns-in-Ok-protect_in c = record {
+  step = record { step = λ s good. c.in-Ok-protect_in.ensures.step s };
   left = record {
     left = λ s d.
         left_region (with_spaces s (spaces_of (regions_of c.args.regions.now) (table_of c.args.maps.now))) c.args.region.0
-        (λ (above : Region). without_pages above.root (c.args.addr / PAGE) (rounded c.args.len / PAGE) (places_of c.args.translations.now)) c.in-Some.ensures.region
+        (λ (above : Region). without_pages above.root (c.args.addr / PAGE) (rounded c.args.len / PAGE) (places_of c.args.translations.now)) (sym c.in-Ok.ensures.0)
         (rw (c.page_of.ensures, c.page_count.ensures) at c.forget_pages.ensures);
   };
-  mapped = c.in-Ok.ensures.mapped;
-  noted = rw c.in-Ok.ensures.places c.requires.noted;
+  mapped = c.in-Ok-protect_in.ensures.mapped;
+  noted = rw c.in-Ok-protect_in.ensures.places c.requires.noted;
 }
-
-pub protect_in-requires-clause-end : goal.protect_in-requires-clause-end
-protect_in-requires-clause-end c = (region_bounds _ c.in-Some.ensures.good _ _ (sym c.in-Some.ensures.region) (not-false _ c.if-not-above.false)).0
