@@ -3,3 +3,4 @@ pub mod WalkLaws
 pub mod RowLaws
 pub mod LineLaws
 pub mod PushLaws
+pub mod OnceLaws

@@ -28,13 +28,18 @@ module _ (nodes : Nodes) where
   unfolding nodes_over
   over-suc n k = refl
 
+  -- a node that is not there
+  pub below-absent : (n k : ℕ) → nodes k ≡ None → nodes_over nodes n (link_to k) ≡ []
+  below-absent zero k none = over-zero (link_to k)
+  below-absent (suc n) k none = over-suc n k ∙ ap (with_both_below nodes (nodes_over nodes n) k) none
+
 module _ (nodes : Nodes) (lists : ℕ) (f : IsForest nodes lists) where
   abbrev Same : (n m : ℕ) → Option NodeId → Type 0
   Same n m o = nodes_over nodes n o ≡ nodes_over nodes m o
 
   -- ---- the nodes below a node
 
-  absent : (k : ℕ) → lists ≤ f.rank k → nodes k ≡ None
+  pub absent : (k : ℕ) → lists ≤ f.rank k → nodes k ≡ None
   absent k high = with_node (nodes k) refl
     where
       with_node : (o : Option Node) → nodes k ≡ o → nodes k ≡ None
@@ -83,7 +88,7 @@ module _ (nodes : Nodes) (lists : ℕ) (f : IsForest nodes lists) where
 
   -- ---- the walk
 
-  child-place : (k c : ℕ) (node : Node) (s : Side) → nodes k ≡ Some node → child_on node s ≡ link_to c → place_below_parent nodes c ≡ Some (record { 0 = k }, s)
+  pub child-place : (k c : ℕ) (node : Node) (s : Side) → nodes k ≡ Some node → child_on node s ≡ link_to c → place_below_parent nodes c ≡ Some (record { 0 = k }, s)
   child-place k c node s at child =
       let it = child-there nodes lists f k c node s at child in
       place-some nodes c it.node (record { 0 = k }) s it.at it.parent (side-of-child nodes lists f k c node s at child)

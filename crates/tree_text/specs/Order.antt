@@ -1,5 +1,6 @@
 -- In which order the nodes of a clone tree are told: tree by tree, and in a tree each node before those below it, left ones first.
-use Rattle.std.specs.Prelude.{ℕ, zero, suc, List, [], ◌∷◌, ◌++◌, Option, None, Some}
+use Rattle.std.specs.Prelude.{◌↔◌, ℕ, zero, suc, eqb, List, [], ◌∷◌, ◌++◌, Option, None, Some, IsSome}
+use Rattle.std.specs.List.{Contains, IsDistinct}
 use Rattle.cow_arena.specs.declared.node.NodeId.{NodeId}
 use Rattle.cow_arena.specs.declared.node.Node.{Node}
 use Rattle.cow_arena.specs.declared.node.Side.{Side}
@@ -82,3 +83,8 @@ nodes_from f (suc n) v = tree_nodes f v ++ nodes_from f n (suc v)
 -- all nodes
 abbrev pub all_nodes : Forest → List ℕ
 all_nodes f = nodes_from f f.next 0
+
+-- the list has each node, and nothing else, and none of them twice
+pub record HasEachNodeOnce (f : Forest) (list : List ℕ) : Type 0 where
+  pub each : (k : ℕ) → Contains list k ↔ IsSome (nodes_of f.arena k)
+  pub once : IsDistinct eqb list

@@ -8,7 +8,7 @@ ghost use Rattle.cow_arena.specs.Nodes.{nodes_of, link_to};
 ghost use Rattle.cow_arena.specs.Forest.{IsForest};
 ghost use Rattle.cow_split.specs.Trees.{tree_of};
 ghost use Rattle.cow_forest.specs.Store.{tree};
-ghost use Rattle.tree_text.specs.Order.{place_below_parent, nodes_below, tree_nodes, all_nodes};
+ghost use Rattle.tree_text.specs.Order.{place_below_parent, nodes_below, tree_nodes, all_nodes, HasEachNodeOnce};
 ghost use Rattle.tree_text.specs.Text.{row_text, rows_text, text_of_node, lines_text, forest_text};
 
 use crate::lines::{
@@ -22,15 +22,18 @@ use page_store::PageStore;
 use script_io::{Sink, push_all};
 use vm_base::{Failed, Koid, PageNo};
 
-/// Pushes the text of the clone tree in a form: a line of counts, and a line for each node. The trees come by the koid of the leaf that is
-/// furthest to the left, and no number in the text depends on where a node stands in memory. `Failed` if the sink failed, and then
+/// Pushes the text of the clone tree in a form: a line of counts, and one line for each node. The trees come by the koid of the leaf that
+/// is furthest to the left, and no number in the text depends on where a node stands in memory. `Failed` if the sink failed, and then
 /// it took a front part of the text.
 ///
 /// It takes no memory. For each koid that was given it costs a look-up, for each node a few calls of the sink, and for each row one.
 pub fn write_forest<K: Sink>(form: Form, forest: &CowForest, sink: &mut K) -> Result<(), Failed>
     ensures text { SinkTakes result (K.contents sink.old) (K.contents sink.new) (forest_text form forest.now) }
+    ensures nodes { HasEachNodeOnce forest.now (all_nodes forest.now) }
     ensures cause { HasCause (K.faults sink.old) (K.faults sink.new) result }
 {
+    // What always holds of the tree is said here.
+    let _nodes = forest.arena();
     let mut out = [0; HEAD_ROOM];
     let end = write_opening(form, forest, &mut out);
     let Ok(()) = push_all(sink, &out[..end]) else {
