@@ -19,6 +19,7 @@ use Rattle.vm_session.specs.Plain.{plain, GivesText}
 use Rattle.cow_forest.specs.Store.{Forest, IsStore, content_of}
 use Rattle.tree_text.specs.Text.{forest_text}
 use Rattle.tree_text.specs.inside.Pushing.{IsPushed}
+use Rattle.tree_text.proofs.OnceLaws.{each_once}
 use Rattle.tree_text.proofs.PushLaws.{pushed-none, pushed-more, pushed-cut, pushed-last}
 use Rattle.tree_text.specs.declared.lines.Form.{Form}
 use Rattle.vmotree.specs.declared.drawer.Kind.{Kind}
@@ -86,7 +87,7 @@ module _ (replies each : Bool) (form : Form) (line : List ℕ) where
     drawing = if each then forest_text form f else []
 
     draws : (b : Bool) → DrawsIf b form new (if b then forest_text form f else [])
-    draws true = record { forest = f; store = s; same = same; text = refl }
+    draws true = record { forest = f; store = s; same = same; text = refl; nodes = each_once f s }
     draws false = refl
 
     abbrev heard : List ℕ → List ℕ

@@ -12,16 +12,19 @@ use Rattle.vm_model.specs.Language.Text.{texts}
 use Rattle.vm_model.specs.Scripts.Run.{GivesAs, Gives}
 use Rattle.served.specs.Answering.{Answering, syntax_text}
 use Rattle.cow_forest.specs.Store.{Forest, IsStore, content_of}
+use Rattle.tree_text.specs.Order.{all_nodes, HasEachNodeOnce}
 use Rattle.tree_text.specs.Text.{forest_text}
 use Rattle.tree_text.specs.declared.lines.Form.{Form}
 use Rattle.tree_text.specs.declared.lines.Form.TheVariants as form
 
--- the text of a clone tree with the machine's pages, of which all holds that holds of the tree after each call
+-- the text of a clone tree with the machine's pages, of which all holds that holds of the tree after each call, and of which each node
+-- has a line of the text, and one alone
 pub record IsDrawing (form : Form) (m : Machine) (drawing : List ℕ) : Type 0 where
   pub forest : Forest
   pub store : IsStore forest
   pub same : content_of forest ≡ m.state.content
   pub text : drawing ≡ forest_text form forest
+  pub nodes : HasEachNodeOnce forest (all_nodes forest)
 
 abbrev pub DrawsIf : (each : Bool) → Form → Machine → List ℕ → Type 0
 DrawsIf true form m drawing = IsDrawing form m drawing

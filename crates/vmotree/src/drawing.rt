@@ -6,6 +6,7 @@ ghost use Rattle.vm_base.specs.declared.limits.TheConstants.{FRAMES, SCRIPT_BYTE
 ghost use Rattle.vm_model.specs.Contents.Content.{nothing};
 ghost use Rattle.served.specs.Outcome.{EndsAs};
 ghost use Rattle.cow_forest.specs.Store.{content_of};
+ghost use Rattle.tree_text.specs.Order.{all_nodes, HasEachNodeOnce};
 ghost use Rattle.vmotree.specs.Words.{request_in};
 ghost use Rattle.vmotree.specs.Drawing.{drawing_rules, form_of};
 ghost use Rattle.vmotree.specs.Outcome.{DrawsAs};
@@ -39,6 +40,9 @@ pub fn draw<S: Source, K: Sink>(
     // What each status says of the bytes that the source gave, the bytes that the sink took, and the tree.
     ensures ends { IfSome (request_in words.now) (λ r. DrawsAs r result (S.remaining source.old) (S.remaining source.new)
         (K.contents sink.old) (K.contents sink.new) store.new) }
+
+    // The text of the tree has a line for each of its nodes, and for none of them two.
+    ensures nodes { IfSome (request_in words.now) (λ r. HasEachNodeOnce store.new (all_nodes store.new)) }
 
     // A fault is answered only if the source failed, or if the sink has failed, which is new in the program.
     ensures read_cause { result ≡ Status.ReadFault → HasFailed (S.faults source.old) (S.faults source.new) }
@@ -174,11 +178,14 @@ fn draw_last<K: Sink>(request: Request, status: Status, store: &CowForest, sink:
         EndsAs (drawing_rules request.replies request.each request.form) status request.frames SCRIPT_BYTES source_old source_new sink_old
         (K.contents sink.old) (content_of store.now) →
         DrawsAs request result source_old source_new sink_old (K.contents sink.new) store.now }
+    ensures nodes { HasEachNodeOnce store.now (all_nodes store.now) }
     ensures same { (result ≡ status) ⊎ (result ≡ Status.WriteFault) }
     ensures cause { result ≡ Status.WriteFault → (status ≡ Status.WriteFault) ⊎ HasFailed (K.faults sink.old) (K.faults sink.new) }
     ensures idle { result ≡ Status.HostMemory → sink.new ≡ sink.old }
     ensures still { status ≡ Status.WriteFault → sink.new ≡ sink.old }
 {
+    // What always holds of the tree is said here.
+    let _nodes = store.arena();
     match status {
         Status::Done | Status::ReadFault | Status::ScriptLimit => {
             if request.each {
