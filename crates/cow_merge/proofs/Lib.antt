@@ -15,3 +15,4 @@ pub mod WitnessLaws
 pub mod KeptWaysLaws
 pub mod JumpingLaws
 pub mod SharingLaws
+pub mod ParentLaws

@@ -79,3 +79,28 @@ pub record HasClosed (old new : Arena) (rows rows_after : Rows Row) (before afte
   pub linked : AreLinked rows before → AreLinked rows_after after
   pub spare : rows.spare ≤ rows_after.spare
   pub fewer : row_count rows_after ≤ row_count rows
+
+-- node k has its koid and the parent h still. If its window began at page 0, it does
+pub record StaysUnder (old : Nodes) (k h : ℕ) (now : Node) : Type 0 where
+  pub node : Node
+  pub at : old k ≡ Some node
+  pub koid : now.koid ≡ node.koid
+  pub parent : node.parent ≡ link_to h
+  pub first : node.first ≡ 0 → now.first ≡ 0
+
+-- node k has its koid still, and its parent is gone, which was the child of h. If both windows began at page 0, its own does
+pub record IsRaised (old : Nodes) (k h : ℕ) (now : Node) : Type 0 where
+  pub node : Node
+  pub at : old k ≡ Some node
+  pub koid : now.koid ≡ node.koid
+  pub j : ℕ
+  pub between : Node
+  pub between_at : old j ≡ Some between
+  pub hidden : between.koid ≡ None
+  pub below : node.parent ≡ link_to j
+  pub parent : between.parent ≡ link_to h
+  pub first : node.first ≡ 0 → between.first ≡ 0 → now.first ≡ 0
+
+-- each node that has a parent had it before, or came into the place of its own
+pub record KeepsParents (old new : Nodes) : Type 0 where
+  pub parents : (k h : ℕ) (now : Node) → new k ≡ Some now → now.parent ≡ link_to h → StaysUnder old k h now ⊎ IsRaised old k h now

@@ -7,7 +7,7 @@ ghost use Rattle.cow_split.specs.Trees.{tree_of};
 ghost use Rattle.cow_split.specs.Exact.{IsExact, all_in_sight};
 ghost use Rattle.frame_pool.specs.Pool.{is_taken};
 ghost use Rattle.cow_jump.specs.Jumps.{AreJumps, MayJump};
-ghost use Rattle.cow_merge.specs.Merging.{HasClosed};
+ghost use Rattle.cow_merge.specs.Merging.{HasClosed, KeepsParents};
 
 use crate::handing::{goes_over, hand_over};
 use crate::lifting::lift_rows;
@@ -45,6 +45,7 @@ pub fn close(arena: &mut CowArena, lists: &mut PageLists, frames: &mut FramePool
     requires leaf { IsSomeAnd (nodes_of arena.old leaf.0) (λ node. IsSome node.koid) }
     ensures closed { HasClosed arena.old arena.new lists.old lists.new frames.old frames.new leaf.0 }
     ensures ways { KeepsRises (tree_of arena.old lists.old) (tree_of arena.new lists.new) leaf.0 }
+    ensures parents { KeepsParents (nodes_of arena.old) (nodes_of arena.new) }
 {
     close_with(arena, lists, frames, None, leaf);
 }
@@ -62,6 +63,7 @@ pub fn close_by_jumps(
     requires jumps { (next : ℕ) × AreJumps (tree_of arena.old lists.old) next jumps.now }
     ensures closed { HasClosed arena.old arena.new lists.old lists.new frames.old frames.new leaf.0 }
     ensures ways { KeepsRises (tree_of arena.old lists.old) (tree_of arena.new lists.new) leaf.0 }
+    ensures parents { KeepsParents (nodes_of arena.old) (nodes_of arena.new) }
 {
     close_with(arena, lists, frames, Some(jumps), leaf);
 }
@@ -79,6 +81,7 @@ fn close_with(
     requires jumps { MayJump (tree_of arena.old lists.old) (option_copied jumps) }
     ensures closed { HasClosed arena.old arena.new lists.old lists.new frames.old frames.new leaf.0 }
     ensures ways { KeepsRises (tree_of arena.old lists.old) (tree_of arena.new lists.new) leaf.0 }
+    ensures parents { KeepsParents (nodes_of arena.old) (nodes_of arena.new) }
 {
     let (Some(hidden), Some(sibling)) = (arena.node(leaf).parent, arena.sibling(leaf)) else {
         leave_out(arena, lists, frames, jumps, leaf, 0);

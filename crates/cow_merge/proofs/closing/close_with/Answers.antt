@@ -15,6 +15,7 @@ use Rattle.cow_merge.proofs.SeenLaws.{seen-start, seen-kept}
 use Rattle.cow_merge.proofs.LiftedLaws.{lifting-start, lifting-again, lifting-end}
 use Rattle.cow_merge.proofs.KeptWaysLaws.{keeps-root, keeps-spliced_rows, keeps-over_rows}
 use Rattle.cow_merge.proofs.JumpingLaws.{jumps-uncovered}
+use Rattle.cow_merge.proofs.ParentLaws.{parents-removed, parents-spliced, parents-over}
 use Rattle.cow_merge.proofs.closing.close_with.Goals as goal
 use Rattle.cow_merge.proofs.closing.close_with.Goals.{in_default-via-in-Some+in_default, in_default-via-in_default}
 
@@ -186,3 +187,26 @@ pub leave_out_above-requires-clause-jumps : goal.leave_out_above-requires-clause
 leave_out_above-requires-clause-jumps c =
     jumps-uncovered c.args.arena.now c.args.lists.now c.uncover.new.lists c.args.frames.now c.uncover.new.frames c.args.leaf.0 c.in-Some-Some.hidden.0
     c.node.result.seen (c.uncover.ensures c.node.result c.node.ensures) _ c.requires.jumps
+
+-- ---- the parents
+
+pub returns-in_default-clause-parents : goal.returns-in_default-clause-parents
+returns-in_default-clause-parents c = parents-removed (nodes_of c.args.arena.now) (nodes_of c.remove_root.new.self) c.args.leaf.0 c.remove_root.ensures.nodes
+
+pub returns-else-goes_over-clause-parents : goal.returns-else-goes_over-clause-parents
+returns-else-goes_over-clause-parents c =
+    let visible = visible-of c.args.arena.now c.args.leaf.0 c.node.result c.requires.leaf c.node.ensures in
+    let of = family-of c.args.arena.now c.requires.exact.forest c.args.leaf.0 c.node.result visible c.in-Some-Some.hidden c.in-Some-Some.sibling
+    c.in-Some-Some.is-0 c.in-Some-Some.ensures.sibling in
+    parents-spliced (nodes_of c.args.arena.now) c.args.arena.now.lists c.requires.exact.forest c.args.leaf.0 c.in-Some-Some.hidden.0 c.in-Some-Some.sibling.0
+    of.node of.parent of.sibling of.family (nodes_of c.splice.new.self)
+    (c.splice.ensures.nodes c.in-Some-Some.hidden.0 c.in-Some-Some.sibling.0 of.node of.parent of.sibling of.family)
+
+pub returns-then-goes_over-clause-parents : goal.returns-then-goes_over-clause-parents
+returns-then-goes_over-clause-parents c =
+    let visible = visible-of c.args.arena.now c.args.leaf.0 c.node.result c.requires.leaf c.node.ensures in
+    let of = family-of c.args.arena.now c.requires.exact.forest c.args.leaf.0 c.node.result visible c.in-Some-Some.hidden c.in-Some-Some.sibling
+    c.in-Some-Some.is-0 c.in-Some-Some.ensures.sibling in
+    parents-over (nodes_of c.args.arena.now) c.args.arena.now.lists c.requires.exact.forest c.args.leaf.0 c.in-Some-Some.hidden.0 c.in-Some-Some.sibling.0
+    of.node of.parent of.sibling of.family (nodes_of c.splice_over.new.self)
+    (c.splice_over.ensures.nodes c.in-Some-Some.hidden.0 c.in-Some-Some.sibling.0 of.node of.parent of.sibling of.family)
