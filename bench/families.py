@@ -6,8 +6,9 @@ from measuring import TOP
 
 sys.path.insert(0, f"{TOP}/tools")
 
-from generating.shapes import (WRITES, behind, checkpoint, deep, full, infos, infos_behind, newest_first, oldest_first, parted,
-                               reads_behind, reads_beside, roll_forward, sole, tail, wide, zero_behind)
+from generating.shapes import (WRITES, behind, beside, checkpoint, deep, full, infos, infos_before, infos_behind, infos_beside,
+                               newest_first, oldest_first, parted, reads_behind, reads_beside, roll_forward, sole, tail, wide,
+                               zero_behind)
 
 # How many pages are held, up to as many as a machine of 65,536 frames has beside those that are written.
 HELD = (1024, 16384, 65536 - WRITES)
@@ -39,5 +40,7 @@ FAMILIES = [
     Family("chain over as many pages, each read at its end", reads_behind, (2000, 4000, 8000), behind),
     Family("chain over as many pages, all zeroed at its end", zero_behind, (2000, 4000, 8000), behind),
     Family("chain over as many pages, 10 times vmo_info at its end", infos_behind, (2000, 4000, 8000), behind),
+    Family("chain over as many pages, 10 times vmo_info at its front", infos_before, (2000, 4000, 8000), behind),
+    Family("snapshots of as many pages, 10 times vmo_info of the oldest", infos_beside, (2000, 4000, 8000), beside),
     Family("snapshots that wrote a page, then reads of it beside them", reads_beside, (2000, 4000, 8000), parted),
 ]

@@ -134,6 +134,21 @@ def infos_behind(count):
     return behind(count) + [f"vmo_info v{count}"] * 10
 
 
+def infos_before(count):
+    """What is held, shared and charged at the front of the chain, where all pages are charged, ten times."""
+    return behind(count) + ["vmo_info v0"] * 10
+
+
+def beside(count):
+    """Returns the lines of a VMO of so many held pages, of which as many snapshots are made and none is written, but the VMO is."""
+    return full(count) + [snapshot(name, 0, count) for name in range(1, count + 1)] + [f"vmo_zero v0 0 {count * PAGE}"]
+
+
+def infos_beside(count):
+    """What is held, shared and charged by the oldest snapshot, to which all pages are charged, ten times."""
+    return beside(count) + ["vmo_info v1"] * 10
+
+
 def parted(count):
     """Returns the lines of snapshots of one page that all wrote it, and of one that did not."""
     return full(1) + [line for name in range(1, count + 1) for line in (snapshot(name, 0, 1), write(name, 0))] + [snapshot(count + 1, 0, 1)]

@@ -19,6 +19,8 @@ pub mod MakingLaws
 pub mod SnapshotLaws
 pub mod OwnedLaws
 pub mod JumpKeptLaws
+pub mod FounderLaws
+pub mod ElderLaws
 pub mod RangeLaws
 pub mod RisingLaws
 pub mod ZeroedLaws

@@ -76,7 +76,7 @@ least-joined nodes xs ys (Some one) (Some other) here there = with_test (nat_lt 
 
 module _ (t : Tree) (exact : (in_use : ℕ → Bool) × IsExact t all_in_sight in_use) where
   -- who shows a frame sees the row where it stands
-  sees-row : (h q tag k : ℕ) → HasFrameRow t h q tag → (shows : ShowsFrame t tag k) → (from : Option Side) × Sees t k shows.p from h q
+  pub sees-row : (h q tag k : ℕ) → HasFrameRow t h q tag → (shows : ShowsFrame t tag k) → (from : Option Side) × Sees t k shows.p from h q
   sees-row h q tag k has shows =
       let shown = frame-shown t k shows.p tag shows.frame in
       let row = (walk-ends t exact.1.forest k shows.p shown.it shown.found).row in

@@ -1,3 +1,4 @@
+pub mod Founders
 pub mod Fields
 pub mod TableFields
 pub mod Looking

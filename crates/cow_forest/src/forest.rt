@@ -20,12 +20,13 @@ ghost use Rattle.cow_forest.specs.Owning.{HasOwnRow};
 ghost use Rattle.cow_forest.specs.Counting.{frame_row_count};
 ghost use Rattle.cow_forest.specs.Ranges.{rows_reached};
 
-use crate::looking::{look_at, look_at_counted, next_shown, shown_frame};
+use crate::founders::{FounderTable, Founders};
+use crate::looking::{look_at, look_at_counted, next_shown, shown_frame, shows};
 use crate::node_table::NodeTable;
 use crate::owning::own_page;
 use crate::ranges::zero_pages;
 use crate::tables::{disown, leave_other, make_room, renew_merged};
-use crate::viewing::{least_koid_of, lesser_koid_of, viewer_count_of};
+use crate::viewing::{elder_for, least_koid_of, lesser_koid_of, viewer_count_of};
 use cow_arena::{CowArena, NodeId};
 use cow_fork::{share, zero_by_jumps};
 use cow_jump::{JumpTable, note_pair, retire_pair};
@@ -56,6 +57,8 @@ pub struct CowForest {
     vmos: u64,
     /// Ways upwards over many nodes. Contracts do not see them.
     jumps: JumpTable,
+    /// The founders of the hidden nodes. Contracts do not see them.
+    founders: FounderTable,
 }
 
 impl Model for CowForest {
@@ -84,6 +87,7 @@ impl CowForest {
             next: 1,
             vmos: 0,
             jumps: JumpTable::new(alloc),
+            founders: FounderTable::new(alloc),
         }
     }
 
@@ -272,6 +276,12 @@ impl PageStore for CowForest {
             node,
             pair.child,
         );
+        let founders = Founders {
+            elder: of,
+            younger: koid,
+        };
+        self.founders
+            .note(pair.hidden, founders, self.arena.capacity());
         self.nodes.enter(koid.0, pair.child);
         self.owners
             .enter(self.arena.node(pair.hidden).list.0, pair.hidden);
@@ -422,7 +432,18 @@ impl PageStore for CowForest {
     fn lesser_viewer(&self, tag: Tag, v: Koid) -> Option<Koid> {
         let link = self.frames.backlink(tag);
         let node = self.owners.get(link.list);
-        lesser_koid_of(&self.arena, &self.lists, node, link.page, v)
+        let Some(elder) = elder_for(&self.arena, &self.founders, node, v) else {
+            return lesser_koid_of(&self.arena, &self.lists, node, link.page, v);
+        };
+        if v.0 <= elder.0 {
+            return None;
+        }
+        let leaf = self.nodes.look(elder.0);
+        if shows(&self.arena, &self.lists, &self.jumps, leaf, link.page, tag) {
+            Some(elder)
+        } else {
+            None
+        }
     }
 
     fn viewers(&self, v: Koid, page: PageNo) -> u64 {

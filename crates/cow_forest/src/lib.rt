@@ -7,6 +7,7 @@
 #![tactic(auto)]
 
 mod forest;
+mod founders;
 mod looking;
 mod node_table;
 mod owning;

@@ -1,6 +1,6 @@
 //! Looking at pages: what a page is, and which page is the next one that is held.
 
-ghost use Rattle.std.specs.Prelude.{◌≡◌, ◌+◌, ◌*◌, ◌^◌, ◌<◌, ◌≤◌, ℕ, Bool, None, IsSome, IsSomeAnd, IfSome, IfNone};
+ghost use Rattle.std.specs.Prelude.{◌≡◌, ◌↔◌, ◌+◌, ◌*◌, ◌^◌, ◌<◌, ◌≤◌, ℕ, Bool, true, None, Some, IsSome, IsSomeAnd, IfSome, IfNone};
 ghost use Rattle.page_list.specs.Lists.{row_count, slots_of};
 ghost use Rattle.cow_arena.specs.Nodes.{nodes_of};
 ghost use Rattle.cow_arena.specs.Forest.{IsForest};
@@ -10,6 +10,7 @@ ghost use Rattle.cow_split.specs.Cost.{IsMostOfLookUp, depth};
 ghost use Rattle.cow_split.specs.Sight.{IsPage};
 ghost use Rattle.cow_split.specs.Exact.{IsExact, all_in_sight};
 ghost use Rattle.cow_jump.specs.Jumps.{AreJumps};
+ghost use Rattle.cow_forest.specs.Store.{frame_from};
 ghost use Rattle.cow_forest.specs.inside.Looking.{look_in, tag_in, IsLook, ShowsFrame, ShowsNoneIn, ShowsNoneFrom, IsNextBelow, nearer_page};
 
 use cow_arena::{CowArena, NodeId};
@@ -60,6 +61,29 @@ pub(crate) fn shown_frame(
         return frame_in(slot);
     }
     frame_upwards(arena, lists, jumps, leaf, page)
+}
+
+/// Returns whether a page of a VMO's node, if there is one, shows this frame. The call costs what `shown_frame` does.
+pub(crate) fn shows(
+    arena: &CowArena,
+    lists: &PageLists,
+    jumps: &JumpTable,
+    leaf: Option<NodeId>,
+    page: PageNo,
+    tag: Tag,
+) -> bool
+    requires forest { IsForest (nodes_of arena.now) arena.now.lists }
+    requires jumps { (next : ℕ) × AreJumps (tree_of arena.now lists.now) next jumps.now }
+    requires node { IfSome leaf (λ at. IsSome (nodes_of arena.now at.0)) }
+    ensures { (result ≡ true) ↔ (frame_from (tree_of arena.now lists.now) leaf page ≡ Some tag.0) }
+{
+    let Some(at) = leaf else {
+        return false;
+    };
+    match shown_frame(arena, lists, jumps, at, page) {
+        Some(shown) => shown.0 == tag.0,
+        None => false,
+    }
 }
 
 /// Returns the frame of a page with this row of its own.

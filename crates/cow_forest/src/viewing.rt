@@ -1,14 +1,16 @@
 //! The VMOs that show a frame.
 
-ghost use Rattle.std.specs.Prelude.{◌≡◌, ℕ, Bool, IsSome, IsSomeAnd, Some, None};
+ghost use Rattle.std.specs.Prelude.{◌≡◌, ℕ, Bool, IsSome, IfSome, IsSomeAnd, Some, None};
 ghost use Rattle.cow_arena.specs.Nodes.{nodes_of, other_side};
 ghost use Rattle.cow_arena.specs.Forest.{IsForest};
 ghost use Rattle.cow_arena.specs.Walk.{frame_at};
 ghost use Rattle.cow_split.specs.Trees.{tree_of};
 ghost use Rattle.cow_split.specs.Sight.{IsPage};
 ghost use Rattle.cow_split.specs.Exact.{IsExact, all_in_sight};
+ghost use Rattle.cow_forest.specs.inside.Founders.{IsElderFor};
 ghost use Rattle.cow_forest.specs.inside.Viewing.{HasFrameRow, IsViewerCount, IsLeastKoidOf, HasLesserOf};
 
+use crate::founders::FounderTable;
 use cow_arena::{CowArena, NodeId, Side};
 use cow_split::{Holder, holder, koid_below, least_koid, lesser, viewer_count};
 use page_list::PageLists;
@@ -55,6 +57,27 @@ pub(crate) fn lesser_koid_of(
         return Some(less);
     }
     koid_below(arena, lists, other_side(first), node, page, koid)
+}
+
+/// Returns the elder founder of a hidden node, if of all VMOs below the node it alone may have a koid below this one.
+pub(crate) fn elder_for(
+    arena: &CowArena,
+    table: &FounderTable,
+    node: NodeId,
+    koid: Koid,
+) -> Option<Koid>
+    requires { IsSome (nodes_of arena.now node.0) }
+    ensures { IfSome result (λ elder. IsElderFor (nodes_of arena.now) table.now node.0 koid elder) }
+{
+    if arena.look(node).koid.is_some() {
+        return None;
+    }
+    let founders = table.get(node)?;
+    if koid.0 <= founders.younger.0 {
+        Some(founders.elder)
+    } else {
+        None
+    }
 }
 
 /// Returns the side on which a search below a node begins.

@@ -2,9 +2,11 @@ use Rattle.std.proofs.Common.{refl, arith}
 use Rattle.cow_forest.specs.Store.{Forest, tree}
 use Rattle.cow_forest.proofs.EmptyLaws.{HasNothing, store-empty, content-empty}
 use Rattle.cow_jump.proofs.JumpLaws.{empty-jumps}
+use Rattle.cow_arena.specs.Nodes.{nodes_of}
+use Rattle.cow_forest.proofs.FounderLaws.{founders-none}
 use Rattle.cow_forest.proofs.forest.CowForest.new.Goals as goal
 
-abbrev made : goal.After-new-6 → Forest
+abbrev made : goal.After-new-7 → Forest
 made c = record {
   arena = c.new.result;
   rows = c.new-2.result;
@@ -15,7 +17,7 @@ made c = record {
   vmos = 0;
 }
 
-nothing-there : (c : goal.After-new-6) → HasNothing (made c)
+nothing-there : (c : goal.After-new-7) → HasNothing (made c)
 nothing-there c = record {
   nodes = c.new.ensures.nodes;
   lists = c.new.ensures.lists;
@@ -32,6 +34,7 @@ pub invariant_of-result : goal.invariant_of-result
 invariant_of-result c = record {
   store = store-empty (made c) (nothing-there c);
   jumps = empty-jumps (tree (made c)) 1 c.new-6.result (omega arith) c.new-6.ensures.jumps c.new-6.ensures.serials;
+  founders = founders-none (nodes_of c.new.result) c.new.ensures.nodes 1 c.new-7.result;
 }
 
 pub returns : goal.returns

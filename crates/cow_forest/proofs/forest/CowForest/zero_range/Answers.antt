@@ -36,6 +36,7 @@ invariant_of-self g c =
             | inl had ↦ inl had
             | inr here ↦ inr (here.0, (here.1, here.2))
           ]) c.self.inside.next c.self.inside.jumps c.self.invariant.jumps;
+      founders = c.self.invariant.founders;
     }
 
 pub returns-clause-content : goal.returns-clause-content

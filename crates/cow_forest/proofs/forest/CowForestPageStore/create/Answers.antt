@@ -1,4 +1,4 @@
-use Rattle.std.proofs.Common.{ℕ, refl, ap, ◌∙◌, arith}
+use Rattle.std.proofs.Common.{ℕ, refl, sym, ap, subst, ◌∙◌, arith}
 use Rattle.std.specs.Prelude.{Option, is_some}
 use Rattle.vm_base.specs.Entries.{with_key}
 use Rattle.vm_base.proofs.EntryLaws.{with_key-same}
@@ -9,6 +9,8 @@ use Rattle.cow_forest.proofs.EnterLaws.{store-alike, vmos_le}
 use Rattle.cow_forest.proofs.MakingLaws.{HasRoot, store-made, content-made}
 use Rattle.cow_jump.proofs.JumpRowLaws.{jumps-alike}
 use Rattle.cow_forest.proofs.JumpKeptLaws.{tree-alike, jumps-root}
+use Rattle.cow_forest.specs.inside.Founders.{AreFounders}
+use Rattle.cow_forest.proofs.FounderLaws.{founders-root}
 use Rattle.cow_forest.proofs.forest.CowForestPageStore.create.Goals as goal
 
 -- nothing came where there was no room
@@ -18,6 +20,7 @@ invariant_of-self c = record {
       (record { arena_nodes = refl; lists = refl; visible = refl; nodes_in = c.make_room.ensures.nodes; owners_in = c.make_room.ensures.owners })
       c.self.invariant.store;
   jumps = c.self.invariant.jumps;
+  founders = c.self.invariant.founders;
 }
 
 pub invariant_of-self-in_err-node : goal.invariant_of-self-in_err-node
@@ -33,6 +36,7 @@ invariant_of-self-in_err-node c = record {
       c.self.invariant.store;
   jumps = jumps-alike _ _ c.self.inside.next c.self.inside.jumps
       (tree-alike c.self.inside.arena c.add_root.new.self c.self.inside.lists c.in_err-node.ensures.err c.in_err-node.ensures.err_lists) c.self.invariant.jumps;
+  founders = subst (λ (n : Nodes). AreFounders n c.self.inside.next c.self.inside.founders) (sym c.in_err-node.ensures.err) c.self.invariant.founders;
 }
 
 pub node-requires : goal.node-requires
@@ -61,6 +65,8 @@ invariant_of-self-2 c = record {
   store = store-made (forest_of c.self.inside) c.self.invariant.store _ _ _ _ _ (came c);
   jumps = jumps-root (forest_of c.self.inside) c.self.invariant.store c.add_root.new.self c.in_ok-node.node.0 c.self.inside.next c.args.count c.in_ok-node.ensures.new
       c.in_ok-node.ensures.nodes c.add_root.ensures.forest c.self.inside.next c.self.inside.jumps c.self.invariant.jumps;
+  founders = founders-root (nodes_of c.self.inside.arena) (nodes_of c.add_root.new.self) c.in_ok-node.node.0 c.self.inside.arena.lists c.args.count
+      (record { 0 = c.self.inside.next }) c.in_ok-node.ensures.nodes c.self.inside.next c.self.inside.founders c.self.invariant.founders;
 }
 
 pub returns-clause-ok : goal.returns-clause-ok

@@ -1,10 +1,12 @@
-use Rattle.std.proofs.Common.{ap}
+use Rattle.std.proofs.Common.{ap, sym, ◌∙◌, arith}
 use Rattle.std.specs.Prelude.{is_some}
 use Rattle.cow_forest.specs.inside.Fields.{forest_of}
 use Rattle.cow_forest.specs.Store.{tree}
 use Rattle.cow_forest.proofs.LeavingLaws.{one-of, store-left, content-left}
 use Rattle.cow_jump.proofs.JumpRowLaws.{jumps-retired}
 use Rattle.cow_forest.proofs.JumpKeptLaws.{jumps-closed}
+use Rattle.cow_arena.specs.Nodes.{nodes_of}
+use Rattle.cow_forest.proofs.FounderLaws.{founders-stay}
 use Rattle.cow_forest.proofs.forest.CowForestPageStore.drop_vmo.Goals as goal
 
 pub disown-merged-requires-clause-leaf : goal.disown-merged-requires-clause-leaf
@@ -34,6 +36,10 @@ invariant_of-self c =
       jumps = c.renew_merged.ensures c.self.inside.next
           (jumps-closed (tree (forest_of c.self.inside)) _ c.self.inside.next c.get-node.result.0 c.self.inside.jumps c.retire_pair.new.jumps c.self.invariant.jumps
           c.retire_pair.ensures c.close_by_jumps.ensures.ways (λ k now at. let was = c.close_by_jumps.ensures.closed.came k now at in (was.node, was.at)));
+      founders = founders-stay (nodes_of c.self.inside.arena) (nodes_of c.close_by_jumps.new.arena) c.self.inside.next c.self.inside.next (omega arith)
+          c.close_by_jumps.ensures.parents
+          (λ k now at hidden. let was = c.close_by_jumps.ensures.closed.came k now at in (was.node, was.at, sym was.koid ∙ hidden))
+          c.self.inside.founders c.self.invariant.founders;
     }
 
 pub returns-clause-content : goal.returns-clause-content

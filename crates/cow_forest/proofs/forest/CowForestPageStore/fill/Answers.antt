@@ -25,6 +25,7 @@ invariant_of-self c = record {
   store = either (forest_of c.self.inside) c.fill.new.self c.fill.result c.self.invariant.store (rw (← c.self.view_is) at c.requires.empty)
       c.fill.ensures.taken c.fill.ensures.err;
   jumps = c.self.invariant.jumps;
+  founders = c.self.invariant.founders;
 }
 
 pub returns-clause-ok : goal.returns-clause-ok

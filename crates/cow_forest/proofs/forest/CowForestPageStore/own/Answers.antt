@@ -21,6 +21,7 @@ invariant_of-self c =
       store = store-owned (forest_of c.self.inside) c.self.invariant.store c.args.v.0 c.args.page (rw (← c.self.view_is) at c.requires.page) _ c.get-node.ensures _ _ _ c.own_page.ensures;
       jumps = jumps-rows (forest_of c.self.inside) c.self.invariant.store c.own_page.new.lists c.args.v.0 c.get-node.result.0
           (c.self.invariant.store.named c.args.v.0 c.get-node.result c.get-node.ensures) c.own_page.ensures.rows c.self.inside.next c.self.inside.jumps c.self.invariant.jumps;
+      founders = c.self.invariant.founders;
     }
 
 pub returns-clause-owns : goal.returns-clause-owns

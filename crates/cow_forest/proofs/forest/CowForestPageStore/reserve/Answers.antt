@@ -7,4 +7,5 @@ pub invariant_of-self : goal.invariant_of-self
 invariant_of-self c = record {
   store = store-roomy (forest_of c.self.inside) c.reserve.new.self c.self.invariant.store c.reserve.ensures.rows;
   jumps = jumps-roomy c.self.inside.arena c.self.inside.lists c.reserve.new.self c.reserve.ensures.rows c.self.inside.next c.self.inside.jumps c.self.invariant.jumps;
+  founders = c.self.invariant.founders;
 }

@@ -2,11 +2,13 @@ use Rattle.std.proofs.Common.{ap, sym, ◌∙◌, arith}
 use Rattle.std.specs.Prelude.{is_some}
 use Rattle.vm_base.proofs.EntryLaws.{some_same}
 use Rattle.cow_arena.specs.declared.node.Node.{Node}
+use Rattle.cow_arena.specs.Nodes.{nodes_of}
 use Rattle.cow_merge.specs.Merging.{HasShrunk}
 use Rattle.cow_forest.specs.inside.Fields.{forest_of}
 use Rattle.cow_forest.proofs.ContentLaws.{node-visible}
 use Rattle.cow_forest.proofs.ResizingLaws.{shrunk-grown, store-resized, content-resized}
 use Rattle.cow_forest.proofs.JumpKeptLaws.{jumps-resized}
+use Rattle.cow_forest.proofs.FounderLaws.{founders-resized}
 use Rattle.cow_forest.proofs.forest.CowForestPageStore.set_count.Goals as goal
 
 pub shrink_by_jumps-requires-clause-leaf : goal.shrink_by_jumps-requires-clause-leaf
@@ -29,6 +31,9 @@ invariant_of-self c =
     record {
       store = store-resized (forest_of c.self.inside) _ _ _ c.args.v.0 c.get-node.result.0 c.args.count s h c.shrink_by_jumps.ensures c.requires.count;
       jumps = jumps-resized (forest_of c.self.inside) s c.shrink_by_jumps.new.arena c.shrink_by_jumps.new.lists c.shrink_by_jumps.new.frames c.args.v.0 c.get-node.result.0 c.args.count h c.shrink_by_jumps.ensures c.self.inside.next c.self.inside.jumps c.self.invariant.jumps;
+      founders = founders-resized (nodes_of c.self.inside.arena) (nodes_of c.shrink_by_jumps.new.arena) c.get-node.result.0 c.args.count h.node
+          (node-visible (forest_of c.self.inside) s c.args.v.0 c.get-node.result.0 h) (c.shrink_by_jumps.ensures.nodes h.node h.is.at) c.self.inside.next
+          c.self.inside.founders c.self.invariant.founders;
     }
 
 pub returns-then-count-node-clause-content : goal.returns-then-count-node-clause-content
@@ -53,6 +58,9 @@ invariant_of-self-else-count-node c =
     record {
       store = store-resized (forest_of c.self.inside) _ _ _ c.args.v.0 c.get-node.result.0 c.args.count s h (grown c) c.requires.count;
       jumps = jumps-resized (forest_of c.self.inside) s c.set_count.new.self c.self.inside.lists c.self.inside.frames c.args.v.0 c.get-node.result.0 c.args.count h (grown c) c.self.inside.next c.self.inside.jumps c.self.invariant.jumps;
+      founders = founders-resized (nodes_of c.self.inside.arena) (nodes_of c.set_count.new.self) c.get-node.result.0 c.args.count h.node
+          (node-visible (forest_of c.self.inside) s c.args.v.0 c.get-node.result.0 h) ((grown c).nodes h.node h.is.at) c.self.inside.next
+          c.self.inside.founders c.self.invariant.founders;
     }
 
 pub returns-else-count-node-clause-content : goal.returns-else-count-node-clause-content

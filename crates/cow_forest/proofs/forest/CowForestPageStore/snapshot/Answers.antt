@@ -1,9 +1,9 @@
-use Rattle.std.proofs.Common.{ℕ, ◌+◌, Option, refl, sym, ap, ◌∙◌, arith}
+use Rattle.std.proofs.Common.{ℕ, ◌+◌, Option, refl, sym, ap, subst, ◌∙◌, arith}
 use Rattle.std.specs.Prelude.{is_some}
 use Rattle.vm_base.specs.Entries.{with_key}
 use Rattle.cow_arena.specs.declared.node.NodeId.{NodeId}
 use Rattle.frame_pool.specs.Pool.{is_taken}
-use Rattle.cow_arena.specs.Nodes.{nodes_of}
+use Rattle.cow_arena.specs.Nodes.{Nodes, nodes_of}
 use Rattle.cow_arena.proofs.ForestLaws.{held_apart}
 use Rattle.cow_split.specs.Trees.{tree_of}
 use Rattle.cow_forest.specs.inside.Fields.{forest_of}
@@ -15,6 +15,8 @@ use Rattle.cow_forest.proofs.EnterLaws.{found-node, store-alike, vmos_le}
 use Rattle.cow_forest.proofs.SnapshotLaws.{hidden-held, leaf-held, HasPair, store-shared, content-shared}
 use Rattle.cow_jump.proofs.JumpRowLaws.{jumps-alike}
 use Rattle.cow_forest.proofs.JumpKeptLaws.{tree-alike, jumps-shared}
+use Rattle.cow_forest.specs.inside.Founders.{AreFounders}
+use Rattle.cow_forest.proofs.FounderLaws.{founders-shared}
 use Rattle.cow_forest.proofs.forest.CowForestPageStore.snapshot.Goals as goal
 
 -- nothing came where there was no room
@@ -24,6 +26,7 @@ invariant_of-self c = record {
       (record { arena_nodes = refl; lists = refl; visible = refl; nodes_in = c.make_room.ensures.nodes; owners_in = c.make_room.ensures.owners })
       c.self.invariant.store;
   jumps = c.self.invariant.jumps;
+  founders = c.self.invariant.founders;
 }
 
 pub invariant_of-self-in_err-pair : goal.invariant_of-self-in_err-pair
@@ -39,6 +42,7 @@ invariant_of-self-in_err-pair c = rw c.in_err-pair.ensures.err_rows (record {
       c.self.invariant.store;
   jumps = jumps-alike _ _ c.self.inside.next c.self.inside.jumps
       (tree-alike c.self.inside.arena c.share.new.arena c.self.inside.lists c.in_err-pair.ensures.err c.in_err-pair.ensures.err_lists) c.self.invariant.jumps;
+  founders = subst (λ (n : Nodes). AreFounders n c.self.inside.next c.self.inside.founders) (sym c.in_err-pair.ensures.err) c.self.invariant.founders;
 })
 
 pub share-requires-clause-leaf : goal.share-requires-clause-leaf
@@ -94,6 +98,9 @@ invariant_of-self-2 c =
     record {
       store = store-shared (forest_of c.self.inside) c.self.invariant.store _ _ _ _ c.args.of.0 _ _ _ _ _ h (came c);
       jumps = c.note_pair.ensures _ (jumps-now c);
+      founders = founders-shared (forest_of c.self.inside) c.self.invariant.store c.share.new.arena c.share.new.lists c.args.of c.get-node.result.0
+          c.in_ok-pair.pair _ _ _ _ h c.in_ok-pair.ensures.ok refl c.self.inside.founders c.note.new.self c.self.invariant.founders c.note.ensures.here
+          c.note.ensures.others;
     }
 
 pub returns-clause-ok : goal.returns-clause-ok

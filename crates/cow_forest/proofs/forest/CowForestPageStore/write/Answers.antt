@@ -10,6 +10,7 @@ invariant_of-self c = record {
   store = store-written (forest_of c.self.inside) c.self.invariant.store c.write.new.self c.args.tag.0 c.args.at c.args.bytes.now
       (rw (← c.self.view_is) at c.requires.shown) c.write.ensures.frames c.write.ensures.links c.write.ensures.taken;
   jumps = c.self.invariant.jumps;
+  founders = c.self.invariant.founders;
 }
 
 pub returns-clause-bytes : goal.returns-clause-bytes

@@ -18,6 +18,7 @@ invariant_of-self c =
       store = store-zeroed (forest_of c.self.inside) c.self.invariant.store c.args.v.0 c.args.page (rw (← c.self.view_is) at c.requires.page) _ c.get-node.ensures _ _ c.zero_by_jumps.ensures;
       jumps = jumps-places (forest_of c.self.inside) c.self.invariant.store c.zero_by_jumps.new.lists c.args.v.0 c.get-node.result.0
           (c.self.invariant.store.named c.args.v.0 c.get-node.result c.get-node.ensures) (λ q. q ≡ c.args.page) c.zero_by_jumps.ensures.places c.self.inside.next c.self.inside.jumps c.self.invariant.jumps;
+      founders = c.self.invariant.founders;
     }
 
 pub returns-clause-zero : goal.returns-clause-zero
