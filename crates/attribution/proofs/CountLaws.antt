@@ -12,7 +12,7 @@ use Rattle.vm_model.specs.Machine.Attribution.{is_shared, is_charged}
 use Rattle.vm_model.proofs.ContentLaws.{count_from_page, views_found, sole_alone}
 use Rattle.vm_model.proofs.ContentLaws.{IsOfHeld, IsOfHeld-held}
 use Rattle.pages.specs.Look.TheVariants as look
-use Rattle.pages.specs.Pages.{look_at, frame_of}
+use Rattle.pages.specs.Pages.{look_at, tag_held}
 use Rattle.attribution.specs.declared.counts.Counts.{Counts}
 use Rattle.attribution.specs.inside.Counts.{AreCounts}
 use Rattle.pages.proofs.ChargeLaws.{is_charged-at, is_charged_page-some}
@@ -55,7 +55,7 @@ looks_held c v p tag alone e = go (c.page v p) refl e where
       }
 
 -- it has this frame
-pub held_so-frame : (c : Content) (v p : ℕ) (tag : Tag) (alone : Bool) → IsHeldSo c v p tag alone → Some tag ≡ frame_of (c.page v p)
+pub held_so-frame : (c : Content) (v p : ℕ) (tag : Tag) (alone : Bool) → IsHeldSo c v p tag alone → Some tag ≡ tag_held (c.page v p)
 held_so-frame c v p tag alone is = rw (is.page, is.frame) refl
 
 module _ (c : Content) (v p : ℕ) (tag : Tag) (alone : Bool) (good : IsGood c) (is : IsHeldSo c v p tag alone) where

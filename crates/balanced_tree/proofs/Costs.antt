@@ -5,7 +5,7 @@ use Rattle.std.proofs.Math.Pow.{pow_mono}
 use Rattle.std.proofs.lemmas.Bool.{cases_lt}
 use Rattle.std.proofs.lemmas.Nat.{pow-add, mul-pow}
 use Rattle.balanced_tree.specs.Row.{Functions, plain}
-use Rattle.balanced_tree.specs.inside.Tree.{Tree, Leaf, Node, height, IsBalanced, rows_of}
+use Rattle.balanced_tree.specs.inside.Tree.{SearchTree, Leaf, Node, height, IsBalanced, rows_of}
 
 square_sum : (a b c : ℕ) → c ≤ a ^ 2 → c ≤ b ^ 2 → 4 * c ≤ (a + b) ^ 2
 square_sum a b c g h =
@@ -20,7 +20,7 @@ pow-times n a (suc b) = pow-suc (n ^ a) b ∙ ap (λ m. m * n ^ a) (pow-times n 
 
 module _ {R : Type 0} (f : Functions R) where
   -- The height is at most twice the binary logarithm of one more than the rows: it rises by two only where the rows double.
-  pub height-rows : (t : Tree R) → IsBalanced t → 2 ^ height t ≤ (length (rows_of f t) + 1) ^ 2
+  pub height-rows : (t : SearchTree R) → IsBalanced t → 2 ^ height t ≤ (length (rows_of f t) + 1) ^ 2
   height-rows Leaf h = omega arith
   height-rows (Node l p x r) h =
       let h1 = h.0 in let h2 = h.1 in
@@ -36,7 +36,7 @@ module _ {R : Type 0} (f : Functions R) where
       subst (λ n. 2 ^ height (Node l p x r) ≤ n ^ 2) (sym size) (omega arith)
 
   -- a table that fits the machine has a tree of less than 2 ^ 31 - 1 rows from top to bottom
-  pub height-short : (t : Tree R) → IsBalanced t → length (rows_of f t) < 2 ^ 64 → height t < 2 ^ 31 - 1
+  pub height-short : (t : SearchTree R) → IsBalanced t → length (rows_of f t) < 2 ^ 64 → height t < 2 ^ 31 - 1
   height-short t h fits =
       elim (cases_lt (height t) 129) [
         | inl less ↦ omega arith
@@ -44,7 +44,7 @@ module _ {R : Type 0} (f : Functions R) where
       ]
 
   -- so many steps for each row from top to bottom
-  pub look_cost : (t : Tree R) (each before after : ℕ) → IsBalanced t → after ≤ before + each * height t → 2 ^ (after - before) ≤ (length (rows_of f t) + 1) ^ (2 * each)
+  pub look_cost : (t : SearchTree R) (each before after : ℕ) → IsBalanced t → after ≤ before + each * height t → 2 ^ (after - before) ≤ (length (rows_of f t) + 1) ^ (2 * each)
   look_cost t each before after h steps =
       let up = pow_mono {i = after - before} {j = height t * each} (omega arith) in
       let wide = pow-le-pow_left {n = 2 ^ height t} {m = (length (rows_of f t) + 1) ^ 2} (height-rows t h) each in
@@ -53,7 +53,7 @@ module _ {R : Type 0} (f : Functions R) where
       omega arith
 
   -- thirteen steps for each row from top to bottom, and one more
-  pub change_cost : (t : Tree R) (before after : ℕ) → IsBalanced t → after ≤ before + 13 * height t + 1 → 2 ^ (after - before) ≤ (length (rows_of f t) + 2) ^ 32
+  pub change_cost : (t : SearchTree R) (before after : ℕ) → IsBalanced t → after ≤ before + 13 * height t + 1 → 2 ^ (after - before) ≤ (length (rows_of f t) + 2) ^ 32
   change_cost t before after h steps =
       let n = length (rows_of f t) + 2 in
       let bound = height-rows t h in

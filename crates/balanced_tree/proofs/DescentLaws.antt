@@ -3,7 +3,7 @@ use Rattle.std.proofs.Common.{◌≡◌, ℕ, ◌+◌, ◌<◌, ◌≤◌, Bool,
 use Rattle.std.specs.Option.{option_map}
 use Rattle.slab.specs.Slab.{Slab, get, ContainsKey}
 use Rattle.balanced_tree.specs.Row.{Functions, AreLawful, plain}
-use Rattle.balanced_tree.specs.inside.Tree.{Tree, Leaf, height, found}
+use Rattle.balanced_tree.specs.inside.Tree.{SearchTree, Leaf, height, found}
 use Rattle.balanced_tree.specs.inside.Standing.{IsStanding, Stands, height_at}
 use Rattle.balanced_tree.proofs.Spelling.{ContainsKey-place_of}
 use Rattle.balanced_tree.proofs.Nodes.{node_of, standing-at, height_at-standing, height-left, height-right, falls-left, lower-left, lower-right, found-leaf, found-left, found-right, found-here}
@@ -11,8 +11,8 @@ use Rattle.balanced_tree.proofs.Nodes.{node_of, standing-at, height_at-standing,
 module _ {R : Type 0} (f : Functions R) where
   -- The way down from a tree has come to this link with this best row: in the part there is found what is found in the
   -- tree. The steps so far and those that the part takes are no more than those of the tree.
-  pub record Leads (s : Slab R) (down : Bool) (n : ℕ) (tree : Tree R) (at : Option ℕ) (best : Option R) (before now : ℕ) : Type 0 where
-    pub part : Tree R
+  pub record Leads (s : Slab R) (down : Bool) (n : ℕ) (tree : SearchTree R) (at : Option ℕ) (best : Option R) (before now : ℕ) : Type 0 where
+    pub part : SearchTree R
     pub low : ℕ
     pub high : ℕ
     pub standing : IsStanding f s at part low high
@@ -21,7 +21,7 @@ module _ {R : Type 0} (f : Functions R) where
 
   -- so for each tree that stands under the link where the way began
   pub record Descends (s : Slab R) (down : Bool) (n : ℕ) (start at : Option ℕ) (best : Option R) (before now : ℕ) : Type 0 where
-    pub leads : (tree : Tree R) (low high : ℕ) → IsStanding f s start tree low high → Leads s down n tree at best before now
+    pub leads : (tree : SearchTree R) (low high : ℕ) → IsStanding f s start tree low high → Leads s down n tree at best before now
 
   pub descends-start : {s : Slab R} {down : Bool} {n before : ℕ} {start : Option ℕ} → Descends s down n start start None before before
   descends-start = record {
@@ -29,13 +29,13 @@ module _ {R : Type 0} (f : Functions R) where
   }
 
   module _ {s : Slab R} {down : Bool} {n before now : ℕ} {start at : Option ℕ} {best : Option R} (h : Descends s down n start at best before now) where
-    pub descends-end : {last : Option R} → at ≡ None → best ≡ last → (tree : Tree R) (low high : ℕ) → IsStanding f s start tree low high
+    pub descends-end : {last : Option R} → at ≡ None → best ≡ last → (tree : SearchTree R) (low high : ℕ) → IsStanding f s start tree low high
         → option_map (plain f) last ≡ found f down n None tree
     descends-end none is tree low high stands =
         let l = h.leads tree low high stands in
         sym (found-leaf f l.part down n _ none l.standing ∙ ap (option_map (plain f)) is) ∙ l.finds
 
-    pub descends-steps : (tree : Tree R) (low high : ℕ) → IsStanding f s start tree low high → now ≤ before + height tree
+    pub descends-steps : (tree : SearchTree R) (low high : ℕ) → IsStanding f s start tree low high → now ≤ before + height tree
     descends-steps tree low high stands = omega (arith, (h.leads tree low high stands).steps)
 
     pub descends-place : {p : ℕ} → Stands f s start → at ≡ Some p → ContainsKey s p

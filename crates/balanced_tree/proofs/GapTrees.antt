@@ -9,7 +9,7 @@ use Rattle.balanced_tree.specs.Row.{Functions, AreLawful, plain}
 use Rattle.balanced_tree.specs.Extents.{Extents, AreSpanned, highest_over, span_over, span_in}
 use Rattle.balanced_tree.specs.Gaps.{ApartWithin, IsFree, HasNoGap, IsFirstGap}
 use Rattle.balanced_tree.specs.inside.GapSearch.{span_of, HasSearched}
-use Rattle.balanced_tree.specs.inside.Tree.{Tree, Leaf, Node, height, child_of, rows_of}
+use Rattle.balanced_tree.specs.inside.Tree.{SearchTree, Leaf, Node, height, child_of, rows_of}
 use Rattle.balanced_tree.specs.inside.Standing.{child_under, child_at, IsStanding}
 use Rattle.balanced_tree.proofs.Spelling.{child_at-place_of}
 use Rattle.balanced_tree.proofs.Nodes.{IsNode, height-left, height-right}
@@ -34,7 +34,7 @@ module _ {R : Type 0} (f : Functions R) (e : Extents R) (laws : AreLawful f) (sp
   end-plain : (x : R) → e.end (plain f x) ≡ e.end x
   end-plain x = spans.end_kept x None None
 
-  gap_within-rows : (a d : ℕ) (t : Tree R) → gap_within f e a d (rows_of f t) ≡ gap_by a d (span_of f e t)
+  gap_within-rows : (a d : ℕ) (t : SearchTree R) → gap_within f e a d (rows_of f t) ≡ gap_by a d (span_of f e t)
   gap_within-rows a d Leaf = refl
   gap_within-rows a d (Node l p x r) =
       gap_within-append f e a d (rows_of f l) (plain f x) (rows_of f r)
@@ -42,11 +42,11 @@ module _ {R : Type 0} (f : Functions R) (e : Extents R) (laws : AreLawful f) (sp
       (gap_by-over a d (f.rank x) (e.end x) (span_of f e l) (span_of f e r))
 
   -- the extents of a tree end at its highest end
-  pub record EndsAt (low high d : ℕ) (t : Tree R) : Type 0 where
+  pub record EndsAt (low high d : ℕ) (t : SearchTree R) : Type 0 where
     pub apart : ApartWithin f e low (highest_over d (span_of f e t)) (rows_of f t)
     pub below : highest_over d (span_of f e t) ≤ high
 
-  ends_at : (low high d : ℕ) (t : Tree R) → low ≤ d → d ≤ high → ApartWithin f e low high (rows_of f t)
+  ends_at : (low high d : ℕ) (t : SearchTree R) → low ≤ d → d ≤ high → ApartWithin f e low high (rows_of f t)
       → EndsAt low high d t
   ends_at low high d Leaf from to h = record { apart = from; below = to }
   ends_at low high d (Node l p x r) from to h =
@@ -59,20 +59,20 @@ module _ {R : Type 0} (f : Functions R) (e : Extents R) (laws : AreLawful f) (sp
         below = rest.below;
       }
 
-  span_in-child_of : (t : Tree R) → span_in e.span (child_of f t) ≡ span_of f e t
+  span_in-child_of : (t : SearchTree R) → span_in e.span (child_of f t) ≡ span_of f e t
   span_in-child_of Leaf = refl
   span_in-child_of (Node l p x r) =
       ap Some (spans.span_set x (child_of f l) (child_of f r) ∙ rw (span_in-child_of l, span_in-child_of r) refl)
 
   -- the span that is stored at a place is that of the tree there
-  span-standing : {s : Slab R} {p : ℕ} {here : R} {t : Tree R} {low high : ℕ} → IsStanding f s (Some p) t low high
+  span-standing : {s : Slab R} {p : ℕ} {here : R} {t : SearchTree R} {low high : ℕ} → IsStanding f s (Some p) t low high
       → get s p ≡ Some here → span_of f e t ≡ Some (e.span here)
   span-standing {s} {p} {here} {t} h at =
       sym (span_in-child_of t) ∙ ap (span_in e.span) (sym (child_at-place_of f s t h.spelled) ∙ ap (child_at s) h.is_at
       ∙ ap (child_under p) at)
 
   -- the extents of a node: those of its parts, and its own between them
-  pub record IsExtentNode (t l : Tree R) (here : R) (span : Span) (r : Tree R) (low high : ℕ) : Type 0 where
+  pub record IsExtentNode (t l : SearchTree R) (here : R) (span : Span) (r : SearchTree R) (low high : ℕ) : Type 0 where
     pub rows : rows_of f t ≡ rows_of f l ++ plain f here ∷ rows_of f r
     pub spanned : span_of f e t ≡ Some span
     pub apart : IsApartAt f e low high (rows_of f l) (plain f here) (rows_of f r)
@@ -82,7 +82,7 @@ module _ {R : Type 0} (f : Functions R) (e : Extents R) (laws : AreLawful f) (sp
     pub left_lower : height l + 1 ≤ height t
     pub right_lower : height r + 1 ≤ height t
 
-  pub extent_node : {s : Slab R} {at : Option ℕ} {p : ℕ} {here : R} {span : Span} {t : Tree R} {low high a b : ℕ}
+  pub extent_node : {s : Slab R} {at : Option ℕ} {p : ℕ} {here : R} {span : Span} {t : SearchTree R} {low high a b : ℕ}
       → IsStanding f s at t a b → at ≡ Some p → (n : IsNode f s p here t a b) → ApartWithin f e low high (rows_of f t)
       → span ≡ e.span here → IsExtentNode t n.left here span n.right low high
   extent_node {s} {at} {p} {here} {span} {t} {low} {high} {a} {b} h is n apart spanned =
@@ -103,7 +103,7 @@ module _ {R : Type 0} (f : Functions R) (e : Extents R) (laws : AreLawful f) (sp
   abbrev pub Passed : Span → ℕ → ℕ → Type 0
   Passed span from size = (span.highest ≤ from) ⊎ ((span.gap < size) × (span.lowest < from + size))
 
-  module _ {t l r : Tree R} {here : R} {span : Span} {low high : ℕ} (n : IsExtentNode t l here span r low high)
+  module _ {t l r : SearchTree R} {here : R} {span : Span} {low high : ℕ} (n : IsExtentNode t l here span r low high)
       (from size limit : ℕ) where
     highest : EndsAt low high high t
     highest = ends_at low high high t (ApartWithin-bounds f e low high (rows_of f t) n.within) (omega arith) n.within

@@ -5,46 +5,46 @@ use Rattle.slab.specs.Slab.{Slab, get, slab_len, Updates}
 use Rattle.balanced_tree.specs.declared.changes.Change.{Change}
 use Rattle.balanced_tree.specs.declared.changes.Change.TheVariants.{Hidden, Root}
 use Rattle.balanced_tree.specs.Row.{Functions, AreLawful}
-use Rattle.balanced_tree.specs.inside.Tree.{Tree, Leaf, Node, place_of, child_of, balanced, inserted}
+use Rattle.balanced_tree.specs.inside.Tree.{SearchTree, Leaf, Node, place_of, child_of, balanced, inserted}
 use Rattle.balanced_tree.specs.inside.Standing.{child_under, child_at, root_after, IsRooted, Same, IsStanding, Becomes, IsSplit, HasInserted}
 use Rattle.balanced_tree.proofs.Spelling.{Keeps-trans, Same-refl, split_over, split_with, place_over-tree}
 use Rattle.balanced_tree.proofs.Nodes.{IsNode, rank_here, height-left, height-right, right_is, left_is, same_again, left_again, right_again, again_left, again_right, split_left, split_right, kept_wider_left, kept_wider_right, has_rank-left, has_rank-right, has_rank-here}
 use Rattle.balanced_tree.proofs.Hiding.{rooted-at, rooted-hidden, rooted-link, rooted-again, still-left, still-right, becomes-still, even-left, even-right}
 
 module _ {R : Type 0} (f : Functions R) where
-  pub inserted-left : (q : ℕ) (w : R) (l : Tree R) (p : ℕ) (x : R) (r : Tree R) → f.rank w < f.rank x → inserted f q w (Node l p x r) ≡ balanced f (inserted f q w l) p x r
+  pub inserted-left : (q : ℕ) (w : R) (l : SearchTree R) (p : ℕ) (x : R) (r : SearchTree R) → f.rank w < f.rank x → inserted f q w (Node l p x r) ≡ balanced f (inserted f q w l) p x r
   unfolding inserted
   inserted-left q w l p x r h = cond-true (ltb (f.rank w) (f.rank x)) _ _ (lt-ltb _ _ h)
 
-  pub inserted-right : (q : ℕ) (w : R) (l : Tree R) (p : ℕ) (x : R) (r : Tree R) → f.rank x < f.rank w → inserted f q w (Node l p x r) ≡ balanced f l p x (inserted f q w r)
+  pub inserted-right : (q : ℕ) (w : R) (l : SearchTree R) (p : ℕ) (x : R) (r : SearchTree R) → f.rank x < f.rank w → inserted f q w (Node l p x r) ≡ balanced f l p x (inserted f q w r)
   unfolding inserted
   inserted-right q w l p x r h = cond-false (ltb (f.rank w) (f.rank x)) _ _ (le-ltb _ _ (omega arith)) ∙ cond-true (ltb (f.rank x) (f.rank w)) _ _ (lt-ltb _ _ h)
 
-  pub inserted-here : (q : ℕ) (w : R) (l : Tree R) (p : ℕ) (x : R) (r : Tree R) → f.rank w ≡ f.rank x → inserted f q w (Node l p x r) ≡ Node l p w r
+  pub inserted-here : (q : ℕ) (w : R) (l : SearchTree R) (p : ℕ) (x : R) (r : SearchTree R) → f.rank w ≡ f.rank x → inserted f q w (Node l p x r) ≡ Node l p w r
   unfolding inserted
   inserted-here q w l p x r h = cond-false (ltb (f.rank w) (f.rank x)) _ _ (le-ltb _ _ (omega arith)) ∙ cond-false (ltb (f.rank x) (f.rank w)) _ _ (le-ltb _ _ (omega arith))
 
   -- what `balance` says of the trees that it is given
   abbrev pub Balances : Slab R → Slab R → ℕ → R → Option ℕ → Option ℕ → ℕ → Type 0
   Balances s s1 p w left right root =
-      (l : Tree R) (x : R) (r : Tree R) (low high : ℕ) → IsSplit f s l p x r low high → Same f x w → place_of l ≡ left → place_of r ≡ right
+      (l : SearchTree R) (x : R) (r : SearchTree R) (low high : ℕ) → IsSplit f s l p x r low high → Same f x w → place_of l ≡ left → place_of r ≡ right
       → Becomes f s s1 (balanced f l p x r) low high × (place_of (balanced f l p x r) ≡ Some root)
 
   -- what `rebalance` says of them
   abbrev pub Rebalances : Slab R → Slab R → ℕ → R → Option ℕ → Option ℕ → Change → Type 0
   Rebalances s s1 p w left right change =
-      (l : Tree R) (x : R) (r : Tree R) (low high : ℕ) → IsSplit f s l p x r low high → Same f x w → place_of l ≡ left → place_of r ≡ right
+      (l : SearchTree R) (x : R) (r : SearchTree R) (low high : ℕ) → IsSplit f s l p x r low high → Same f x w → place_of l ≡ left → place_of r ≡ right
       → Becomes f s s1 (balanced f l p x r) low high × IsRooted f (child_under p (Some w)) (balanced f l p x r) change
 
   -- a change of a part, and then one of the whole
-  pub Becomes-left : {s s1 s2 : Slab R} {p : ℕ} {here : R} {t u l : Tree R} {low high : ℕ} (n : IsNode f s p here t low high) → Becomes f s s1 l low (f.rank n.row) → Becomes f s1 s2 u low high → Becomes f s s2 u low high
+  pub Becomes-left : {s s1 s2 : Slab R} {p : ℕ} {here : R} {t u l : SearchTree R} {low high : ℕ} (n : IsNode f s p here t low high) → Becomes f s s1 l low (f.rank n.row) → Becomes f s1 s2 u low high → Becomes f s s2 u low high
   Becomes-left n one two = record { spelled = two.spelled; ordered = two.ordered; kept = Keeps-trans f (kept_wider_left f n one.kept) two.kept }
 
-  pub Becomes-right : {s s1 s2 : Slab R} {p : ℕ} {here : R} {t u r : Tree R} {low high : ℕ} (n : IsNode f s p here t low high) → Becomes f s s1 r (f.rank n.row + 1) high → Becomes f s1 s2 u low high → Becomes f s s2 u low high
+  pub Becomes-right : {s s1 s2 : Slab R} {p : ℕ} {here : R} {t u r : SearchTree R} {low high : ℕ} (n : IsNode f s p here t low high) → Becomes f s s1 r (f.rank n.row + 1) high → Becomes f s1 s2 u low high → Becomes f s s2 u low high
   Becomes-right n one two = record { spelled = two.spelled; ordered = two.ordered; kept = Keeps-trans f (kept_wider_right f n one.kept) two.kept }
 
   pub insert-left :
-      {s s1 s2 : Slab R} {p : ℕ} {here again w : R} {t : Tree R} {low high before b1 b2 b3 after : ℕ} {left right : Option ℕ} {part change : Change}
+      {s s1 s2 : Slab R} {p : ℕ} {here again w : R} {t : SearchTree R} {low high before b1 b2 b3 after : ℕ} {left right : Option ℕ} {part change : Change}
       → AreLawful f → (n : IsNode f s p here t low high) → f.rank w < f.rank here
       → HasInserted f s s1 w n.left low (f.rank n.row) part b1 b2 → left ≡ root_after part (f.left here)
       → get s1 p ≡ Some again → right ≡ f.right again
@@ -64,7 +64,7 @@ module _ {R : Type 0} (f : Functions R) where
       }
 
   pub insert-right :
-      {s s1 s2 : Slab R} {p : ℕ} {here again w : R} {t : Tree R} {low high before b1 b2 b3 after : ℕ} {left right : Option ℕ} {part change : Change}
+      {s s1 s2 : Slab R} {p : ℕ} {here again w : R} {t : SearchTree R} {low high before b1 b2 b3 after : ℕ} {left right : Option ℕ} {part change : Change}
       → AreLawful f → (n : IsNode f s p here t low high) → f.rank here < f.rank w
       → HasInserted f s s1 w n.right (f.rank n.row + 1) high part b1 b2 → right ≡ root_after part (f.right here)
       → get s1 p ≡ Some again → left ≡ f.left again
@@ -85,7 +85,7 @@ module _ {R : Type 0} (f : Functions R) where
 
   -- the row hides the change of a part
   pub insert-left_hidden :
-      {s s1 : Slab R} {p : ℕ} {here w : R} {t : Tree R} {low high before b1 b2 : ℕ} {part : Change}
+      {s s1 : Slab R} {p : ℕ} {here w : R} {t : SearchTree R} {low high before b1 b2 : ℕ} {part : Change}
       → AreLawful f → (n : IsNode f s p here t low high) → f.rank w < f.rank here
       → HasInserted f s s1 w n.left low (f.rank n.row) part b1 b2 → part ≡ Hidden → b1 ≤ before + 1
       → HasInserted f s s1 w t low high Hidden before b2
@@ -102,7 +102,7 @@ module _ {R : Type 0} (f : Functions R) where
       }
 
   pub insert-right_hidden :
-      {s s1 : Slab R} {p : ℕ} {here w : R} {t : Tree R} {low high before b1 b2 : ℕ} {part : Change}
+      {s s1 : Slab R} {p : ℕ} {here w : R} {t : SearchTree R} {low high before b1 b2 : ℕ} {part : Change}
       → AreLawful f → (n : IsNode f s p here t low high) → f.rank here < f.rank w
       → HasInserted f s s1 w n.right (f.rank n.row + 1) high part b1 b2 → part ≡ Hidden → b1 ≤ before + 1
       → HasInserted f s s1 w t low high Hidden before b2
@@ -119,7 +119,7 @@ module _ {R : Type 0} (f : Functions R) where
       }
 
   pub insert-here :
-      {s s2 : Slab R} {p : ℕ} {here w : R} {t : Tree R} {low high before after root : ℕ} {left right : Option ℕ}
+      {s s2 : Slab R} {p : ℕ} {here w : R} {t : SearchTree R} {low high before after root : ℕ} {left right : Option ℕ}
       → AreLawful f → (n : IsNode f s p here t low high) → f.rank here ≤ f.rank w → f.rank w ≤ f.rank here
       → left ≡ f.left here → right ≡ f.right here
       → Updates s s2 p (Some (f.linked w (child_at s left) (child_at s right))) → root ≡ p
@@ -144,7 +144,7 @@ module _ {R : Type 0} (f : Functions R) where
 
   pub insert-leaf :
       {s s2 : Slab R} {w : R} {low high before after link : ℕ}
-      (t : Tree R) → IsStanding f s None t low high → low ≤ f.rank w → f.rank w < high
+      (t : SearchTree R) → IsStanding f s None t low high → low ≤ f.rank w → f.rank w < high
       → get s link ≡ None → link ≡ s.vacant_key
       → Updates s s2 link (Some (f.linked w None None)) → slab_len s2 ≡ slab_len s + 1 → after ≤ before + 1
       → HasInserted f s s2 w t low high (Root link) before after

@@ -6,7 +6,7 @@ use Rattle.slab.specs.Slab.{Slab, get, slab_len, ContainsKey, Updates}
 use Rattle.balanced_tree.specs.declared.changes.Change.{Change}
 use Rattle.balanced_tree.specs.declared.changes.Change.TheVariants.{Hidden}
 use Rattle.balanced_tree.specs.Row.{Functions, AreLawful, AreAlike}
-use Rattle.balanced_tree.specs.inside.Tree.{Tree, Leaf, Node, child_of, moved, AreBeside}
+use Rattle.balanced_tree.specs.inside.Tree.{SearchTree, Leaf, Node, child_of, moved, AreBeside}
 use Rattle.balanced_tree.specs.inside.Standing.{child_under, child_at, root_after, IsRooted, IsStanding, StandsBeside, Becomes, IsSplit, HasMoved}
 use Rattle.balanced_tree.proofs.Spelling.{Keeps-refl, Same-refl, child_at-link, ContainsKey-place_of, place_over-tree}
 use Rattle.balanced_tree.proofs.Nodes.{IsNode, node_of, standing-at, rank_here, height-left, height-right, right_is, left_is, same_again, again_left, again_right, split_left, split_right, left_kept, right_kept}
@@ -15,7 +15,7 @@ use Rattle.balanced_tree.proofs.Insertions.{Becomes-left, Becomes-right}
 use Rattle.balanced_tree.proofs.TreeLaws.{moved-left, moved-right, moved-here, moved-leaf, place-moved, ordered-below, ordered-above}
 
 module _ {R : Type 0} (f : Functions R) where
-  pub move-leaf : {s : Slab R} {at : Option ℕ} (t : Tree R) {low high before : ℕ} (n : ℕ) (w : R) → at ≡ None → IsStanding f s at t low high → HasMoved f s s n w t low high Hidden before before
+  pub move-leaf : {s : Slab R} {at : Option ℕ} (t : SearchTree R) {low high before : ℕ} (n : ℕ) (w : R) → at ≡ None → IsStanding f s at t low high → HasMoved f s s n w t low high Hidden before before
   move-leaf {s} Leaf {low} {high} n w none h = record {
     becomes = subst (λ u. Becomes f s s u low high) (sym (moved-leaf f n w)) (record { spelled = tt; ordered = h.ordered; kept = Keeps-refl f low high s });
     rooted = rooted-hidden f (like-same f (ap (child_of f) (sym (moved-leaf f n w))));
@@ -24,7 +24,7 @@ module _ {R : Type 0} (f : Functions R) where
   }
   move-leaf {s} (Node l p x r) n w none h = let some : Some p ≡ None = h.is_at ∙ none in absurd cc
 
-  module _ {s s1 s2 : Slab R} {p : ℕ} {here again w : R} {t : Tree R} {low high n before b1 b2 b3 after : ℕ} {left right : Option ℕ} {part change : Change}
+  module _ {s s1 s2 : Slab R} {p : ℕ} {here again w : R} {t : SearchTree R} {low high n before b1 b2 b3 after : ℕ} {left right : Option ℕ} {part change : Change}
       (laws : AreLawful f) (d : IsNode f s p here t low high) (left_link : left ≡ f.left here) (right_link : right ≡ f.right here) where
     -- where the way down went to the left
     pub move-left : n < f.rank here → HasMoved f s s1 n w d.left low (f.rank d.row) part b1 b2
@@ -63,7 +63,7 @@ module _ {R : Type 0} (f : Functions R) where
         }
 
   -- the row hides the change of a part
-  module _ {s s1 : Slab R} {p : ℕ} {here w : R} {t : Tree R} {low high n before b1 b2 : ℕ} {part : Change} (laws : AreLawful f) (d : IsNode f s p here t low high) where
+  module _ {s s1 : Slab R} {p : ℕ} {here w : R} {t : SearchTree R} {low high n before b1 b2 : ℕ} {part : Change} (laws : AreLawful f) (d : IsNode f s p here t low high) where
     pub move-left_hidden : n < f.rank here → HasMoved f s s1 n w d.left low (f.rank d.row) part b1 b2 → part ≡ Hidden → b1 ≤ before + 1 → HasMoved f s s1 n w t low high Hidden before b2
     move-left_hidden less sub is_hidden g =
         let is = ap (moved f n w) d.is ∙ moved-left f n w d.left p d.row d.right (omega (arith, rank_here f d)) in
@@ -87,18 +87,18 @@ module _ {R : Type 0} (f : Functions R) where
         }
 
   -- the parts of a node are beside both ranks too
-  beside-node : {s : Slab R} {p : ℕ} {here : R} {t : Tree R} {low high : ℕ} (n m : ℕ) (d : IsNode f s p here t low high) → AreBeside f n m t → AreBeside f n m (Node d.left p d.row d.right)
+  beside-node : {s : Slab R} {p : ℕ} {here : R} {t : SearchTree R} {low high : ℕ} (n m : ℕ) (d : IsNode f s p here t low high) → AreBeside f n m t → AreBeside f n m (Node d.left p d.row d.right)
   beside-node n m d b = subst (AreBeside f n m) d.is b
 
-  pub sub-left : {s : Slab R} {p : ℕ} {here : R} {t : Tree R} {low high k : ℕ} (n m : ℕ) (d : IsNode f s p here t low high) → AreBeside f n m t → k ≡ f.rank here → n < k
+  pub sub-left : {s : Slab R} {p : ℕ} {here : R} {t : SearchTree R} {low high k : ℕ} (n m : ℕ) (d : IsNode f s p here t low high) → AreBeside f n m t → k ≡ f.rank here → n < k
       → AreBeside f n m d.left × (m < f.rank d.row)
   sub-left n m d b is less = let sides = beside-node n m d b in let same = rank_here f d in (sides.1, sides.0.1 (omega arith))
 
-  pub sub-right : {s : Slab R} {p : ℕ} {here : R} {t : Tree R} {low high k : ℕ} (n m : ℕ) (d : IsNode f s p here t low high) → AreBeside f n m t → k ≡ f.rank here → k < n
+  pub sub-right : {s : Slab R} {p : ℕ} {here : R} {t : SearchTree R} {low high k : ℕ} (n m : ℕ) (d : IsNode f s p here t low high) → AreBeside f n m t → k ≡ f.rank here → k < n
       → AreBeside f n m d.right × (f.rank d.row + 1 ≤ m)
   sub-right n m d b is more = let sides = beside-node n m d b in let same = rank_here f d in let above = sides.0.0 (omega arith) in (sides.2, omega arith)
 
-  pub move-here : {s s2 : Slab R} {p : ℕ} {here w now : R} {t : Tree R} {low high n before after : ℕ} {left right : Option ℕ} {change : Change}
+  pub move-here : {s s2 : Slab R} {p : ℕ} {here w now : R} {t : SearchTree R} {low high n before after : ℕ} {left right : Option ℕ} {change : Change}
       → AreLawful f → (d : IsNode f s p here t low high) → f.rank here ≤ n → n ≤ f.rank here → AreBeside f n (f.rank w) t → low ≤ f.rank w → f.rank w < high
       → left ≡ f.left here → right ≡ f.right here
       → Updates s s2 p (Some (f.linked w (child_at s left) (child_at s right))) → slab_len s2 ≡ slab_len s → after ≤ before + 5
@@ -179,7 +179,7 @@ module _ {R : Type 0} (f : Functions R) where
       }
 
   -- the links to the parts of a node lead to rows, also after a change of one part
-  module _ {s s1 : Slab R} {p n : ℕ} {here w : R} {t : Tree R} {low high b1 b2 : ℕ} {left right : Option ℕ} {part : Change}
+  module _ {s s1 : Slab R} {p n : ℕ} {here w : R} {t : SearchTree R} {low high b1 b2 : ℕ} {left right : Option ℕ} {part : Change}
       (laws : AreLawful f) (d : IsNode f s p here t low high) (left_link : left ≡ f.left here) (right_link : right ≡ f.right here) where
     pub left-readable : HasMoved f s s1 n w d.left low (f.rank d.row) part b1 b2 → (q : ℕ) → left ≡ Some q → ContainsKey s1 q
     left-readable sub q e = ContainsKey-place_of f s1 (moved f n w d.left) q sub.becomes.spelled (place-moved f n w d.left ∙ (d.left_standing.is_at ∙ (sym left_link ∙ e)))

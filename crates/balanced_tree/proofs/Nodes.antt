@@ -5,27 +5,27 @@ use Rattle.std.proofs.lemmas.Option.{same_Some}
 use Rattle.slab.specs.Slab.{Slab, get, ContainsKey, HasRoomFor}
 use Rattle.std.specs.Option.{option_map}
 use Rattle.balanced_tree.specs.Row.{Functions, AreLawful, height_in, plain}
-use Rattle.balanced_tree.specs.inside.Tree.{Tree, Leaf, Node, place_of, height, child_of, stored, has_rank, row_in, found}
+use Rattle.balanced_tree.specs.inside.Tree.{SearchTree, Leaf, Node, place_of, height, child_of, stored, has_rank, row_in, found}
 use Rattle.balanced_tree.specs.inside.Standing.{child_at, Spells, Same, IsStanding, Stands, StandsFor, Keeps, Becomes, IsSplit, Splits, height_at}
 use Rattle.balanced_tree.proofs.Spelling.{link_of-child_of, child_at-place_of, IsOrdered-bounds, Same-linked, Spells-kept, split_over, split_with, ContainsKey-place_of}
 
 module _ {R : Type 0} (f : Functions R) where
   -- a height that is not too great is stored as it is
-  pub stored-short : AreLawful f → (t : Tree R) → height t < 2 ^ 32 → stored f t ≡ height t
+  pub stored-short : AreLawful f → (t : SearchTree R) → height t < 2 ^ 32 → stored f t ≡ height t
   stored-short laws Leaf h = refl
   stored-short laws (Node l p x r) h =
       let on_l = stored-short laws l (omega arith) in
       let on_r = stored-short laws r (omega arith) in
       laws.height_set x (child_of f l) (child_of f r) ∙ rw (on_l, on_r) (omega arith)
 
-  pub height_at-standing : {s : Slab R} {at : Option ℕ} {t : Tree R} {low high : ℕ} → AreLawful f → IsStanding f s at t low high → height_at f s at ≡ height t
+  pub height_at-standing : {s : Slab R} {at : Option ℕ} {t : SearchTree R} {low high : ℕ} → AreLawful f → IsStanding f s at t low high → height_at f s at ≡ height t
   height_at-standing {s} {at} {t} laws h =
       ap (height_in f.height) (ap (child_at s) (sym h.is_at) ∙ child_at-place_of f s t h.spelled) ∙ stored-short laws t h.short
 
   -- the tree at a place where this row is stored
-  pub record IsNode (s : Slab R) (p : ℕ) (here : R) (t : Tree R) (low high : ℕ) : Type 0 where
-    pub left : Tree R
-    pub right : Tree R
+  pub record IsNode (s : Slab R) (p : ℕ) (here : R) (t : SearchTree R) (low high : ℕ) : Type 0 where
+    pub left : SearchTree R
+    pub right : SearchTree R
     pub row : R
     pub is : t ≡ Node left p row right
     pub at : get s p ≡ Some here
@@ -36,7 +36,7 @@ module _ {R : Type 0} (f : Functions R) where
     pub left_standing : IsStanding f s (f.left here) left low (f.rank row)
     pub right_standing : IsStanding f s (f.right here) right (f.rank row + 1) high
 
-  pub IsNode-standing : AreLawful f → (s : Slab R) (p : ℕ) (here : R) (t : Tree R) (low high : ℕ) → IsStanding f s (Some p) t low high → get s p ≡ Some here → IsNode s p here t low high
+  pub IsNode-standing : AreLawful f → (s : Slab R) (p : ℕ) (here : R) (t : SearchTree R) (low high : ℕ) → IsStanding f s (Some p) t low high → get s p ≡ Some here → IsNode s p here t low high
   IsNode-standing laws s p here Leaf low high h at = let none : None ≡ Some p = h.is_at in cc
   IsNode-standing laws s p here (Node l q x r) low high h at =
       let e : q ≡ p = same_Some q p h.is_at in
@@ -56,7 +56,7 @@ module _ {R : Type 0} (f : Functions R) where
         right_standing = record { spelled = h.spelled.2; is_at = sym (ap f.right here_is ∙ laws.right_set x _ _ ∙ link_of-child_of f r); ordered = h.ordered.1; short = omega arith; balanced = h.balanced.3 };
       }
 
-  module _ {s : Slab R} {p : ℕ} {here : R} {t : Tree R} {low high : ℕ} (n : IsNode s p here t low high) where
+  module _ {s : Slab R} {p : ℕ} {here : R} {t : SearchTree R} {low high : ℕ} (n : IsNode s p here t low high) where
     pub height-left : height n.left + 1 ≤ height t
     height-left = omega (arith, ap height n.is)
 
@@ -109,11 +109,11 @@ module _ {R : Type 0} (f : Functions R) where
     pub left_kept : {s1 : Slab R} → AreLawful f → Keeps f (f.rank n.row + 1) high s s1 → Spells f s1 n.left
     left_kept laws k = Spells-kept f low (f.rank n.row) n.left k laws n.left_standing.ordered (inl (omega arith)) n.left_standing.spelled
 
-    pub split_left : {s1 : Slab R} {l : Tree R} → AreLawful f → Becomes f s s1 l low (f.rank n.row) → IsSplit f s1 l p n.row n.right low high
+    pub split_left : {s1 : Slab R} {l : SearchTree R} → AreLawful f → Becomes f s s1 l low (f.rank n.row) → IsSplit f s1 l p n.row n.right low high
     split_left laws h =
         split_over f (stays_left h.kept) rank_here h.spelled (right_kept laws h.kept) h.ordered n.right_standing.ordered
 
-    pub split_right : {s1 : Slab R} {r : Tree R} → AreLawful f → Becomes f s s1 r (f.rank n.row + 1) high → IsSplit f s1 n.left p n.row r low high
+    pub split_right : {s1 : Slab R} {r : SearchTree R} → AreLawful f → Becomes f s s1 r (f.rank n.row + 1) high → IsSplit f s1 n.left p n.row r low high
     split_right laws h =
         split_over f (stays_right h.kept) rank_here (left_kept laws h.kept) h.spelled n.left_standing.ordered h.ordered
 
@@ -168,30 +168,30 @@ module _ {R : Type 0} (f : Functions R) where
     pub has_rank-here : (m : ℕ) → f.rank here ≤ m → m ≤ f.rank here → has_rank f m t ≡ true
     has_rank-here m g h = ap is_some (row_in-here m g h)
 
-  pub standing-at : {s : Slab R} {at link : Option ℕ} {t : Tree R} {low high : ℕ} → at ≡ link → IsStanding f s at t low high → IsStanding f s link t low high
+  pub standing-at : {s : Slab R} {at link : Option ℕ} {t : SearchTree R} {low high : ℕ} → at ≡ link → IsStanding f s at t low high → IsStanding f s link t low high
   standing-at {s} {at} {link} {t} {low} {high} e h = subst (λ q. IsStanding f s q t low high) e h
 
   -- the node of a tree that stands under a link
-  pub node_of : {s : Slab R} {at : Option ℕ} {p : ℕ} {here : R} {t : Tree R} {low high : ℕ} → AreLawful f → IsStanding f s at t low high → at ≡ Some p → get s p ≡ Some here → IsNode s p here t low high
+  pub node_of : {s : Slab R} {at : Option ℕ} {p : ℕ} {here : R} {t : SearchTree R} {low high : ℕ} → AreLawful f → IsStanding f s at t low high → at ≡ Some p → get s p ≡ Some here → IsNode s p here t low high
   node_of laws h is at = IsNode-standing laws _ _ _ _ _ _ (standing-at is h) at
 
-  pub lower-left : {s : Slab R} {at link : Option ℕ} {p : ℕ} {here : R} {t : Tree R} {low high : ℕ} → AreLawful f → IsStanding f s at t low high → at ≡ Some p → get s p ≡ Some here → link ≡ f.left here → height_at f s link < height_at f s at
+  pub lower-left : {s : Slab R} {at link : Option ℕ} {p : ℕ} {here : R} {t : SearchTree R} {low high : ℕ} → AreLawful f → IsStanding f s at t low high → at ≡ Some p → get s p ≡ Some here → link ≡ f.left here → height_at f s link < height_at f s at
   lower-left {s} laws h is at e =
       let n = node_of laws h is at in
       omega (arith, ap (height_at f s) e, falls-left n laws, height_at-standing laws h)
 
-  pub lower-right : {s : Slab R} {at link : Option ℕ} {p : ℕ} {here : R} {t : Tree R} {low high : ℕ} → AreLawful f → IsStanding f s at t low high → at ≡ Some p → get s p ≡ Some here → link ≡ f.right here → height_at f s link < height_at f s at
+  pub lower-right : {s : Slab R} {at link : Option ℕ} {p : ℕ} {here : R} {t : SearchTree R} {low high : ℕ} → AreLawful f → IsStanding f s at t low high → at ≡ Some p → get s p ≡ Some here → link ≡ f.right here → height_at f s link < height_at f s at
   lower-right {s} laws h is at e =
       let n = node_of laws h is at in
       omega (arith, ap (height_at f s) e, falls-right n laws, height_at-standing laws h)
 
-  pub IsSplit-Same : {s : Slab R} {l : Tree R} {p : ℕ} {x y : R} {r : Tree R} {low high : ℕ} → Same f x y → IsSplit f s l p x r low high → IsSplit f s l p y r low high
+  pub IsSplit-Same : {s : Slab R} {l : SearchTree R} {p : ℕ} {x y : R} {r : SearchTree R} {low high : ℕ} → Same f x y → IsSplit f s l p x r low high → IsSplit f s l p y r low high
   IsSplit-Same same h =
       split_with f h same.rank h.at h.left h.right h.left_ordered h.right_ordered
 
-  module _ {s s1 : Slab R} {p : ℕ} {here : R} {t : Tree R} {low high : ℕ} (laws : AreLawful f) (n : IsNode s p here t low high) where
+  module _ {s s1 : Slab R} {p : ℕ} {here : R} {t : SearchTree R} {low high : ℕ} (laws : AreLawful f) (n : IsNode s p here t low high) where
     -- what `balance` asks after a change of one part, where the row was read again
-    pub Splits-left : {l : Tree R} {again : R} {left right : Option ℕ} → Becomes f s s1 l low (f.rank n.row) → get s1 p ≡ Some again → place_of l ≡ left → right ≡ f.right again → Splits f s1 left p again right
+    pub Splits-left : {l : SearchTree R} {again : R} {left right : Option ℕ} → Becomes f s s1 l low (f.rank n.row) → get s1 p ≡ Some again → place_of l ≡ left → right ≡ f.right again → Splits f s1 left p again right
     Splits-left {l} h e on_left on_right =
         let is = again_left n h.kept e in
         record {
@@ -204,7 +204,7 @@ module _ {R : Type 0} (f : Functions R) where
           right_is = right_again n is on_right;
         }
 
-    pub Splits-right : {r : Tree R} {again : R} {left right : Option ℕ} → Becomes f s s1 r (f.rank n.row + 1) high → get s1 p ≡ Some again → left ≡ f.left again → place_of r ≡ right → Splits f s1 left p again right
+    pub Splits-right : {r : SearchTree R} {again : R} {left right : Option ℕ} → Becomes f s s1 r (f.rank n.row + 1) high → get s1 p ≡ Some again → left ≡ f.left again → place_of r ≡ right → Splits f s1 left p again right
     Splits-right {r} h e on_left on_right =
         let is = again_right n h.kept e in
         record {
@@ -254,6 +254,6 @@ module _ {R : Type 0} (f : Functions R) where
       let n = node_of laws h.standing is at in
       record { tree = n.right; low = f.rank n.row + 1; high = h.high; standing = standing-at (sym e) n.right_standing }
 
-  pub found-leaf : {s : Slab R} {at : Option ℕ} (t : Tree R) {low high : ℕ} (down : Bool) (m : ℕ) (best : Option R) → at ≡ None → IsStanding f s at t low high → found f down m best t ≡ best
+  pub found-leaf : {s : Slab R} {at : Option ℕ} (t : SearchTree R) {low high : ℕ} (down : Bool) (m : ℕ) (best : Option R) → at ≡ None → IsStanding f s at t low high → found f down m best t ≡ best
   found-leaf Leaf down m best e h = refl
   found-leaf (Node l p x r) down m best e h = let none : Some p ≡ None = h.is_at ∙ e in cc

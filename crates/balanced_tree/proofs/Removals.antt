@@ -6,7 +6,7 @@ use Rattle.slab.specs.Slab.{Slab, get, slab_len, Updates}
 use Rattle.balanced_tree.specs.declared.changes.Change.{Change}
 use Rattle.balanced_tree.specs.declared.changes.Change.TheVariants.{Hidden}
 use Rattle.balanced_tree.specs.Row.{Functions, AreLawful, plain}
-use Rattle.balanced_tree.specs.inside.Tree.{Tree, Leaf, Node, is_leaf, place_of, child_of, IsOrdered, balanced, least, without_least, without_root, removed}
+use Rattle.balanced_tree.specs.inside.Tree.{SearchTree, Leaf, Node, is_leaf, place_of, child_of, IsOrdered, balanced, least, without_least, without_root, removed}
 use Rattle.balanced_tree.specs.inside.Standing.{root_after, change_to, IsRooted, Spells, Same, IsStanding, Keeps, Becomes, IsSplit, Splits, HasRemoved, HasTakenLeast, HasTakenRoot}
 use Rattle.balanced_tree.proofs.Spelling.{Keeps-refl, Keeps-trans, Keeps-wider, Keeps-Updates, Spells-kept, split_over}
 use Rattle.balanced_tree.proofs.Nodes.{IsNode, rank_here, height-left, height-right, in_low, in_high, same_again, left_again, right_again, stays_left, stays_right, again_left, again_right, right_kept, left_kept, split_left, split_right, kept_wider_left, has_rank-left, has_rank-right, has_rank-here, row_in-left, row_in-right, row_in-here, IsSplit-Same}
@@ -14,48 +14,48 @@ use Rattle.balanced_tree.proofs.Hiding.{IsStill, like-same, rooted-to, rooted-hi
 use Rattle.balanced_tree.proofs.Insertions.{Balances, Rebalances, Becomes-left, Becomes-right}
 
 module _ {R : Type 0} where
-  is_leaf-none : (t : Tree R) → place_of t ≡ None → is_leaf t ≡ true
+  is_leaf-none : (t : SearchTree R) → place_of t ≡ None → is_leaf t ≡ true
   is_leaf-none Leaf h = refl
   is_leaf-none (Node l p x r) h = cc
 
-  is_leaf-some : (t : Tree R) (q : ℕ) → place_of t ≡ Some q → is_leaf t ≡ false
+  is_leaf-some : (t : SearchTree R) (q : ℕ) → place_of t ≡ Some q → is_leaf t ≡ false
   is_leaf-some Leaf q h = cc
   is_leaf-some (Node l p x r) q h = refl
 
 module _ {R : Type 0} (f : Functions R) where
-  least-leaf : (t : Tree R) (d : R) → is_leaf t ≡ true → least f t d ≡ d
+  least-leaf : (t : SearchTree R) (d : R) → is_leaf t ≡ true → least f t d ≡ d
   least-leaf Leaf d h = refl
   least-leaf (Node l p x r) d h = cc
 
   -- the default does not matter where there is a row
-  least-any : (t : Tree R) (d e : R) → is_leaf t ≡ false → least f t d ≡ least f t e
+  least-any : (t : SearchTree R) (d e : R) → is_leaf t ≡ false → least f t d ≡ least f t e
   least-any Leaf d e h = cc
   least-any (Node l p x r) d e h = refl
 
-  without_least-first : (l : Tree R) (p : ℕ) (x : R) (r : Tree R) → is_leaf l ≡ true → without_least f (Node l p x r) ≡ r
+  without_least-first : (l : SearchTree R) (p : ℕ) (x : R) (r : SearchTree R) → is_leaf l ≡ true → without_least f (Node l p x r) ≡ r
   unfolding without_least
   without_least-first l p x r h = cond-true (is_leaf l) _ _ h
 
-  without_least-later : (l : Tree R) (p : ℕ) (x : R) (r : Tree R) → is_leaf l ≡ false → without_least f (Node l p x r) ≡ balanced f (without_least f l) p x r
+  without_least-later : (l : SearchTree R) (p : ℕ) (x : R) (r : SearchTree R) → is_leaf l ≡ false → without_least f (Node l p x r) ≡ balanced f (without_least f l) p x r
   unfolding without_least
   without_least-later l p x r h = cond-false (is_leaf l) _ _ h
 
-  without_root-leaf : (l : Tree R) (p : ℕ) (x : R) (r : Tree R) → is_leaf r ≡ true → without_root f (Node l p x r) ≡ l
+  without_root-leaf : (l : SearchTree R) (p : ℕ) (x : R) (r : SearchTree R) → is_leaf r ≡ true → without_root f (Node l p x r) ≡ l
   unfolding without_root
   without_root-leaf l p x Leaf h = refl
   without_root-leaf l p x (Node a q y b) h = cc
 
-  without_root-node : (l : Tree R) (p : ℕ) (x : R) (r : Tree R) (d : R) → is_leaf r ≡ false → without_root f (Node l p x r) ≡ balanced f l p (least f r d) (without_least f r)
+  without_root-node : (l : SearchTree R) (p : ℕ) (x : R) (r : SearchTree R) (d : R) → is_leaf r ≡ false → without_root f (Node l p x r) ≡ balanced f l p (least f r d) (without_least f r)
   unfolding without_root
   without_root-node l p x Leaf d h = cc
   without_root-node l p x (Node a q y b) d h = refl
 
   -- the row of a node is taken away
-  Keeps-taken : {s s1 : Slab R} {p : ℕ} {here : R} {t : Tree R} {low high : ℕ} (n : IsNode f s p here t low high) → Updates s s1 p None → Keeps f (f.rank n.row) (f.rank n.row + 1) s s1
+  Keeps-taken : {s s1 : Slab R} {p : ℕ} {here : R} {t : SearchTree R} {low high : ℕ} (n : IsNode f s p here t low high) → Updates s s1 p None → Keeps f (f.rank n.row) (f.rank n.row + 1) s s1
   Keeps-taken n u = Keeps-Updates f _ _ _ n.at (omega (arith, rank_here f n)) (omega (arith, rank_here f n)) u
 
   pub take-first :
-      {s s1 : Slab R} {p : ℕ} {here y : R} {t : Tree R} {low high before after : ℕ} {rest : Option ℕ}
+      {s s1 : Slab R} {p : ℕ} {here y : R} {t : SearchTree R} {low high before after : ℕ} {rest : Option ℕ}
       → AreLawful f → (n : IsNode f s p here t low high) → f.left here ≡ None
       → rest ≡ f.right here → get s p ≡ Some y → Updates s s1 p None → slab_len s1 + 1 ≡ slab_len s → after ≤ before + 2
       → HasTakenLeast f s s1 t low high y (change_to rest) before after
@@ -78,7 +78,7 @@ module _ {R : Type 0} (f : Functions R) where
 
   -- what stands once the first row of the left part is taken
   split_least :
-      {s s1 : Slab R} {p : ℕ} {here y : R} {t : Tree R} {low high b1 b2 : ℕ} {rest : Change}
+      {s s1 : Slab R} {p : ℕ} {here y : R} {t : SearchTree R} {low high b1 b2 : ℕ} {rest : Change}
       → AreLawful f → (n : IsNode f s p here t low high)
       → HasTakenLeast f s s1 n.left low (f.rank n.row) y rest b1 b2
       → IsSplit f s1 (without_least f n.left) p n.row n.right (f.rank (least f n.left y) + 1) high
@@ -86,7 +86,7 @@ module _ {R : Type 0} (f : Functions R) where
       split_over f (stays_left f n sub.kept) (rank_here f n) sub.spelled (right_kept f n laws sub.kept) sub.ordered n.right_standing.ordered
 
   pub Splits-least :
-      {s s1 : Slab R} {p : ℕ} {here again y : R} {t : Tree R} {low high b1 b2 : ℕ} {rest right : Option ℕ} {part : Change}
+      {s s1 : Slab R} {p : ℕ} {here again y : R} {t : SearchTree R} {low high b1 b2 : ℕ} {rest right : Option ℕ} {part : Change}
       → AreLawful f → (n : IsNode f s p here t low high)
       → HasTakenLeast f s s1 n.left low (f.rank n.row) y part b1 b2 → rest ≡ root_after part (f.left here)
       → get s1 p ≡ Some again → right ≡ f.right again → Splits f s1 rest p again right
@@ -103,7 +103,7 @@ module _ {R : Type 0} (f : Functions R) where
       }
 
   pub take-later :
-      {s s1 s2 : Slab R} {p q : ℕ} {here again y : R} {t : Tree R} {low high before b1 b2 b3 after : ℕ} {rest right : Option ℕ} {part change : Change}
+      {s s1 s2 : Slab R} {p q : ℕ} {here again y : R} {t : SearchTree R} {low high before b1 b2 b3 after : ℕ} {rest right : Option ℕ} {part change : Change}
       → AreLawful f → (n : IsNode f s p here t low high) → f.left here ≡ Some q
       → HasTakenLeast f s s1 n.left low (f.rank n.row) y part b1 b2 → rest ≡ root_after part (f.left here)
       → get s1 p ≡ Some again → right ≡ f.right again → Rebalances f s1 s2 p again rest right change
@@ -128,7 +128,7 @@ module _ {R : Type 0} (f : Functions R) where
       }
 
   pub take-later_hidden :
-      {s s1 : Slab R} {p q : ℕ} {here y : R} {t : Tree R} {low high before b1 b2 : ℕ} {part : Change}
+      {s s1 : Slab R} {p q : ℕ} {here y : R} {t : SearchTree R} {low high before b1 b2 : ℕ} {part : Change}
       → AreLawful f → (n : IsNode f s p here t low high) → f.left here ≡ Some q
       → HasTakenLeast f s s1 n.left low (f.rank n.row) y part b1 b2 → part ≡ Hidden → b1 ≤ before + 1
       → HasTakenLeast f s s1 t low high y Hidden before b2
@@ -150,7 +150,7 @@ module _ {R : Type 0} (f : Functions R) where
       }
 
   pub take_root-leaf :
-      {s s1 : Slab R} {p : ℕ} {here : R} {t : Tree R} {low high before after : ℕ} {rest : Option ℕ}
+      {s s1 : Slab R} {p : ℕ} {here : R} {t : SearchTree R} {low high before after : ℕ} {rest : Option ℕ}
       → AreLawful f → (n : IsNode f s p here t low high) → f.right here ≡ None
       → rest ≡ f.left here → Updates s s1 p None → slab_len s1 + 1 ≡ slab_len s → after ≤ before + 2
       → HasTakenRoot f s s1 t low high rest before after
@@ -172,7 +172,7 @@ module _ {R : Type 0} (f : Functions R) where
 
   -- what stands once the first row of the right part is taken, with this row for the place of the root
   split_root :
-      {s s1 : Slab R} {p : ℕ} {here y : R} {t : Tree R} {low high b1 b2 : ℕ} {rest : Change}
+      {s s1 : Slab R} {p : ℕ} {here y : R} {t : SearchTree R} {low high b1 b2 : ℕ} {rest : Change}
       → AreLawful f → (n : IsNode f s p here t low high)
       → HasTakenLeast f s s1 n.right (f.rank n.row + 1) high y rest b1 b2
       → IsSplit f s1 n.left p (least f n.right y) (without_least f n.right) low high
@@ -193,7 +193,7 @@ module _ {R : Type 0} (f : Functions R) where
       }
 
   pub Splits-root :
-      {s s1 : Slab R} {p : ℕ} {here y : R} {t : Tree R} {low high b1 b2 : ℕ} {left right : Option ℕ} {rest : Change}
+      {s s1 : Slab R} {p : ℕ} {here y : R} {t : SearchTree R} {low high b1 b2 : ℕ} {left right : Option ℕ} {rest : Change}
       → AreLawful f → (n : IsNode f s p here t low high)
       → HasTakenLeast f s s1 n.right (f.rank n.row + 1) high y rest b1 b2
       → left ≡ f.left here → right ≡ root_after rest (f.right here) → Splits f s1 left p y right
@@ -209,7 +209,7 @@ module _ {R : Type 0} (f : Functions R) where
       }
 
   pub take_root-node :
-      {s s1 s2 : Slab R} {p q : ℕ} {here y : R} {t : Tree R} {low high before b1 b2 after root : ℕ} {left right : Option ℕ} {rest : Change}
+      {s s1 s2 : Slab R} {p q : ℕ} {here y : R} {t : SearchTree R} {low high before b1 b2 after root : ℕ} {left right : Option ℕ} {rest : Change}
       → AreLawful f → (n : IsNode f s p here t low high) → f.right here ≡ Some q
       → HasTakenLeast f s s1 n.right (f.rank n.row + 1) high y rest b1 b2
       → left ≡ f.left here → right ≡ root_after rest (f.right here) → Balances f s1 s2 p y left right root
@@ -225,18 +225,18 @@ module _ {R : Type 0} (f : Functions R) where
         len = omega (arith, len, sub.len);
         steps = omega (arith, sub.steps, height-right f n);
       } where
-        IsOrdered-least : {s s1 : Slab R} {t : Tree R} {low high b1 b2 : ℕ} {y : R} {c : Change} → HasTakenLeast f s s1 t low high y c b1 b2 → IsOrdered f low high (without_least f t)
+        IsOrdered-least : {s s1 : Slab R} {t : SearchTree R} {low high b1 b2 : ℕ} {y : R} {c : Change} → HasTakenLeast f s s1 t low high y c b1 b2 → IsOrdered f low high (without_least f t)
         IsOrdered-least {s} {s1} {t} {low} {high} {y = y} h = Rattle.balanced_tree.proofs.Spelling.IsOrdered-wider f low (f.rank (least f t y) + 1) high high (without_least f t) (omega (arith, h.from_low)) (omega arith) h.ordered
 
-  pub removed-left : (m : ℕ) (l : Tree R) (p : ℕ) (x : R) (r : Tree R) → m < f.rank x → removed f m (Node l p x r) ≡ balanced f (removed f m l) p x r
+  pub removed-left : (m : ℕ) (l : SearchTree R) (p : ℕ) (x : R) (r : SearchTree R) → m < f.rank x → removed f m (Node l p x r) ≡ balanced f (removed f m l) p x r
   unfolding removed
   removed-left m l p x r h = cond-true (ltb m (f.rank x)) _ _ (lt-ltb _ _ h)
 
-  pub removed-right : (m : ℕ) (l : Tree R) (p : ℕ) (x : R) (r : Tree R) → f.rank x < m → removed f m (Node l p x r) ≡ balanced f l p x (removed f m r)
+  pub removed-right : (m : ℕ) (l : SearchTree R) (p : ℕ) (x : R) (r : SearchTree R) → f.rank x < m → removed f m (Node l p x r) ≡ balanced f l p x (removed f m r)
   unfolding removed
   removed-right m l p x r h = cond-false (ltb m (f.rank x)) _ _ (le-ltb _ _ (omega arith)) ∙ cond-true (ltb (f.rank x) m) _ _ (lt-ltb _ _ h)
 
-  pub removed-here : (m : ℕ) (l : Tree R) (p : ℕ) (x : R) (r : Tree R) → m ≡ f.rank x → removed f m (Node l p x r) ≡ without_root f (Node l p x r)
+  pub removed-here : (m : ℕ) (l : SearchTree R) (p : ℕ) (x : R) (r : SearchTree R) → m ≡ f.rank x → removed f m (Node l p x r) ≡ without_root f (Node l p x r)
   unfolding removed
   removed-here m l p x r h = cond-false (ltb m (f.rank x)) _ _ (le-ltb _ _ (omega arith)) ∙ cond-false (ltb (f.rank x) m) _ _ (le-ltb _ _ (omega arith))
 
@@ -245,7 +245,7 @@ module _ {R : Type 0} (f : Functions R) where
   removed-leaf m = refl
 
   pub remove-left :
-      {s s1 s2 : Slab R} {p m : ℕ} {here again : R} {t : Tree R} {low high before b1 b2 b3 after : ℕ} {y : Option R} {left right : Option ℕ} {part change : Change}
+      {s s1 s2 : Slab R} {p m : ℕ} {here again : R} {t : SearchTree R} {low high before b1 b2 b3 after : ℕ} {y : Option R} {left right : Option ℕ} {part change : Change}
       → AreLawful f → (n : IsNode f s p here t low high) → m < f.rank here
       → HasRemoved f s s1 m n.left low (f.rank n.row) y part b1 b2 → left ≡ root_after part (f.left here)
       → get s1 p ≡ Some again → right ≡ f.right again → Rebalances f s1 s2 p again left right change
@@ -264,7 +264,7 @@ module _ {R : Type 0} (f : Functions R) where
       }
 
   pub remove-right :
-      {s s1 s2 : Slab R} {p m : ℕ} {here again : R} {t : Tree R} {low high before b1 b2 b3 after : ℕ} {y : Option R} {left right : Option ℕ} {part change : Change}
+      {s s1 s2 : Slab R} {p m : ℕ} {here again : R} {t : SearchTree R} {low high before b1 b2 b3 after : ℕ} {y : Option R} {left right : Option ℕ} {part change : Change}
       → AreLawful f → (n : IsNode f s p here t low high) → f.rank here < m
       → HasRemoved f s s1 m n.right (f.rank n.row + 1) high y part b1 b2 → right ≡ root_after part (f.right here)
       → get s1 p ≡ Some again → left ≡ f.left again → Rebalances f s1 s2 p again left right change
@@ -283,7 +283,7 @@ module _ {R : Type 0} (f : Functions R) where
       }
 
   pub remove-left_hidden :
-      {s s1 : Slab R} {p m : ℕ} {here : R} {t : Tree R} {low high before b1 b2 : ℕ} {y : Option R} {part : Change}
+      {s s1 : Slab R} {p m : ℕ} {here : R} {t : SearchTree R} {low high before b1 b2 : ℕ} {y : Option R} {part : Change}
       → AreLawful f → (n : IsNode f s p here t low high) → m < f.rank here
       → HasRemoved f s s1 m n.left low (f.rank n.row) y part b1 b2 → part ≡ Hidden → b1 ≤ before + 1
       → HasRemoved f s s1 m t low high y Hidden before b2
@@ -300,7 +300,7 @@ module _ {R : Type 0} (f : Functions R) where
       }
 
   pub remove-right_hidden :
-      {s s1 : Slab R} {p m : ℕ} {here : R} {t : Tree R} {low high before b1 b2 : ℕ} {y : Option R} {part : Change}
+      {s s1 : Slab R} {p m : ℕ} {here : R} {t : SearchTree R} {low high before b1 b2 : ℕ} {y : Option R} {part : Change}
       → AreLawful f → (n : IsNode f s p here t low high) → f.rank here < m
       → HasRemoved f s s1 m n.right (f.rank n.row + 1) high y part b1 b2 → part ≡ Hidden → b1 ≤ before + 1
       → HasRemoved f s s1 m t low high y Hidden before b2
@@ -317,7 +317,7 @@ module _ {R : Type 0} (f : Functions R) where
       }
 
   pub remove-here :
-      {s s1 : Slab R} {p m : ℕ} {here : R} {t : Tree R} {low high before b1 after : ℕ} {y : Option R} {root : Option ℕ}
+      {s s1 : Slab R} {p m : ℕ} {here : R} {t : SearchTree R} {low high before b1 after : ℕ} {y : Option R} {root : Option ℕ}
       → (n : IsNode f s p here t low high) → f.rank here ≤ m → m ≤ f.rank here → y ≡ Some (plain f here)
       → HasTakenRoot f s s1 t low high root b1 after → b1 ≤ before + 1
       → HasRemoved f s s1 m t low high y (change_to root) before after
@@ -331,7 +331,7 @@ module _ {R : Type 0} (f : Functions R) where
         steps = omega (arith, sub.steps);
       }
 
-  pub remove-leaf : {s : Slab R} {m low high before : ℕ} (t : Tree R) → IsStanding f s None t low high → HasRemoved f s s m t low high None Hidden before before
+  pub remove-leaf : {s : Slab R} {m low high before : ℕ} (t : SearchTree R) → IsStanding f s None t low high → HasRemoved f s s m t low high None Hidden before before
   remove-leaf {s} {m} {low} {high} Leaf h =
       record {
         becomes = subst (λ u. Becomes f s s u low high) (sym (removed-leaf m)) (record { spelled = tt; ordered = h.ordered; kept = Keeps-refl f low high s });

@@ -9,7 +9,7 @@ use Rattle.std.proofs.lemmas.List.Elements.{filter-append}
 use Rattle.std.proofs.lemmas.List.Folds.{find-append}
 use Rattle.balanced_tree.specs.Row.{Functions, AreLawful, plain}
 use Rattle.balanced_tree.specs.Rows.{if_at, row_at, row_from, row_to, with_row, without_rank, IsBeside, AreAllBeside, RisesWithin}
-use Rattle.balanced_tree.specs.inside.Tree.{Tree, Leaf, Node, is_leaf, rows_of, IsOrdered, has_rank, row_in, found, inserted, least, without_least, without_root, removed, moved, AreBeside}
+use Rattle.balanced_tree.specs.inside.Tree.{SearchTree, Leaf, Node, is_leaf, rows_of, IsOrdered, has_rank, row_in, found, inserted, least, without_least, without_root, removed, moved, AreBeside}
 use Rattle.balanced_tree.proofs.TreeLaws.{rows-balanced, moved-left, moved-right, moved-here, ordered-below, ordered-above}
 
 pub option_or-none : {A : Type 0} (o : Option A) → option_or o None ≡ o
@@ -188,7 +188,7 @@ module _ {R : Type 0} (f : Functions R) where
     rank-plain x = laws.rank_kept x None None
 
     -- the rows of an ordered tree rise
-    pub rises-rows : (low high : ℕ) (t : Tree R) → IsOrdered f low high t → RisesWithin f low high (rows_of f t)
+    pub rises-rows : (low high : ℕ) (t : SearchTree R) → IsOrdered f low high t → RisesWithin f low high (rows_of f t)
     rises-rows low high Leaf h = h
     rises-rows low high (Node l p x r) h =
         RisesWithin-join low high (rows_of f l) (plain f x) (rows_of f r)
@@ -196,18 +196,18 @@ module _ {R : Type 0} (f : Functions R) where
         (subst (λ k. RisesWithin f (k + 1) high (rows_of f r)) (sym (rank-plain x)) (rises-rows (f.rank x + 1) high r h.1))
 
     -- both sides of a node
-    record Sides (low high : ℕ) (l : Tree R) (x : R) (r : Tree R) : Type 0 where
+    record Sides (low high : ℕ) (l : SearchTree R) (x : R) (r : SearchTree R) : Type 0 where
       pub left : RisesWithin f low (f.rank (plain f x)) (rows_of f l)
       pub right : RisesWithin f (f.rank (plain f x) + 1) high (rows_of f r)
 
-    sides : (low high : ℕ) (l : Tree R) (p : ℕ) (x : R) (r : Tree R) → IsOrdered f low high (Node l p x r) → Sides low high l x r
+    sides : (low high : ℕ) (l : SearchTree R) (p : ℕ) (x : R) (r : SearchTree R) → IsOrdered f low high (Node l p x r) → Sides low high l x r
     sides low high l p x r h =
         record {
           left = subst (λ k. RisesWithin f low k (rows_of f l)) (sym (rank-plain x)) (rises-rows low (f.rank x) l h.0);
           right = subst (λ k. RisesWithin f (k + 1) high (rows_of f r)) (sym (rank-plain x)) (rises-rows (f.rank x + 1) high r h.1);
         }
 
-    pub rows-inserted : (q : ℕ) (w : R) (low high : ℕ) (t : Tree R) → IsOrdered f low high t → rows_of f (inserted f q w t) ≡ with_row f (plain f w) (rows_of f t)
+    pub rows-inserted : (q : ℕ) (w : R) (low high : ℕ) (t : SearchTree R) → IsOrdered f low high t → rows_of f (inserted f q w t) ≡ with_row f (plain f w) (rows_of f t)
     unfolding inserted
     rows-inserted q w low high Leaf h = refl
     rows-inserted q w low high (Node l p x r) h =
@@ -217,7 +217,7 @@ module _ {R : Type 0} (f : Functions R) where
         let right = with_row-right (plain f w) (plain f x) low high (rows_of f l) (rows_of f r) s.left s.right in
         grind (arith, common_steps, rank-plain, rows-balanced f, rows-inserted q w low (f.rank x) l h.0, rows-inserted q w (f.rank x + 1) high r h.1)
 
-    rows-without_least : (d : R) (t : Tree R) → is_leaf t ≡ false → plain f (least f t d) ∷ rows_of f (without_least f t) ≡ rows_of f t
+    rows-without_least : (d : R) (t : SearchTree R) → is_leaf t ≡ false → plain f (least f t d) ∷ rows_of f (without_least f t) ≡ rows_of f t
     unfolding without_least
     rows-without_least d Leaf h = cc
     rows-without_least d (Node Leaf p x r) h = refl
@@ -225,13 +225,13 @@ module _ {R : Type 0} (f : Functions R) where
         ap (λ u. plain f (least f a y) ∷ u) (rows-balanced f (without_least f (Node a q y b)) p x r)
         ∙ ap (λ u. u ++ plain f x ∷ rows_of f r) (rows-without_least x (Node a q y b) refl)
 
-    rows-without_root : (l : Tree R) (p : ℕ) (x : R) (r : Tree R) → rows_of f (without_root f (Node l p x r)) ≡ rows_of f l ++ rows_of f r
+    rows-without_root : (l : SearchTree R) (p : ℕ) (x : R) (r : SearchTree R) → rows_of f (without_root f (Node l p x r)) ≡ rows_of f l ++ rows_of f r
     unfolding without_root
     rows-without_root l p x Leaf = sym (append-nil (rows_of f l))
     rows-without_root l p x (Node a q y b) =
         rows-balanced f l p (least f a y) (without_least f (Node a q y b)) ∙ ap (λ u. rows_of f l ++ u) (rows-without_least x (Node a q y b) refl)
 
-    pub rows-removed : (n low high : ℕ) (t : Tree R) → IsOrdered f low high t → rows_of f (removed f n t) ≡ without_rank f n (rows_of f t)
+    pub rows-removed : (n low high : ℕ) (t : SearchTree R) → IsOrdered f low high t → rows_of f (removed f n t) ≡ without_rank f n (rows_of f t)
     unfolding removed
     rows-removed n low high Leaf h = refl
     rows-removed n low high (Node l p x r) h =
@@ -249,7 +249,7 @@ module _ {R : Type 0} (f : Functions R) where
         ∙ (with_row-without w (xs ++ w ∷ ys) ∙ with_row-here w w low high xs ys left right refl)
 
     -- a row comes in place of one of another rank, and no other lies between
-    pub rows-moved : (n : ℕ) (w : R) (low high : ℕ) (t : Tree R) → IsOrdered f low high t → AreBeside f n (f.rank w) t → low ≤ f.rank w → f.rank w < high → has_rank f n t ≡ true
+    pub rows-moved : (n : ℕ) (w : R) (low high : ℕ) (t : SearchTree R) → IsOrdered f low high t → AreBeside f n (f.rank w) t → low ≤ f.rank w → f.rank w < high → has_rank f n t ≡ true
         → rows_of f (moved f n w t) ≡ with_row f (plain f w) (without_rank f n (rows_of f t))
     rows-moved n w low high Leaf o b g h there = absurd cc
     rows-moved n w low high (Node l p x r) o b g h there =
@@ -295,14 +295,14 @@ module _ {R : Type 0} (f : Functions R) where
     with_row-again x rows = ap (λ k. with_row f (plain f x) (without_rank f k rows)) (sym (rank-plain x)) ∙ with_row-without (plain f x) rows
 
     -- the same is said of the rows and of the tree
-    pub beside-rows : (n m : ℕ) (t : Tree R) → AreAllBeside f n m (rows_of f t) → AreBeside f n m t
+    pub beside-rows : (n m : ℕ) (t : SearchTree R) → AreAllBeside f n m (rows_of f t) → AreBeside f n m t
     beside-rows n m Leaf h = tt
     beside-rows n m (Node l p x r) h =
         let parts = all-parts (IsBeside f n m) (rows_of f l) (plain f x) (rows_of f r) h in
         (subst (λ k. (k < n → k < m) × (n < k → m < k)) (rank-plain x) parts.1, beside-rows n m l parts.0, beside-rows n m r parts.2)
 
     -- what the way down finds
-    pub found-row_from : (n : ℕ) (best : Option R) (low high : ℕ) (t : Tree R) → IsOrdered f low high t → found f false n best t ≡ option_or (row_from f n (rows_of f t)) best
+    pub found-row_from : (n : ℕ) (best : Option R) (low high : ℕ) (t : SearchTree R) → IsOrdered f low high t → found f false n best t ≡ option_or (row_from f n (rows_of f t)) best
     found-row_from n best low high Leaf h = refl
     found-row_from n best low high (Node l p x r) h =
         let s = sides low high l p x r h in
@@ -313,7 +313,7 @@ module _ {R : Type 0} (f : Functions R) where
         let on_right = found-row_from n best (f.rank x + 1) high r h.1 in
         grind (arith, common_steps, rank-plain, option_or-some (row_from f n (rows_of f l)) (plain f x) best)
 
-    pub found-row_to : (n : ℕ) (best : Option R) (low high : ℕ) (t : Tree R) → IsOrdered f low high t → found f true n best t ≡ option_or (row_to f n (rows_of f t)) best
+    pub found-row_to : (n : ℕ) (best : Option R) (low high : ℕ) (t : SearchTree R) → IsOrdered f low high t → found f true n best t ≡ option_or (row_to f n (rows_of f t)) best
     found-row_to n best low high Leaf h = refl
     found-row_to n best low high (Node l p x r) h =
         let s = sides low high l p x r h in
@@ -332,7 +332,7 @@ module _ {R : Type 0} (f : Functions R) where
               ∙ option_or-some (row_to f n (rows_of f r)) (plain f x) best)
         ]
 
-    pub row_in-row_at : (n low high : ℕ) (t : Tree R) → IsOrdered f low high t → row_in f n t ≡ row_at f n (rows_of f t)
+    pub row_in-row_at : (n low high : ℕ) (t : SearchTree R) → IsOrdered f low high t → row_in f n t ≡ row_at f n (rows_of f t)
     row_in-row_at n low high Leaf h = refl
     row_in-row_at n low high (Node l p x r) h =
         let s = sides low high l p x r h in
@@ -341,12 +341,12 @@ module _ {R : Type 0} (f : Functions R) where
         let right = row_at-right n (plain f x) low high (rows_of f l) (rows_of f r) s.left s.right in
         grind (arith, common_steps, rank-plain, row_in-row_at n low (f.rank x) l h.0, row_in-row_at n (f.rank x + 1) high r h.1)
 
-    pub length-inserted : (q : ℕ) (w : R) (t : Tree R) → length (rows_of f (inserted f q w t)) ≡ length (rows_of f t) + cond (has_rank f (f.rank w) t) 0 1
+    pub length-inserted : (q : ℕ) (w : R) (t : SearchTree R) → length (rows_of f (inserted f q w t)) ≡ length (rows_of f t) + cond (has_rank f (f.rank w) t) 0 1
     unfolding inserted
     length-inserted q w Leaf = refl
     length-inserted q w (Node l p x r) = grind (arith, common_steps, rows-balanced f, length-inserted q w l, length-inserted q w r)
 
-    pub length-removed : (n : ℕ) (t : Tree R) → length (rows_of f (removed f n t)) + cond (has_rank f n t) 1 0 ≡ length (rows_of f t)
+    pub length-removed : (n : ℕ) (t : SearchTree R) → length (rows_of f (removed f n t)) + cond (has_rank f n t) 1 0 ≡ length (rows_of f t)
     unfolding removed
     length-removed n Leaf = refl
     length-removed n (Node l p x r) =

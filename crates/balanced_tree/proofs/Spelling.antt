@@ -6,7 +6,7 @@ use Rattle.std.specs.Option.{ForSome}
 use Rattle.slab.specs.Slab.{Slab, get, ContainsKey, Updates}
 use Rattle.balanced_tree.specs.declared.children.Child.{Child}
 use Rattle.balanced_tree.specs.Row.{Functions, AreLawful, link_of, height_in}
-use Rattle.balanced_tree.specs.inside.Tree.{Tree, Leaf, Node, place_of, child_of, stored, IsOrdered}
+use Rattle.balanced_tree.specs.inside.Tree.{SearchTree, Leaf, Node, place_of, child_of, stored, IsOrdered}
 use Rattle.balanced_tree.specs.inside.Standing.{child_under, child_at, Spells, Same, Keeps, Becomes, IsSplit, height_at}
 
 -- what is picked of one thing or none is that thing
@@ -23,34 +23,34 @@ not_picked true o picked m is e h = cc
 not_picked false o picked m is e h = refl
 
 module _ {R : Type 0} (f : Functions R) where
-  pub link_of-child_of : (t : Tree R) → link_of (child_of f t) ≡ place_of t
+  pub link_of-child_of : (t : SearchTree R) → link_of (child_of f t) ≡ place_of t
   link_of-child_of Leaf = refl
   link_of-child_of (Node l p x r) = refl
 
-  pub child_at-place_of : (s : Slab R) (t : Tree R) → Spells f s t → child_at s (place_of t) ≡ child_of f t
+  pub child_at-place_of : (s : Slab R) (t : SearchTree R) → Spells f s t → child_at s (place_of t) ≡ child_of f t
   child_at-place_of s Leaf h = refl
   child_at-place_of s (Node l p x r) h = ap (child_under p) h.0
 
   -- the same under a link to the tree
-  pub child_at-link : (s : Slab R) (t : Tree R) {at : Option ℕ} → Spells f s t → place_of t ≡ at → child_at s at ≡ child_of f t
+  pub child_at-link : (s : Slab R) (t : SearchTree R) {at : Option ℕ} → Spells f s t → place_of t ≡ at → child_at s at ≡ child_of f t
   child_at-link s t h is = ap (child_at s) (sym is) ∙ child_at-place_of s t h
 
-  pub height_at-link : (s : Slab R) (t : Tree R) {at : Option ℕ} → Spells f s t → place_of t ≡ at → height_at f s at ≡ stored f t
+  pub height_at-link : (s : Slab R) (t : SearchTree R) {at : Option ℕ} → Spells f s t → place_of t ≡ at → height_at f s at ≡ stored f t
   height_at-link s t h is = ap (height_in f.height) (child_at-link s t h is)
 
   -- the ranks between the bounds of a tree are some or none
-  pub IsOrdered-bounds : (low high : ℕ) (t : Tree R) → IsOrdered f low high t → low ≤ high
+  pub IsOrdered-bounds : (low high : ℕ) (t : SearchTree R) → IsOrdered f low high t → low ≤ high
   IsOrdered-bounds low high Leaf h = h
   IsOrdered-bounds low high (Node l p x r) h =
       omega (arith, IsOrdered-bounds low (f.rank x) l h.0, IsOrdered-bounds (f.rank x + 1) high r h.1)
 
-  pub IsOrdered-wider : (low a b high : ℕ) (t : Tree R) → low ≤ a → b ≤ high → IsOrdered f a b t → IsOrdered f low high t
+  pub IsOrdered-wider : (low a b high : ℕ) (t : SearchTree R) → low ≤ a → b ≤ high → IsOrdered f a b t → IsOrdered f low high t
   IsOrdered-wider low a b high Leaf g h o = omega arith
   IsOrdered-wider low a b high (Node l p x r) g h o =
       (IsOrdered-wider low a (f.rank x) (f.rank x) l g (omega arith) o.0, IsOrdered-wider (f.rank x + 1) (f.rank x + 1) b high r (omega arith) h o.1)
 
   -- what a change within other bounds leaves
-  pub Spells-kept : {low high : ℕ} {old new : Slab R} (a b : ℕ) (t : Tree R) → Keeps f low high old new → AreLawful f → IsOrdered f a b t → (b ≤ low) ⊎ (high ≤ a) → Spells f old t → Spells f new t
+  pub Spells-kept : {low high : ℕ} {old new : Slab R} (a b : ℕ) (t : SearchTree R) → Keeps f low high old new → AreLawful f → IsOrdered f a b t → (b ≤ low) ⊎ (high ≤ a) → Spells f old t → Spells f new t
   Spells-kept a b Leaf k laws o apart h = tt
   Spells-kept {low} {high} a b (Node l p x r) k laws o apart h =
       let from = IsOrdered-bounds a (f.rank x) l o.0 in
@@ -89,7 +89,7 @@ module _ {R : Type 0} (f : Functions R) where
 
   -- parts on both sides of a row, over a row of its rank
   pub split_over :
-      {s : Slab R} {l r : Tree R} {p low high : ℕ} {x had : R}
+      {s : Slab R} {l r : SearchTree R} {p low high : ℕ} {x had : R}
       → get s p ≡ Some had → f.rank had ≡ f.rank x → Spells f s l → Spells f s r
       → IsOrdered f low (f.rank x) l → IsOrdered f (f.rank x + 1) high r → IsSplit f s l p x r low high
   split_over {x = x} {had} at same left right left_ordered right_ordered =
@@ -110,7 +110,7 @@ module _ {R : Type 0} (f : Functions R) where
 
   -- other parts between the same bounds, under a row of the same rank
   pub split_with :
-      {s s1 : Slab R} {l r l1 r1 : Tree R} {p low high low1 high1 : ℕ} {x y : R}
+      {s s1 : Slab R} {l r l1 r1 : SearchTree R} {p low high low1 high1 : ℕ} {x y : R}
       → (h : IsSplit f s l p x r low high) → f.rank y ≡ f.rank x → get s1 p ≡ Some h.had → Spells f s1 l1 → Spells f s1 r1
       → IsOrdered f low1 h.middle l1 → IsOrdered f h.past high1 r1 → IsSplit f s1 l1 p y r1 low1 high1
   split_with h same at left right left_ordered right_ordered =
@@ -130,13 +130,13 @@ module _ {R : Type 0} (f : Functions R) where
       }
 
   -- the new slab has the tree, and the row that is handed back is its root
-  pub record IsPlaced (old new : Slab R) (t : Tree R) (low high : ℕ) (c : Child R) : Type 0 where
+  pub record IsPlaced (old new : Slab R) (t : SearchTree R) (low high : ℕ) (c : Child R) : Type 0 where
     pub becomes : Becomes f old new t low high
     pub child : Some c ≡ child_of f t
 
   -- a row is put over its parts
   pub place_over-tree :
-      {s s1 : Slab R} {l r : Tree R} {p place low high : ℕ} {x w : R} {cl cr : Option (Child R)} {c : Child R}
+      {s s1 : Slab R} {l r : SearchTree R} {p place low high : ℕ} {x w : R} {cl cr : Option (Child R)} {c : Child R}
       → AreLawful f
       → IsSplit f s l p x r low high → Same f x w → cl ≡ child_of f l → cr ≡ child_of f r → place ≡ p
       → Updates s s1 place (Some (f.linked w cl cr)) → c ≡ record { link = place; row = f.linked w cl cr }
@@ -157,22 +157,22 @@ module _ {R : Type 0} (f : Functions R) where
       }
 
   -- the link to the root of what was put
-  pub IsPlaced-root : {old new : Slab R} {t : Tree R} {low high : ℕ} {c : Child R} → IsPlaced old new t low high c → place_of t ≡ Some c.link
+  pub IsPlaced-root : {old new : Slab R} {t : SearchTree R} {low high : ℕ} {c : Child R} → IsPlaced old new t low high c → place_of t ≡ Some c.link
   IsPlaced-root {t = t} h = sym (link_of-child_of t) ∙ ap link_of (sym h.child)
 
   -- what stands under the links of a row
   pub record HasParts (s : Slab R) (c : Child R) : Type 0 where
-    pub left : Tree R
-    pub right : Tree R
+    pub left : SearchTree R
+    pub right : SearchTree R
     pub left_is : place_of left ≡ f.left c.row
     pub right_is : place_of right ≡ f.right c.row
     pub left_spelled : Spells f s left
     pub right_spelled : Spells f s right
 
   -- a child that was read under the link to a tree
-  pub HasParts-link : AreLawful f → (s : Slab R) (t : Tree R) {at : Option ℕ} {o : Option (Child R)} {c : Child R} → Spells f s t → place_of t ≡ at → o ≡ child_at s at → o ≡ Some c → HasParts s c
+  pub HasParts-link : AreLawful f → (s : Slab R) (t : SearchTree R) {at : Option ℕ} {o : Option (Child R)} {c : Child R} → Spells f s t → place_of t ≡ at → o ≡ child_at s at → o ≡ Some c → HasParts s c
   HasParts-link laws s t {c = c} h is read some = from t h (sym some ∙ read ∙ child_at-link s t h is) where
-    from : (t : Tree R) → Spells f s t → Some c ≡ child_of f t → HasParts s c
+    from : (t : SearchTree R) → Spells f s t → Some c ≡ child_of f t → HasParts s c
     from Leaf h e = cc
     from (Node l p x r) h e =
         subst (HasParts s) (sym (same_Some _ _ e)) (record {
@@ -187,7 +187,7 @@ module _ {R : Type 0} (f : Functions R) where
   pub ContainsKey-at : (s : Slab R) (p : ℕ) (x : R) → get s p ≡ Some x → ContainsKey s p
   ContainsKey-at s p x e = ap is_some e
 
-  pub ContainsKey-place_of : (s : Slab R) (t : Tree R) (q : ℕ) → Spells f s t → place_of t ≡ Some q → ContainsKey s q
+  pub ContainsKey-place_of : (s : Slab R) (t : SearchTree R) (q : ℕ) → Spells f s t → place_of t ≡ Some q → ContainsKey s q
   ContainsKey-place_of s Leaf q h e = cc
   ContainsKey-place_of s (Node l p x r) q h e = subst (ContainsKey s) (same_Some p q e) (ContainsKey-at s p _ h.0)
 

@@ -4,40 +4,40 @@ use Rattle.std.proofs.lemmas.Bool.{ltb-true, ltb-false, cond_both, cond-true, co
 use Rattle.std.proofs.lemmas.Grind.{common_steps}
 use Rattle.std.proofs.lemmas.List.{append_assoc}
 use Rattle.balanced_tree.specs.Row.{Functions, AreLawful, plain}
-use Rattle.balanced_tree.specs.inside.Tree.{Tree, Leaf, Node, is_leaf, height, IsBalanced, stored, rows_of, leaned_right, leaned_left, balanced, inserted, least, without_least, without_root, removed, place_of, IsOrdered, moved, AreBeside}
+use Rattle.balanced_tree.specs.inside.Tree.{SearchTree, Leaf, Node, is_leaf, height, IsBalanced, stored, rows_of, leaned_right, leaned_left, balanced, inserted, least, without_least, without_root, removed, place_of, IsOrdered, moved, AreBeside}
 use Rattle.balanced_tree.proofs.Spelling.{IsOrdered-bounds}
 use Rattle.balanced_tree.proofs.Nodes.{stored-short}
 
 module _ {R : Type 0} (f : Functions R) where
   -- the rows of a node
-  abbrev pub joined_rows : Tree R → R → Tree R → List R
+  abbrev pub joined_rows : SearchTree R → R → SearchTree R → List R
   joined_rows l x r = rows_of f l ++ plain f x ∷ rows_of f r
 
-  rows-leaned_right : (l : Tree R) (p : ℕ) (x : R) (r : Tree R) → rows_of f (leaned_right f l p x r) ≡ joined_rows l x r
+  rows-leaned_right : (l : SearchTree R) (p : ℕ) (x : R) (r : SearchTree R) → rows_of f (leaned_right f l p x r) ≡ joined_rows l x r
   unfolding leaned_right
   rows-leaned_right Leaf p x r = refl
   rows-leaned_right (Node a j y Leaf) p x r = simp append_assoc
   rows-leaned_right (Node a j y (Node c k z d)) p x r = grind (arith, common_steps, append_assoc {A = R})
 
-  rows-leaned_left : (l : Tree R) (p : ℕ) (x : R) (r : Tree R) → rows_of f (leaned_left f l p x r) ≡ joined_rows l x r
+  rows-leaned_left : (l : SearchTree R) (p : ℕ) (x : R) (r : SearchTree R) → rows_of f (leaned_left f l p x r) ≡ joined_rows l x r
   unfolding leaned_left
   rows-leaned_left l p x Leaf = refl
   rows-leaned_left l p x (Node Leaf j y b) = simp append_assoc
   rows-leaned_left l p x (Node (Node c k z d) j y b) = grind (arith, common_steps, append_assoc {A = R})
 
   -- a rotation keeps the rows and their order
-  pub rows-balanced : (l : Tree R) (p : ℕ) (x : R) (r : Tree R) → rows_of f (balanced f l p x r) ≡ joined_rows l x r
+  pub rows-balanced : (l : SearchTree R) (p : ℕ) (x : R) (r : SearchTree R) → rows_of f (balanced f l p x r) ≡ joined_rows l x r
   unfolding balanced
   rows-balanced l p x r = grind (arith, common_steps, rows-leaned_right l p x r, rows-leaned_left l p x r)
 
   -- what a node is balanced to: as high as the higher part or one higher, and one higher where no rotation is needed
-  pub record IsSettled (l r t : Tree R) : Type 0 where
+  pub record IsSettled (l r t : SearchTree R) : Type 0 where
     pub good : IsBalanced t
     pub at_least : max (height l) (height r) ≤ height t
     pub at_most : height t ≤ max (height l) (height r) + 1
     pub level : (height t ≡ max (height l) (height r) + 1) ⊎ ((height l ≡ height r + 2) ⊎ (height r ≡ height l + 2))
 
-  settled-leaned_right : AreLawful f → (l : Tree R) (p : ℕ) (x : R) (r : Tree R) → IsBalanced l → IsBalanced r → height l ≡ height r + 2 → height l < 2 ^ 31 → IsSettled l r (leaned_right f l p x r)
+  settled-leaned_right : AreLawful f → (l : SearchTree R) (p : ℕ) (x : R) (r : SearchTree R) → IsBalanced l → IsBalanced r → height l ≡ height r + 2 → height l < 2 ^ 31 → IsSettled l r (leaned_right f l p x r)
   unfolding leaned_right
   settled-leaned_right laws Leaf p x r hl hr two short = absurd (omega arith)
   settled-leaned_right laws (Node a j y Leaf) p x r hl hr two short =
@@ -62,7 +62,7 @@ module _ {R : Type 0} (f : Functions R) where
         level = inr (inl two);
       })
 
-  settled-leaned_left : AreLawful f → (l : Tree R) (p : ℕ) (x : R) (r : Tree R) → IsBalanced l → IsBalanced r → height r ≡ height l + 2 → height r < 2 ^ 31 → IsSettled l r (leaned_left f l p x r)
+  settled-leaned_left : AreLawful f → (l : SearchTree R) (p : ℕ) (x : R) (r : SearchTree R) → IsBalanced l → IsBalanced r → height r ≡ height l + 2 → height r < 2 ^ 31 → IsSettled l r (leaned_left f l p x r)
   unfolding leaned_left
   settled-leaned_left laws l p x Leaf hl hr two short = absurd (omega arith)
   settled-leaned_left laws l p x (Node Leaf j y b) hl hr two short =
@@ -87,7 +87,7 @@ module _ {R : Type 0} (f : Functions R) where
         level = inr (inr two);
       })
 
-  pub settled-balanced : AreLawful f → (l : Tree R) (p : ℕ) (x : R) (r : Tree R) → IsBalanced l → IsBalanced r → height l ≤ height r + 2 → height r ≤ height l + 2 → height l < 2 ^ 31 → height r < 2 ^ 31 → IsSettled l r (balanced f l p x r)
+  pub settled-balanced : AreLawful f → (l : SearchTree R) (p : ℕ) (x : R) (r : SearchTree R) → IsBalanced l → IsBalanced r → height l ≤ height r + 2 → height r ≤ height l + 2 → height l < 2 ^ 31 → height r < 2 ^ 31 → IsSettled l r (balanced f l p x r)
   unfolding balanced
   settled-balanced laws l p x r hl hr g h short_l short_r =
       let sl = stored-short f laws l (omega arith) in
@@ -101,12 +101,12 @@ module _ {R : Type 0} (f : Functions R) where
       record { good = (omega arith, omega arith, hl, hr); at_least = omega arith; at_most = omega arith; level = inl refl })))
 
   -- a tree that is balanced, and as high as another or one higher
-  pub record IsGrown (t u : Tree R) : Type 0 where
+  pub record IsGrown (t u : SearchTree R) : Type 0 where
     pub good : IsBalanced u
     pub at_least : height t ≤ height u
     pub at_most : height u ≤ height t + 1
 
-  pub grown-inserted : AreLawful f → (q : ℕ) (w : R) (t : Tree R) → IsBalanced t → height t + 1 < 2 ^ 31 → IsGrown t (inserted f q w t)
+  pub grown-inserted : AreLawful f → (q : ℕ) (w : R) (t : SearchTree R) → IsBalanced t → height t + 1 < 2 ^ 31 → IsGrown t (inserted f q w t)
   unfolding inserted
   grown-inserted laws q w Leaf h short = record { good = (omega arith, omega arith, tt, tt); at_least = omega arith; at_most = omega arith }
   grown-inserted laws q w (Node l p x r) h short =
@@ -123,24 +123,24 @@ module _ {R : Type 0} (f : Functions R) where
       (λ g. record { good = h; at_least = omega arith; at_most = omega arith }))
 
   -- a tree that is balanced, and as high as another or one lower
-  pub record IsShrunk (t u : Tree R) : Type 0 where
+  pub record IsShrunk (t u : SearchTree R) : Type 0 where
     pub good : IsBalanced u
     pub at_most : height u ≤ height t
     pub at_least : height t ≤ height u + 1
 
-  shrunk-left : AreLawful f → (l u : Tree R) (p : ℕ) (x y : R) (r : Tree R) → IsBalanced (Node l p x r) → height (Node l p x r) < 2 ^ 31 → IsShrunk l u → IsShrunk (Node l p x r) (balanced f u p y r)
+  shrunk-left : AreLawful f → (l u : SearchTree R) (p : ℕ) (x y : R) (r : SearchTree R) → IsBalanced (Node l p x r) → height (Node l p x r) < 2 ^ 31 → IsShrunk l u → IsShrunk (Node l p x r) (balanced f u p y r)
   shrunk-left laws l u p x y r h short sub =
       let h1 = h.0 in let h2 = h.1 in let g1 = sub.at_least in let g2 = sub.at_most in
       let s = settled-balanced laws u p y r sub.good h.3 (omega arith) (omega arith) (omega arith) (omega arith) in
       record { good = s.good; at_most = omega (arith, s.at_most, s.level); at_least = omega (arith, s.at_least, s.level) }
 
-  shrunk-right : AreLawful f → (l u : Tree R) (p : ℕ) (x y : R) (r : Tree R) → IsBalanced (Node l p x r) → height (Node l p x r) < 2 ^ 31 → IsShrunk r u → IsShrunk (Node l p x r) (balanced f l p y u)
+  shrunk-right : AreLawful f → (l u : SearchTree R) (p : ℕ) (x y : R) (r : SearchTree R) → IsBalanced (Node l p x r) → height (Node l p x r) < 2 ^ 31 → IsShrunk r u → IsShrunk (Node l p x r) (balanced f l p y u)
   shrunk-right laws l u p x y r h short sub =
       let h1 = h.0 in let h2 = h.1 in let g1 = sub.at_least in let g2 = sub.at_most in
       let s = settled-balanced laws l p y u h.2 sub.good (omega arith) (omega arith) (omega arith) (omega arith) in
       record { good = s.good; at_most = omega (arith, s.at_most, s.level); at_least = omega (arith, s.at_least, s.level) }
 
-  shrunk-without_least : AreLawful f → (t : Tree R) → IsBalanced t → height t < 2 ^ 31 → IsShrunk t (without_least f t)
+  shrunk-without_least : AreLawful f → (t : SearchTree R) → IsBalanced t → height t < 2 ^ 31 → IsShrunk t (without_least f t)
   unfolding without_least
   shrunk-without_least laws Leaf h short = record { good = tt; at_most = omega arith; at_least = omega arith }
   shrunk-without_least laws (Node l p x r) h short =
@@ -149,17 +149,17 @@ module _ {R : Type 0} (f : Functions R) where
       (λ e. record { good = h.3; at_most = omega arith; at_least = omega (arith, height-leaf l e) })
       (λ e. shrunk-left laws l (without_least f l) p x x r h short (shrunk-without_least laws l h.2 (omega arith)))
     where
-      height-leaf : (t : Tree R) → is_leaf t ≡ true → height t ≡ 0
+      height-leaf : (t : SearchTree R) → is_leaf t ≡ true → height t ≡ 0
       height-leaf Leaf e = refl
       height-leaf (Node l p x r) e = cc
 
-  shrunk-without_root : AreLawful f → (l : Tree R) (p : ℕ) (x : R) (r : Tree R) → IsBalanced (Node l p x r) → height (Node l p x r) < 2 ^ 31 → IsShrunk (Node l p x r) (without_root f (Node l p x r))
+  shrunk-without_root : AreLawful f → (l : SearchTree R) (p : ℕ) (x : R) (r : SearchTree R) → IsBalanced (Node l p x r) → height (Node l p x r) < 2 ^ 31 → IsShrunk (Node l p x r) (without_root f (Node l p x r))
   unfolding without_root
   shrunk-without_root laws l p x Leaf h short = let h1 = h.0 in let h2 = h.1 in record { good = h.2; at_most = omega arith; at_least = omega arith }
   shrunk-without_root laws l p x (Node a q y b) h short =
       shrunk-right laws l (without_least f (Node a q y b)) p x (least f a y) (Node a q y b) h short (shrunk-without_least laws (Node a q y b) h.3 (omega arith))
 
-  pub shrunk-removed : AreLawful f → (n : ℕ) (t : Tree R) → IsBalanced t → height t < 2 ^ 31 → IsShrunk t (removed f n t)
+  pub shrunk-removed : AreLawful f → (n : ℕ) (t : SearchTree R) → IsBalanced t → height t < 2 ^ 31 → IsShrunk t (removed f n t)
   unfolding removed
   shrunk-removed laws n Leaf h short = record { good = tt; at_most = omega arith; at_least = omega arith }
   shrunk-removed laws n (Node l p x r) h short =
@@ -173,15 +173,15 @@ module _ {R : Type 0} (f : Functions R) where
 -- ---- a row that comes in place of another
 
 module _ {R : Type 0} (f : Functions R) (n : ℕ) (w : R) where
-  pub moved-left : (l : Tree R) (p : ℕ) (x : R) (r : Tree R) → n < f.rank x → moved f n w (Node l p x r) ≡ Node (moved f n w l) p x r
+  pub moved-left : (l : SearchTree R) (p : ℕ) (x : R) (r : SearchTree R) → n < f.rank x → moved f n w (Node l p x r) ≡ Node (moved f n w l) p x r
   unfolding moved
   moved-left l p x r h = cond-true (ltb n (f.rank x)) _ _ (lt-ltb _ _ h)
 
-  pub moved-right : (l : Tree R) (p : ℕ) (x : R) (r : Tree R) → f.rank x < n → moved f n w (Node l p x r) ≡ Node l p x (moved f n w r)
+  pub moved-right : (l : SearchTree R) (p : ℕ) (x : R) (r : SearchTree R) → f.rank x < n → moved f n w (Node l p x r) ≡ Node l p x (moved f n w r)
   unfolding moved
   moved-right l p x r h = cond-false (ltb n (f.rank x)) _ _ (le-ltb _ _ (omega arith)) ∙ cond-true (ltb (f.rank x) n) _ _ (lt-ltb _ _ h)
 
-  pub moved-here : (l : Tree R) (p : ℕ) (x : R) (r : Tree R) → n ≡ f.rank x → moved f n w (Node l p x r) ≡ Node l p w r
+  pub moved-here : (l : SearchTree R) (p : ℕ) (x : R) (r : SearchTree R) → n ≡ f.rank x → moved f n w (Node l p x r) ≡ Node l p w r
   unfolding moved
   moved-here l p x r h = cond-false (ltb n (f.rank x)) _ _ (le-ltb _ _ (omega arith)) ∙ cond-false (ltb (f.rank x) n) _ _ (le-ltb _ _ (omega arith))
 
@@ -190,7 +190,7 @@ module _ {R : Type 0} (f : Functions R) (n : ℕ) (w : R) where
   moved-leaf = refl
 
   -- each row keeps its place and its height
-  pub place-moved : (t : Tree R) → place_of (moved f n w t) ≡ place_of t
+  pub place-moved : (t : SearchTree R) → place_of (moved f n w t) ≡ place_of t
   place-moved Leaf = ap place_of moved-leaf
   place-moved (Node l p x r) = elim (cases_order n (f.rank x)) [
     | inl same ↦ ap place_of (moved-here l p x r same)
@@ -198,7 +198,7 @@ module _ {R : Type 0} (f : Functions R) (n : ℕ) (w : R) where
     | inr (inr more) ↦ ap place_of (moved-right l p x r more)
   ]
 
-  pub height-moved : (t : Tree R) → height (moved f n w t) ≡ height t
+  pub height-moved : (t : SearchTree R) → height (moved f n w t) ≡ height t
   height-moved Leaf = ap height moved-leaf
   height-moved (Node l p x r) = elim (cases_order n (f.rank x)) [
     | inl same ↦ ap height (moved-here l p x r same)
@@ -206,7 +206,7 @@ module _ {R : Type 0} (f : Functions R) (n : ℕ) (w : R) where
     | inr (inr more) ↦ ap height (moved-right l p x r more) ∙ ap (λ k. max (height l) k + 1) (height-moved r)
   ]
 
-  pub balanced-moved : (t : Tree R) → IsBalanced t → IsBalanced (moved f n w t)
+  pub balanced-moved : (t : SearchTree R) → IsBalanced t → IsBalanced (moved f n w t)
   balanced-moved Leaf h = subst IsBalanced (sym moved-leaf) tt
   balanced-moved (Node l p x r) h = elim (cases_order n (f.rank x)) [
     | inl same ↦ subst IsBalanced (sym (moved-here l p x r same)) h
@@ -218,7 +218,7 @@ module _ {R : Type 0} (f : Functions R) (n : ℕ) (w : R) where
         subst IsBalanced (sym (moved-right l p x r more)) (omega (arith, h.0), omega (arith, h.1), h.2, balanced-moved r h.3)
   ]
 
-  pub length-moved : (t : Tree R) → length (rows_of f (moved f n w t)) ≡ length (rows_of f t)
+  pub length-moved : (t : SearchTree R) → length (rows_of f (moved f n w t)) ≡ length (rows_of f t)
   length-moved Leaf = ap (λ t. length (rows_of f t)) moved-leaf
   length-moved (Node l p x r) = elim (cases_order n (f.rank x)) [
     | inl same ↦
@@ -234,14 +234,14 @@ module _ {R : Type 0} (f : Functions R) (n : ℕ) (w : R) where
 
 -- rows that lie before the old rank lie before the new one, and so behind
 module _ {R : Type 0} (f : Functions R) (n m : ℕ) where
-  pub ordered-below : (low high : ℕ) (t : Tree R) → IsOrdered f low high t → AreBeside f n m t → high ≤ n → low ≤ m → IsOrdered f low m t
+  pub ordered-below : (low high : ℕ) (t : SearchTree R) → IsOrdered f low high t → AreBeside f n m t → high ≤ n → low ≤ m → IsOrdered f low m t
   ordered-below low high Leaf o b h g = g
   ordered-below low high (Node l p x r) o b h g =
       let end = IsOrdered-bounds f (f.rank x + 1) high r o.1 in
       let less = b.0.0 (omega arith) in
       (o.0, ordered-below (f.rank x + 1) high r o.1 b.2 h (omega arith))
 
-  pub ordered-above : (low high : ℕ) (t : Tree R) → IsOrdered f low high t → AreBeside f n m t → n < low → m < high → IsOrdered f (m + 1) high t
+  pub ordered-above : (low high : ℕ) (t : SearchTree R) → IsOrdered f low high t → AreBeside f n m t → n < low → m < high → IsOrdered f (m + 1) high t
   ordered-above low high Leaf o b h g = omega arith
   ordered-above low high (Node l p x r) o b h g =
       let from = IsOrdered-bounds f low (f.rank x) l o.0 in

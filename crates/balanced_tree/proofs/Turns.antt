@@ -5,13 +5,13 @@ use Rattle.std.proofs.lemmas.Option.{same_Some}
 use Rattle.slab.specs.Slab.{Slab, Updates}
 use Rattle.balanced_tree.specs.declared.children.Child.{Child}
 use Rattle.balanced_tree.specs.Row.{Functions, AreLawful, height_in}
-use Rattle.balanced_tree.specs.inside.Tree.{Tree, Leaf, Node, place_of, child_of, stored, leaned_right, leaned_left, balanced}
+use Rattle.balanced_tree.specs.inside.Tree.{SearchTree, Leaf, Node, place_of, child_of, stored, leaned_right, leaned_left, balanced}
 use Rattle.balanced_tree.specs.inside.Standing.{child_at, Spells, Same, Keeps, IsSplit, height_at}
 use Rattle.balanced_tree.proofs.Spelling.{link_of-child_of, child_at-place_of, height_at-link, IsOrdered-bounds, Spells-kept, Keeps-trans, Keeps-wider, Same-linked, IsPlaced, split_over, split_with, place_over-tree, picked-is, picked-test, not_picked}
 
 module _ {R : Type 0} (f : Functions R) where
   -- a second row is put over parts among which the first was put
-  IsPlaced-after : {s s1 s2 : Slab R} {u : Tree R} {low high a b : ℕ} {d : Child R} → low ≤ a → b ≤ high → Keeps f a b s s1 → IsPlaced f s1 s2 u low high d → IsPlaced f s s2 u low high d
+  IsPlaced-after : {s s1 s2 : Slab R} {u : SearchTree R} {low high a b : ℕ} {d : Child R} → low ≤ a → b ≤ high → Keeps f a b s s1 → IsPlaced f s1 s2 u low high d → IsPlaced f s s2 u low high d
   IsPlaced-after {low = low} {high = high} g h one two =
       record {
         becomes = record {
@@ -23,7 +23,7 @@ module _ {R : Type 0} (f : Functions R) where
       }
 
   pub once_right :
-      {s s1 s2 : Slab R} {a b r : Tree R} {p j q i low high : ℕ} {x y w v : R} {cl cm cr : Option (Child R)} {lower upper : Child R}
+      {s s1 s2 : Slab R} {a b r : SearchTree R} {p j q i low high : ℕ} {x y w v : R} {cl cm cr : Option (Child R)} {lower upper : Child R}
       → AreLawful f
       → IsSplit f s (Node a j y b) p x r low high → Same f x w → Same f y v → i ≡ j → q ≡ p
       → cl ≡ child_of f a → cm ≡ child_of f b → cr ≡ child_of f r
@@ -40,7 +40,7 @@ module _ {R : Type 0} (f : Functions R) where
       IsPlaced-after (omega arith) (omega arith) one.becomes.kept (place_over-tree f laws outer same_y left one.child is_j u2 upper_is)
 
   pub once_left :
-      {s s1 s2 : Slab R} {l a b : Tree R} {p j q i low high : ℕ} {x y w v : R} {cl cm cr : Option (Child R)} {lower upper : Child R}
+      {s s1 s2 : Slab R} {l a b : SearchTree R} {p j q i low high : ℕ} {x y w v : R} {cl cm cr : Option (Child R)} {lower upper : Child R}
       → AreLawful f
       → IsSplit f s l p x (Node a j y b) low high → Same f x w → Same f y v → i ≡ j → q ≡ p
       → cl ≡ child_of f l → cm ≡ child_of f a → cr ≡ child_of f b
@@ -57,7 +57,7 @@ module _ {R : Type 0} (f : Functions R) where
       IsPlaced-after (omega arith) (omega arith) one.becomes.kept (place_over-tree f laws outer same_y one.child right is_j u2 upper_is)
 
   pub twice_right :
-      {s s1 s2 s3 : Slab R} {a c d r : Tree R} {p j k q i h low high : ℕ} {x y z w v u : R} {ca cc cd cr : Option (Child R)} {first last upper : Child R}
+      {s s1 s2 s3 : Slab R} {a c d r : SearchTree R} {p j k q i h low high : ℕ} {x y z w v u : R} {ca cc cd cr : Option (Child R)} {first last upper : Child R}
       → AreLawful f
       → IsSplit f s (Node a j y (Node c k z d)) p x r low high → Same f x w → Same f y v → Same f z u → i ≡ j → h ≡ k → q ≡ p
       → ca ≡ child_of f a → cc ≡ child_of f c → cd ≡ child_of f d → cr ≡ child_of f r
@@ -85,7 +85,7 @@ module _ {R : Type 0} (f : Functions R) where
       IsPlaced-after (omega arith) (omega arith) one.becomes.kept (IsPlaced-after (omega arith) (omega arith) two.becomes.kept three)
 
   pub twice_left :
-      {s s1 s2 s3 : Slab R} {l c d b : Tree R} {p j k q i h low high : ℕ} {x y z w v u : R} {cl cc cd cb : Option (Child R)} {first last upper : Child R}
+      {s s1 s2 s3 : Slab R} {l c d b : SearchTree R} {p j k q i h low high : ℕ} {x y z w v u : R} {cl cc cd cb : Option (Child R)} {first last upper : Child R}
       → AreLawful f
       → IsSplit f s l p x (Node (Node c k z d) j y b) low high → Same f x w → Same f y v → Same f z u → i ≡ j → h ≡ k → q ≡ p
       → cl ≡ child_of f l → cc ≡ child_of f c → cd ≡ child_of f d → cb ≡ child_of f b
@@ -113,13 +113,13 @@ module _ {R : Type 0} (f : Functions R) where
       IsPlaced-after (omega arith) (omega arith) one.becomes.kept (IsPlaced-after (omega arith) (omega arith) two.becomes.kept three)
 
   -- a child that is the root of a tree
-  record IsRoot (s : Slab R) (c : Child R) (a : Tree R) (j : ℕ) (y : R) (b : Tree R) : Type 0 where
+  record IsRoot (s : Slab R) (c : Child R) (a : SearchTree R) (j : ℕ) (y : R) (b : SearchTree R) : Type 0 where
     pub link : c.link ≡ j
     pub same : Same f y c.row
     pub left : child_at s (f.left c.row) ≡ child_of f a
     pub right : child_at s (f.right c.row) ≡ child_of f b
 
-  IsRoot-child_of : AreLawful f → (s : Slab R) (a : Tree R) (j : ℕ) (y : R) (b : Tree R) (c : Child R) → Spells f s (Node a j y b) → Some c ≡ child_of f (Node a j y b) → IsRoot s c a j y b
+  IsRoot-child_of : AreLawful f → (s : Slab R) (a : SearchTree R) (j : ℕ) (y : R) (b : SearchTree R) (c : Child R) → Spells f s (Node a j y b) → Some c ≡ child_of f (Node a j y b) → IsRoot s c a j y b
   IsRoot-child_of laws s a j y b c h e =
       subst (λ d. IsRoot s d a j y b) (sym (same_Some _ _ e)) (record {
         link = refl;
@@ -130,7 +130,7 @@ module _ {R : Type 0} (f : Functions R) where
 
   pub leaned_right-once :
       {s s1 s2 : Slab R} {p low high : ℕ} {x w : R} {cl cm picked cr : Option (Child R)} {left lower upper : Child R}
-      (l r : Tree R) → AreLawful f
+      (l r : SearchTree R) → AreLawful f
       → IsSplit f s l p x r low high → Same f x w → Some left ≡ child_of f l → cr ≡ child_of f r
       → cl ≡ child_at s (f.left left.row) → cm ≡ child_at s (f.right left.row)
       → picked ≡ cond (ltb (height_in f.height cl) (height_in f.height cm)) cm None → picked ≡ None
@@ -151,7 +151,7 @@ module _ {R : Type 0} (f : Functions R) where
 
   pub leaned_right-twice :
       {s s1 s2 s3 : Slab R} {p low high : ℕ} {x w : R} {cl cm picked cc cd cr : Option (Child R)} {left middle first last upper : Child R}
-      (l r : Tree R) → AreLawful f
+      (l r : SearchTree R) → AreLawful f
       → IsSplit f s l p x r low high → Same f x w → Some left ≡ child_of f l → cr ≡ child_of f r
       → cl ≡ child_at s (f.left left.row) → cm ≡ child_at s (f.right left.row)
       → picked ≡ cond (ltb (height_in f.height cl) (height_in f.height cm)) cm None → picked ≡ Some middle
@@ -175,7 +175,7 @@ module _ {R : Type 0} (f : Functions R) where
 
   pub leaned_left-once :
       {s s1 s2 : Slab R} {p low high : ℕ} {x w : R} {cl cm picked cr : Option (Child R)} {right lower upper : Child R}
-      (l r : Tree R) → AreLawful f
+      (l r : SearchTree R) → AreLawful f
       → IsSplit f s l p x r low high → Same f x w → cl ≡ child_of f l → Some right ≡ child_of f r
       → cr ≡ child_at s (f.right right.row) → cm ≡ child_at s (f.left right.row)
       → picked ≡ cond (ltb (height_in f.height cr) (height_in f.height cm)) cm None → picked ≡ None
@@ -196,7 +196,7 @@ module _ {R : Type 0} (f : Functions R) where
 
   pub leaned_left-twice :
       {s s1 s2 s3 : Slab R} {p low high : ℕ} {x w : R} {cl cm picked cc cd cr : Option (Child R)} {right middle first last upper : Child R}
-      (l r : Tree R) → AreLawful f
+      (l r : SearchTree R) → AreLawful f
       → IsSplit f s l p x r low high → Same f x w → cl ≡ child_of f l → Some right ≡ child_of f r
       → cr ≡ child_at s (f.right right.row) → cm ≡ child_at s (f.left right.row)
       → picked ≡ cond (ltb (height_in f.height cr) (height_in f.height cm)) cm None → picked ≡ Some middle
@@ -219,7 +219,7 @@ module _ {R : Type 0} (f : Functions R) where
       (twice_left laws split same root.same inner.same root.link inner.link refl left_is (on_c ∙ inner.left) (on_d ∙ inner.right) (on_r ∙ root.right) u1 first_is u2 last_is u3 upper_is)
 
   -- the heights under the links to the parts say which turn it is
-  module _ {s : Slab R} {l r : Tree R} {p low high : ℕ} {x : R} {left right : Option ℕ} (split : IsSplit f s l p x r low high) (left_is : place_of l ≡ left) (right_is : place_of r ≡ right) where
+  module _ {s : Slab R} {l r : SearchTree R} {p low high : ℕ} {x : R} {left right : Option ℕ} (split : IsSplit f s l p x r low high) (left_is : place_of l ≡ left) (right_is : place_of r ≡ right) where
     height_left : height_at f s left ≡ stored f l
     height_left = height_at-link f s l split.left left_is
 

@@ -4,7 +4,7 @@ use Rattle.slab.specs.Slab.{Slab, slab_len}
 use Rattle.balanced_tree.specs.declared.changes.Change.{Change}
 use Rattle.balanced_tree.specs.Row.{Functions, AreLawful, plain}
 use Rattle.balanced_tree.specs.Rows.{if_at, row_at, row_from, row_to, with_row, without_rank, AreAllBeside, IsRising}
-use Rattle.balanced_tree.specs.inside.Tree.{Tree, Leaf, Node, place_of, height, child_of, rows_of, has_rank, row_in, found, inserted, removed, moved, AreBeside}
+use Rattle.balanced_tree.specs.inside.Tree.{SearchTree, Leaf, Node, place_of, height, child_of, rows_of, has_rank, row_in, found, inserted, removed, moved, AreBeside}
 use Rattle.balanced_tree.specs.inside.Standing.{root_after, Spells, IsStanding, HasInserted, HasRemoved, HasMoved, height_at, rows_down, rows_in, IsTree}
 use Rattle.balanced_tree.proofs.Spelling.{link_of-child_of, child_at-place_of}
 use Rattle.balanced_tree.proofs.Nodes.{height_at-standing}
@@ -14,7 +14,7 @@ use Rattle.balanced_tree.proofs.RowLaws.{option_or-none, rises-rows, rows-insert
 use Rattle.balanced_tree.proofs.Costs.{height-short, look_cost, change_cost}
 
 module _ {R : Type 0} (f : Functions R) (laws : AreLawful f) where
-  rows_down-tree : (n : ℕ) (s : Slab R) (t : Tree R) → Spells f s t → height t ≤ n → rows_down f n s (place_of t) ≡ rows_of f t
+  rows_down-tree : (n : ℕ) (s : Slab R) (t : SearchTree R) → Spells f s t → height t ≤ n → rows_down f n s (place_of t) ≡ rows_of f t
   unfolding rows_down
   rows_down-tree zero s Leaf h short = refl
   rows_down-tree (suc n) s Leaf h short = refl
@@ -28,7 +28,7 @@ module _ {R : Type 0} (f : Functions R) (laws : AreLawful f) where
       let plain_is : plain f row ≡ plain f x = laws.forgets x _ _ None None in
       rw (child_at-place_of f s (Node l p x r) h, left_is, right_is, plain_is, on_l, on_r) refl
 
-  pub rows_in-standing : {s : Slab R} {root : Option ℕ} {t : Tree R} {low high : ℕ} → IsStanding f s root t low high → (rows_in f s root).rows ≡ rows_of f t
+  pub rows_in-standing : {s : Slab R} {root : Option ℕ} {t : SearchTree R} {low high : ℕ} → IsStanding f s root t low high → (rows_in f s root).rows ≡ rows_of f t
   rows_in-standing {s} {root} {t} h =
       let tall = height_at-standing f laws h in
       ap (λ q. rows_down f (height_at f s root) s q) (sym h.is_at) ∙ rows_down-tree (height_at f s root) s t h.spelled (omega arith)
@@ -50,7 +50,7 @@ module _ {R : Type 0} (f : Functions R) (laws : AreLawful f) where
       }
 
   -- more room in the slab changes nothing of the tree
-  Spells-slots : (s s1 : Slab R) (t : Tree R) → s1.slots ≡ s.slots → Spells f s t → Spells f s1 t
+  Spells-slots : (s s1 : Slab R) (t : SearchTree R) → s1.slots ≡ s.slots → Spells f s t → Spells f s1 t
   Spells-slots s s1 Leaf same h = tt
   Spells-slots s s1 (Node l p x r) same h = (ap (λ u. slice_index_or u p None) same ∙ h.0, Spells-slots s s1 l same h.1, Spells-slots s s1 r same h.2)
 

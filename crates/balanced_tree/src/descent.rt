@@ -4,7 +4,7 @@ ghost use Rattle.std.specs.Prelude.{◌≡◌, ℕ, ◌+◌, ◌≤◌, false, S
 ghost use Rattle.std.specs.Option.{option_map};
 ghost use Rattle.balanced_tree.specs.Row.{plain};
 ghost use Rattle.balanced_tree.specs.inside.Standing.{IsStanding, Stands};
-ghost use Rattle.balanced_tree.specs.inside.Tree.{Tree, height, found};
+ghost use Rattle.balanced_tree.specs.inside.Tree.{SearchTree, height, found};
 
 use crate::row_slab::RowSlab;
 use crate::steps::Steps;
@@ -22,9 +22,9 @@ pub fn find_below<'a, R: TreeRow, L: Ledger>(
     steps: &mut Steps<L>,
 ) -> Option<&'a R>
     requires { Stands R.functions rows.now at }
-    ensures row { (t : Tree R) (low high : ℕ) → IsStanding R.functions rows.now at t low high
+    ensures row { (t : SearchTree R) (low high : ℕ) → IsStanding R.functions rows.now at t low high
         → option_map (plain R.functions) (option_copied result) ≡ found R.functions down rank None t }
-    ensures steps { (t : Tree R) (low high : ℕ) → IsStanding R.functions rows.now at t low high
+    ensures steps { (t : SearchTree R) (low high : ℕ) → IsStanding R.functions rows.now at t low high
         → steps.new ≤ steps.old + height t }
 {
     let mut at = at;
@@ -56,9 +56,9 @@ pub fn first_below<'a, R: TreeRow, L: Ledger>(
     steps: &mut Steps<L>,
 ) -> Option<&'a R>
     requires { Stands R.functions rows.now at }
-    ensures row { (t : Tree R) (low high : ℕ) → IsStanding R.functions rows.now at t low high
+    ensures row { (t : SearchTree R) (low high : ℕ) → IsStanding R.functions rows.now at t low high
         → option_map (plain R.functions) (option_copied result) ≡ found R.functions false rank None t }
-    ensures steps { (t : Tree R) (low high : ℕ) → IsStanding R.functions rows.now at t low high
+    ensures steps { (t : SearchTree R) (low high : ℕ) → IsStanding R.functions rows.now at t low high
         → steps.new ≤ steps.old + height t }
 {
     find_below(rows, at, rank, false, steps)

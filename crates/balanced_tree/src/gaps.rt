@@ -5,7 +5,7 @@ ghost use Rattle.std.specs.Prelude.{if◌then◌else◌, nat_le, Some, None};
 ghost use Rattle.balanced_tree.specs.Gaps.{ApartWithin};
 ghost use Rattle.balanced_tree.specs.inside.GapSearch.{HasSearched};
 ghost use Rattle.balanced_tree.specs.inside.Standing.{IsStanding, Stands};
-ghost use Rattle.balanced_tree.specs.inside.Tree.{Tree, rows_of};
+ghost use Rattle.balanced_tree.specs.inside.Tree.{SearchTree, rows_of};
 
 use crate::extent_row::ExtentRow;
 use crate::row_slab::RowSlab;
@@ -50,7 +50,7 @@ pub fn gap_below<R: ExtentRow, L: Ledger>(
     steps: &mut Steps<L>,
 ) -> Option<u128>
     requires { Stands R.functions rows.now at }
-    ensures { (t : Tree R) (low high first last : ℕ) → IsStanding R.functions rows.now at t low high
+    ensures { (t : SearchTree R) (low high first last : ℕ) → IsStanding R.functions rows.now at t low high
         → ApartWithin R.functions R.extents first last (rows_of R.functions t)
         → HasSearched R.functions R.extents t first last from size limit result steps.old steps.new }
 {

@@ -1,7 +1,7 @@
 //! A row that is put into the tree.
 
 ghost use Rattle.std.specs.Prelude.{◌≡◌, ℕ, ◌<◌, ◌≤◌};
-ghost use Rattle.balanced_tree.specs.inside.Tree.{Tree};
+ghost use Rattle.balanced_tree.specs.inside.Tree.{SearchTree};
 ghost use Rattle.balanced_tree.specs.inside.Standing.{IsStanding, StandsFor, HasInserted};
 
 use crate::changes::{Change, root_after};
@@ -20,7 +20,7 @@ pub fn insert_below<R: TreeRow, L: Ledger>(
     steps: &mut Steps<L>,
 ) -> Change
     requires { StandsFor R.functions rows.old at (R.functions.rank row.now) }
-    ensures inserted { (t : Tree R) (low high : ℕ) → IsStanding R.functions rows.old at t low high
+    ensures inserted { (t : SearchTree R) (low high : ℕ) → IsStanding R.functions rows.old at t low high
         → low ≤ R.functions.rank row.now → R.functions.rank row.now < high
         → HasInserted R.functions rows.old rows.new row.now t low high result steps.old steps.new }
     ensures capacity { rows.new.capacity ≡ rows.old.capacity }

@@ -1,7 +1,7 @@
 //! A row that comes in place of one of another rank.
 
 ghost use Rattle.std.specs.Prelude.{◌≡◌, ℕ, ◌<◌, ◌≤◌};
-ghost use Rattle.balanced_tree.specs.inside.Tree.{Tree, AreBeside};
+ghost use Rattle.balanced_tree.specs.inside.Tree.{SearchTree, AreBeside};
 ghost use Rattle.balanced_tree.specs.inside.Standing.{IsStanding, StandsBeside, HasMoved};
 
 use crate::changes::Change;
@@ -21,7 +21,7 @@ pub fn move_below<R: TreeRow, L: Ledger>(
     steps: &mut Steps<L>,
 ) -> Change
     requires { StandsBeside R.functions rows.old at rank (R.functions.rank row.now) }
-    ensures moved { (t : Tree R) (low high : ℕ) → IsStanding R.functions rows.old at t low high
+    ensures moved { (t : SearchTree R) (low high : ℕ) → IsStanding R.functions rows.old at t low high
         → AreBeside R.functions rank (R.functions.rank row.now) t
         → low ≤ R.functions.rank row.now → R.functions.rank row.now < high
         → HasMoved R.functions rows.old rows.new rank row.now t low high result steps.old steps.new }

@@ -1,7 +1,7 @@
 //! A row that is taken out of the tree.
 
 ghost use Rattle.std.specs.Prelude.{◌≡◌, ℕ, Some};
-ghost use Rattle.balanced_tree.specs.inside.Tree.{Tree};
+ghost use Rattle.balanced_tree.specs.inside.Tree.{SearchTree};
 ghost use Rattle.balanced_tree.specs.inside.Standing.{IsStanding, Stands, HasRemoved, HasTakenLeast, HasTakenRoot};
 
 use crate::changes::{Change, change_to, root_after};
@@ -25,7 +25,7 @@ fn take_least<R: TreeRow, L: Ledger>(
     steps: &mut Steps<L>,
 ) -> Least<R>
     requires { Stands R.functions rows.old (Some place) }
-    ensures taken { (t : Tree R) (low high : ℕ) → IsStanding R.functions rows.old (Some place) t low high
+    ensures taken { (t : SearchTree R) (low high : ℕ) → IsStanding R.functions rows.old (Some place) t low high
         → HasTakenLeast R.functions rows.old rows.new t low high result.row result.rest steps.old steps.new }
     ensures capacity { rows.new.capacity ≡ rows.old.capacity }
 {
@@ -62,7 +62,7 @@ fn take_root<R: TreeRow, L: Ledger>(
     steps: &mut Steps<L>,
 ) -> Option<usize>
     requires { Stands R.functions rows.old (Some place) }
-    ensures taken { (t : Tree R) (low high : ℕ) → IsStanding R.functions rows.old (Some place) t low high
+    ensures taken { (t : SearchTree R) (low high : ℕ) → IsStanding R.functions rows.old (Some place) t low high
         → HasTakenRoot R.functions rows.old rows.new t low high result steps.old steps.new }
     ensures capacity { rows.new.capacity ≡ rows.old.capacity }
 {
@@ -87,7 +87,7 @@ pub fn remove_below<R: TreeRow, L: Ledger>(
     steps: &mut Steps<L>,
 ) -> Change
     requires { Stands R.functions rows.old at }
-    ensures removed { (t : Tree R) (low high : ℕ) → IsStanding R.functions rows.old at t low high
+    ensures removed { (t : SearchTree R) (low high : ℕ) → IsStanding R.functions rows.old at t low high
         → HasRemoved R.functions rows.old rows.new rank t low high taken.new result steps.old steps.new }
     ensures capacity { rows.new.capacity ≡ rows.old.capacity }
 {

@@ -5,7 +5,7 @@ ghost use Rattle.balanced_tree.specs.declared.changes.Change.TheVariants.{Hidden
 ghost use Rattle.std.specs.Option.{ForSome};
 ghost use Rattle.slab.specs.Slab.{slab_len, ContainsKey, Updates};
 ghost use Rattle.balanced_tree.specs.Row.{height_in, AreAlike};
-ghost use Rattle.balanced_tree.specs.inside.Tree.{Tree, place_of, leaned_right, leaned_left, balanced};
+ghost use Rattle.balanced_tree.specs.inside.Tree.{SearchTree, place_of, leaned_right, leaned_left, balanced};
 ghost use Rattle.balanced_tree.specs.inside.Placing.{PlacesThree};
 ghost use Rattle.balanced_tree.specs.inside.Standing.{child_at, height_at, root_after, IsSplit, Splits, Becomes, Same, IsRooted};
 
@@ -219,7 +219,7 @@ fn lean_right<R: TreeRow, L: Ledger>(
 ) -> usize
     requires split { Splits R.functions rows.old left place row right }
     requires high { height_at R.functions rows.old right < height_at R.functions rows.old left }
-    ensures tree { (l : Tree R) (x : R) (r : Tree R) (low high : ℕ) → IsSplit R.functions rows.old l place x r low high
+    ensures tree { (l : SearchTree R) (x : R) (r : SearchTree R) (low high : ℕ) → IsSplit R.functions rows.old l place x r low high
         → Same R.functions x row → place_of l ≡ left → place_of r ≡ right
         → Becomes R.functions rows.old rows.new (leaned_right R.functions l place x r) low high
         × (place_of (leaned_right R.functions l place x r) ≡ Some result) }
@@ -257,7 +257,7 @@ fn lean_left<R: TreeRow, L: Ledger>(
 ) -> usize
     requires split { Splits R.functions rows.old left place row right }
     requires high { height_at R.functions rows.old left < height_at R.functions rows.old right }
-    ensures tree { (l : Tree R) (x : R) (r : Tree R) (low high : ℕ) → IsSplit R.functions rows.old l place x r low high
+    ensures tree { (l : SearchTree R) (x : R) (r : SearchTree R) (low high : ℕ) → IsSplit R.functions rows.old l place x r low high
         → Same R.functions x row → place_of l ≡ left → place_of r ≡ right
         → Becomes R.functions rows.old rows.new (leaned_left R.functions l place x r) low high
         × (place_of (leaned_left R.functions l place x r) ≡ Some result) }
@@ -296,7 +296,7 @@ pub fn balance<R: TreeRow, L: Ledger>(
     steps: &mut Steps<L>,
 ) -> usize
     requires { Splits R.functions rows.old left place row right }
-    ensures tree { (l : Tree R) (x : R) (r : Tree R) (low high : ℕ) → IsSplit R.functions rows.old l place x r low high
+    ensures tree { (l : SearchTree R) (x : R) (r : SearchTree R) (low high : ℕ) → IsSplit R.functions rows.old l place x r low high
         → Same R.functions x row → place_of l ≡ left → place_of r ≡ right
         → Becomes R.functions rows.old rows.new (balanced R.functions l place x r) low high
         × (place_of (balanced R.functions l place x r) ≡ Some result) }
@@ -326,7 +326,7 @@ pub fn rebalance<R: TreeRow, L: Ledger>(
     steps: &mut Steps<L>,
 ) -> Change
     requires { Splits R.functions rows.old left place row right }
-    ensures tree { (l : Tree R) (x : R) (r : Tree R) (low high : ℕ) → IsSplit R.functions rows.old l place x r low high
+    ensures tree { (l : SearchTree R) (x : R) (r : SearchTree R) (low high : ℕ) → IsSplit R.functions rows.old l place x r low high
         → Same R.functions x row → place_of l ≡ left → place_of r ≡ right
         → Becomes R.functions rows.old rows.new (balanced R.functions l place x r) low high
         × IsRooted R.functions (Some (record { link = place; row = row })) (balanced R.functions l place x r) result }

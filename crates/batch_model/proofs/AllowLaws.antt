@@ -24,7 +24,7 @@ use Rattle.vm_model.proofs.PinLaws.{covers_parts}
 use Rattle.vm_model.proofs.StepLaws.{AllOff, AllOff-from_none, change_parts, place_inside}
 use Rattle.batch_model.specs.declared.job.JobKind.{JobKind}
 use Rattle.batch_model.specs.declared.job.JobKind.TheVariants.{Commit, Zero, Decommit}
-use Rattle.batch_model.specs.Pieces.{plain}
+use Rattle.batch_model.specs.Pieces.{plain_command}
 use Rattle.batch_model.proofs.RowLaws.{touched-pages, count_from-nothing}
 use Rattle.batch_model.proofs.TreatLaws.{is_whole-true}
 
@@ -53,7 +53,7 @@ rows_inside s name a n good there inside =
     let place = place_inside s name (target_of s name) (a * PAGE) (n * PAGE) good (names-open s name there) (omega (arith, inside)) in omega (arith, place)
 
 -- the name that the plain command gives, which is none
-pub GivesName-plain : (kind : JobKind) (name : VmoName) (offset len : ℕ) → GivesName (plain kind name offset len)
+pub GivesName-plain : (kind : JobKind) (name : VmoName) (offset len : ℕ) → GivesName (plain_command kind name offset len)
 GivesName-plain Commit name offset len = tt
 GivesName-plain Zero name offset len = tt
 GivesName-plain Decommit name offset len = tt
@@ -74,7 +74,7 @@ module _ (s : State) (name : VmoName) (a n : ℕ) (some : 0 < n) where
   need_is : need s.content (koid_of s name.0) (touched (place_of s name.0 (a * PAGE)) (n * PAGE)) ≡ unowned s.content (koid_of s name.0) ((target_of s name.0).first + a) n
   need_is = ap (need s.content (koid_of s name.0)) touched_is ∙ need-row s.content (koid_of s name.0) ((target_of s name.0).first + a) n
 
-  pub Allows-from_none : (kind : JobKind) → first_of (refusals s (plain kind name (a * PAGE) (n * PAGE))) ≡ None → Allows kind s name.0 a n
+  pub Allows-from_none : (kind : JobKind) → first_of (refusals s (plain_command kind name (a * PAGE) (n * PAGE))) ≡ None → Allows kind s name.0 a n
   Allows-from_none Commit none =
       let parts = change_parts s name.0 (a * PAGE) (n * PAGE) (touched (place_of s name.0 (a * PAGE)) (n * PAGE)) none in
       record {
@@ -130,7 +130,7 @@ module _ (s : State) (name : VmoName) (a n : ℕ) (some : 0 < n) where
   unfolding used
   used_few = grind (arith, count_below_le)
 
-  pub none-from_Allows : (kind : JobKind) → IsGoodState s → Allows kind s name.0 a n → first_of (refusals s (plain kind name (a * PAGE) (n * PAGE))) ≡ None
+  pub none-from_Allows : (kind : JobKind) → IsGoodState s → Allows kind s name.0 a n → first_of (refusals s (plain_command kind name (a * PAGE) (n * PAGE))) ≡ None
   none-from_Allows Commit good allows =
       let place = place_of s name.0 (a * PAGE) in
       let owned = touched place (n * PAGE) in

@@ -22,7 +22,7 @@ use Rattle.batch_model.specs.declared.command.BatchCommand.{BatchCommand}
 use Rattle.batch_model.specs.declared.command.BatchCommand.TheVariants.{Plain as PlainCommand, Begin, Step, Drop}
 use Rattle.batch_model.specs.declared.command.BatchReply.{BatchReply}
 use Rattle.batch_model.specs.declared.command.BatchReply.TheVariants.{Plain as PlainReply, Left}
-use Rattle.batch_model.specs.Pieces.{plain, begun, whole_of, left_of, piece_len, piece_of, advanced, IsOfPages}
+use Rattle.batch_model.specs.Pieces.{plain_command, begun, whole_of, left_of, piece_len, piece_of, advanced, IsOfPages}
 use Rattle.batch_model.specs.Batch.{BatchState, batch_refusals, jobs_after, DoesPiece, IsRefusedBatch, BatchStepAfter, BatchStep, IsGoodJob, AreGoodJobs, IsGoodBatch, HasBatchRanges}
 use Rattle.batch_model.proofs.AllowLaws.{GivesName-plain}
 use Rattle.batch_model.proofs.StepLaws.{step_cases, event_leads, gives_left, gives_plain, jobs_after-none, jobs_after-some, IsOfPages-advanced}
@@ -59,8 +59,8 @@ begins_whole old new job kind name offset len left step = go (first_of (batch_re
     (begin_parts old job kind name offset len e).1,
   )
 
-pub whole-begun : (kind : JobKind) (name : VmoName) (offset len : ℕ) → whole_of (begun kind name offset len) ≡ plain kind name offset len
-whole-begun kind name offset len = let e : (offset + len) - offset ≡ len = omega arith in ap (plain kind name offset) e
+pub whole-begun : (kind : JobKind) (name : VmoName) (offset len : ℕ) → whole_of (begun kind name offset len) ≡ plain_command kind name offset len
+whole-begun kind name offset len = let e : (offset + len) - offset ≡ len = omega arith in ap (plain_command kind name offset) e
 
 -- ---- what steps keep
 

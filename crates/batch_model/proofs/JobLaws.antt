@@ -21,7 +21,7 @@ use Rattle.batch_model.specs.declared.command.BatchCommand.{BatchCommand}
 use Rattle.batch_model.specs.declared.command.BatchCommand.TheVariants.{Step}
 use Rattle.batch_model.specs.declared.command.BatchReply.{BatchReply}
 use Rattle.batch_model.specs.declared.command.BatchReply.TheVariants.{Plain as PlainReply, Left}
-use Rattle.batch_model.specs.Pieces.{plain, left_of, piece_len, piece_of, whole_of, advanced, IsOfPages}
+use Rattle.batch_model.specs.Pieces.{plain_command, left_of, piece_len, piece_of, whole_of, advanced, IsOfPages}
 use Rattle.batch_model.specs.Batch.{BatchState, jobs_after, PieceGives, DoesPiece, BatchStep}
 use Rattle.batch_model.specs.BatchRuns.{BatchEvent, BatchRun, last_batch, AreTurns, NoneRefused}
 use Rattle.batch_model.proofs.AllowLaws.{Allows, Allows-from_none, none-from_Allows, GivesName-plain}
@@ -44,13 +44,13 @@ IsAt-from_pages job of_pages = record {
 }
 
 module _ (job : Job) (a n : ℕ) (at : IsAt job a n) where
-  whole_is : whole_of job ≡ plain job.kind job.name (a * PAGE) (n * PAGE)
-  whole_is = λ i. plain job.kind job.name (at.next i) (at.len i)
+  whole_is : whole_of job ≡ plain_command job.kind job.name (a * PAGE) (n * PAGE)
+  whole_is = λ i. plain_command job.kind job.name (at.next i) (at.len i)
 
-  piece_is : (pages : ℕ) → piece_of job pages ≡ plain job.kind job.name (a * PAGE) (min pages n * PAGE)
+  piece_is : (pages : ℕ) → piece_of job pages ≡ plain_command job.kind job.name (a * PAGE) (min pages n * PAGE)
   piece_is pages =
       let len : piece_len job pages ≡ min pages n * PAGE = omega (arith, at.len) in
-      λ i. plain job.kind job.name (at.next i) (len i)
+      λ i. plain_command job.kind job.name (at.next i) (len i)
 
   left_is : (pages : ℕ) → left_of (advanced job pages) ≡ n - min pages n
   left_is pages = omega (arith, at.len, at.next)
@@ -70,9 +70,9 @@ record IsPutOff (old new : Machine) (reply : Reply) : Type 0 where
   pub same : new ≡ old
 
 piece_outcome : (kind : JobKind) (name : VmoName) (a k : ℕ) (old new : Machine) (reply : Reply) → IsGoodMachine old → 0 < k → Allows kind old.state name.0 a k
-    → MachineStep old (plain kind name (a * PAGE) (k * PAGE)) reply new → IsDone kind name.0 a k old new reply ⊎ IsPutOff old new reply
+    → MachineStep old (plain_command kind name (a * PAGE) (k * PAGE)) reply new → IsDone kind name.0 a k old new reply ⊎ IsPutOff old new reply
 piece_outcome kind name a k old new reply good some allows step =
-    let command = plain kind name (a * PAGE) (k * PAGE) in
+    let command = plain_command kind name (a * PAGE) (k * PAGE) in
     elim (subst (λ (o : Option Refusal). MachineStepAfter o old command reply new) (none-from_Allows old.state name a k some kind good.state allows) step.outcome) [
       | inl effect ↦ let done = TreatsName-from_effect old name a k some kind reply new effect in inl (record { answer = done.0; treats = done.1 })
       | inr lacked ↦ inr (record { answer = lacked.0.answer; same = lacked.0.same })
@@ -124,7 +124,7 @@ turn name a n old job pages reply new good there at allows some done =
     let sum : count + (n - count) ≡ n = omega arith in
     let enough : 0 < count = omega (arith, at.some) in
     let all : Allows job.kind old.machine.state job.name.0 a (count + (n - count)) = subst (λ (k : ℕ). Allows job.kind old.machine.state job.name.0 a k) (sym sum) allows in
-    let step : MachineStep old.machine (plain job.kind job.name (a * PAGE) (count * PAGE)) done.answer new.machine =
+    let step : MachineStep old.machine (plain_command job.kind job.name (a * PAGE) (count * PAGE)) done.answer new.machine =
     subst (λ (c : Command). MachineStep old.machine c done.answer new.machine) (piece_is job a n at pages)
     (subst (λ (j : Job). MachineStep old.machine (piece_of j pages) done.answer new.machine) same done.step) in
     let gives : PieceGives done.answer old.jobs name (advanced job pages) reply new.jobs =
@@ -156,7 +156,7 @@ turn name a n old job pages reply new good there at allows some done =
                   vmo = refl;
                   there = ap (λ (f : ℕ → Option Job). f name) (told.1 ∙ jobs_after-some old.jobs name (advanced job pages) more) ∙ with_key-same old.jobs name (advanced job pages);
                   at = subst (λ (k : ℕ). IsAt (advanced job pages) (a + k) (n - k)) (sym exact) (IsAt-advanced job a n at pages less);
-                  good = (MachineStep-keeps old.machine (plain job.kind job.name (a * PAGE) (count * PAGE)) done.answer new.machine good (GivesName-plain job.kind job.name (a * PAGE) (count * PAGE)) step).good;
+                  good = (MachineStep-keeps old.machine (plain_command job.kind job.name (a * PAGE) (count * PAGE)) done.answer new.machine good (GivesName-plain job.kind job.name (a * PAGE) (count * PAGE)) step).good;
                   allows = Allows-behind job.kind job.name.0 a count (n - count) old.machine new.machine good.state all piece.treats;
                   treats = piece.treats;
                 }))
@@ -219,7 +219,7 @@ module _ (name : ℕ) (old : BatchState) (job : Job) (events : List BatchEvent) 
   at : IsAt job a n
   at = IsAt-from_pages job of_pages
 
-  none_too : first_of (refusals old.machine.state (plain job.kind job.name (a * PAGE) (n * PAGE))) ≡ None
+  none_too : first_of (refusals old.machine.state (plain_command job.kind job.name (a * PAGE) (n * PAGE))) ≡ None
   none_too = subst (λ (c : Command). first_of (refusals old.machine.state c) ≡ None) (whole_is job a n at) none
 
   comes_to : ComesTo name job.kind job.name a n old events
@@ -234,5 +234,5 @@ module _ (name : ℕ) (old : BatchState) (job : Job) (events : List BatchEvent) 
   MachineStep-from_turns gone =
       let last = (last_batch old events).machine in
       subst (λ (c : Command). MachineStep old.machine c Done last) (sym (whole_is job a n at))
-      (MachineStep-done old.machine (plain job.kind job.name (a * PAGE) (n * PAGE)) Done last none_too
+      (MachineStep-done old.machine (plain_command job.kind job.name (a * PAGE) (n * PAGE)) Done last none_too
       (TreatsName-effect old.machine job.name a n at.some job.kind last (comes_to.1 gone)))

@@ -20,7 +20,7 @@ use Rattle.vm_model.specs.Machine.MachineStep.{MachineEffect}
 use Rattle.vm_model.proofs.PinLaws.{none_pinned}
 use Rattle.batch_model.specs.declared.job.JobKind.{JobKind}
 use Rattle.batch_model.specs.declared.job.JobKind.TheVariants.{Commit, Zero, Decommit}
-use Rattle.batch_model.specs.Pieces.{plain}
+use Rattle.batch_model.specs.Pieces.{plain_command}
 use Rattle.batch_model.proofs.RowLaws.{touched-pages, unowned-both, unowned-same, Leaves}
 use Rattle.batch_model.proofs.TreatLaws.{Treats, Treats-leaves, Treats-both, OwnsAll-used}
 use Rattle.batch_model.proofs.SettleLaws.{AreApart-rows, settled-twice}
@@ -55,7 +55,7 @@ module _ (old : Machine) (name : VmoName) (a n : ℕ) (some : 0 < n) where
   end_is : place_of old.state name.0 (a * PAGE + n * PAGE) / PAGE ≡ first + n
   end_is = omega arith
 
-  pub TreatsName-from_effect : (kind : JobKind) (reply : Reply) (new : Machine) → MachineEffect old (plain kind name (a * PAGE) (n * PAGE)) reply new → (reply ≡ Done) × TreatsName kind name.0 a n old new
+  pub TreatsName-from_effect : (kind : JobKind) (reply : Reply) (new : Machine) → MachineEffect old (plain_command kind name (a * PAGE) (n * PAGE)) reply new → (reply ≡ Done) × TreatsName kind name.0 a n old new
   TreatsName-from_effect Commit reply new effect = (
     effect.0.0,
     record {
@@ -80,7 +80,7 @@ module _ (old : Machine) (name : VmoName) (a n : ℕ) (some : 0 < n) where
       effect.0.1 ∙ ap (λ (c : Content). record old.state { content = c }) (sym (ap (λ (s : State). s.content) effect.0.1)) in
       (effect.0.0, record { state = change; treats = is; ready = effect.1 ∙ ready_too old new change })
 
-  pub TreatsName-effect : (kind : JobKind) (new : Machine) → TreatsName kind name.0 a n old new → MachineEffect old (plain kind name (a * PAGE) (n * PAGE)) Done new
+  pub TreatsName-effect : (kind : JobKind) (new : Machine) → TreatsName kind name.0 a n old new → MachineEffect old (plain_command kind name (a * PAGE) (n * PAGE)) Done new
   TreatsName-effect Commit new done = (
     (refl, done.state, subst (λ (ps : List ℕ). OwnsAll old.state.content (koid_of old.state name.0) ps new.state.content) (sym pages_are) done.treats),
     done.ready ∙ sym (ready_too old new done.state),

@@ -18,7 +18,7 @@ use Rattle.batch_model.specs.declared.command.BatchReply.{BatchReply}
 use Rattle.batch_model.specs.declared.command.BatchReply.TheVariants.{Plain as PlainReply, Left}
 use Rattle.batch_model.specs.Pieces.{left_of, piece_len, advanced, IsOfPages}
 use Rattle.batch_model.specs.Batch.{BatchState, batch_refusals, jobs_after, DoesPiece, IsRefusedBatch, BatchStepAfter, BatchStep}
-use Rattle.batch_model.specs.BatchRuns.{BatchEvent, BatchRun, last_batch, Part, part_of, parts_of, job_parts, Lasts, Tiles, times_in}
+use Rattle.batch_model.specs.BatchRuns.{BatchEvent, BatchRun, last_batch, Part, part_of, parts_of_job, job_parts, Lasts, Tiles, times_in}
 use Rattle.batch_model.proofs.TreatLaws.{is_whole-true}
 use Rattle.batch_model.proofs.StepLaws.{step_cases, gives_left, gives_plain, jobs_after-other, jobs_after-none, jobs_after-some, piece_some, piece_whole, piece_last, IsOfPages-advanced}
 
@@ -41,12 +41,12 @@ refused_jobs old refusal reply new refused = ap (λ (b : BatchState). b.jobs) re
 
 -- a refusal is no reply of pages that are left
 refused_none : (name : ℕ) (old : BatchState) (job : JobName) (pages : ℕ) (refusal : Refusal) (reply : BatchReply) (new : BatchState) → IsRefusedBatch old refusal reply new
-    → parts_of name old (Step job pages) reply ≡ []
-refused_none name old job pages refusal reply new refused = ap (λ (r : BatchReply). parts_of name old (Step job pages) r) refused.answer
+    → parts_of_job name old (Step job pages) reply ≡ []
+refused_none name old job pages refusal reply new refused = ap (λ (r : BatchReply). parts_of_job name old (Step job pages) r) refused.answer
 
 -- a step of the job itself
 own_step : (old : BatchState) (key : JobName) (pages : ℕ) (reply : BatchReply) (new : BatchState) (job : Job) → old.jobs key.0 ≡ Some job → pages ≢ 0 → DoesPiece old key.0 pages reply new
-    → Does key.0 job (parts_of key.0 old (Step key pages) reply) old.jobs new.jobs
+    → Does key.0 job (parts_of_job key.0 old (Step key pages) reply) old.jobs new.jobs
 own_step old key pages (PlainReply reply) new job there some done = keeps key.0 job old.jobs new.jobs (gives_plain done.answer old.jobs key.0 (advanced done.job pages) reply new.jobs done.gives).1
 own_step old key pages (Left left) new job there some done =
     let same : done.job ≡ job = some_same (sym done.is ∙ there) in
@@ -60,7 +60,7 @@ own_step old key pages (Left left) new job there some done =
 
 -- a step of another job
 other_step : (old : BatchState) (name : ℕ) (key : JobName) (pages : ℕ) (reply : BatchReply) (new : BatchState) (job : Job) → name ≢ key.0 → DoesPiece old key.0 pages reply new
-    → Does name job (parts_of name old (Step key pages) reply) old.jobs new.jobs
+    → Does name job (parts_of_job name old (Step key pages) reply) old.jobs new.jobs
 other_step old name key pages (PlainReply reply) new job apart done = keeps name job old.jobs new.jobs (gives_plain done.answer old.jobs key.0 (advanced done.job pages) reply new.jobs done.gives).1
 other_step old name key pages (Left left) new job apart done =
     let gives = gives_left done.answer old.jobs key.0 (advanced done.job pages) left new.jobs done.gives in
@@ -72,7 +72,7 @@ other_step old name key pages (Left left) new job apart done =
 
 -- each step of the machine with jobs does so, where it does not give the job up
 step_does : (old : BatchState) (name : ℕ) (job : Job) (command : BatchCommand) (reply : BatchReply) (new : BatchState) → old.jobs name ≡ Some job → command ≢ Drop (record { 0 = name })
-    → BatchStep old command reply new → Does name job (parts_of name old command reply) old.jobs new.jobs
+    → BatchStep old command reply new → Does name job (parts_of_job name old command reply) old.jobs new.jobs
 step_does old name job (PlainCommand command) reply new there goes_on step = elim step.outcome [
   | inr lacked ↦ absurd (let none = lacked.1 in cc)
   | inl done ↦ keeps name job old.jobs new.jobs done.jobs
@@ -89,7 +89,7 @@ step_does old name job (Step key pages) reply new there goes_on step = elim (ste
   | inl refused ↦ inl (refused_none name old key pages refused.0 reply new refused.1, ap (λ (f : ℕ → Option Job). f name) (refused_jobs old refused.0 reply new refused.1))
   | inr piece ↦ elim (cases_eq name key.0) [
     | inl same ↦
-        subst (λ (n : ℕ). Does n job (parts_of n old (Step key pages) reply) old.jobs new.jobs) (sym same)
+        subst (λ (n : ℕ). Does n job (parts_of_job n old (Step key pages) reply) old.jobs new.jobs) (sym same)
         (own_step old key pages reply new job (ap old.jobs (sym same) ∙ there) piece.0 piece.1)
     | inr apart ↦ other_step old name key pages reply new job apart piece.1
   ]

@@ -71,15 +71,15 @@ pub data BatchReading : Type 0 where
   Outside : BatchReading
 
 -- a command on jobs, or no line of the grammar
-abbrev pub order_or_outside : Option BatchCommand → BatchReading
-order_or_outside None = Outside
-order_or_outside (Some command) = Order command
+abbrev pub batch_order_or_outside : Option BatchCommand → BatchReading
+batch_order_or_outside None = Outside
+batch_order_or_outside (Some command) = Order command
 
 -- what a line says, by what the machine's grammar has it say: a line outside of that may say a command on jobs
 abbrev pub reading_beside : Reading → Option BatchCommand → BatchReading
 reading_beside PlainBlank order = Blank
 reading_beside (PlainOrder command) order = Order (PlainCommand command)
-reading_beside PlainOutside order = order_or_outside order
+reading_beside PlainOutside order = batch_order_or_outside order
 
 -- what a line says, without its line feed. A line over the limit is outside the grammar, whatever it holds
 unfoldable pub batch_reading : List ℕ → BatchReading

@@ -87,14 +87,14 @@ part_of None pages = []
 part_of (Some job) pages = record { first = job.next; len = piece_len job pages } ∷ []
 
 -- the part that a command does of the job of this name: it is a step of this job, and is not refused
-abbrev pub parts_of : ℕ → BatchState → BatchCommand → BatchReply → List Part
-parts_of name old (Step job pages) (Left left) = if job.0 == name then part_of (old.jobs name) pages else []
-parts_of name old command reply = []
+abbrev pub parts_of_job : ℕ → BatchState → BatchCommand → BatchReply → List Part
+parts_of_job name old (Step job pages) (Left left) = if job.0 == name then part_of (old.jobs name) pages else []
+parts_of_job name old command reply = []
 
 -- the parts that a job does in a run, in their order
 abbrev pub job_parts : ℕ → BatchState → List BatchEvent → List Part
 job_parts name old [] = []
-job_parts name old (event ∷ events) = parts_of name old event.command event.reply ++ job_parts name event.after events
+job_parts name old (event ∷ events) = parts_of_job name old event.command event.reply ++ job_parts name event.after events
 
 -- the job of this name is there before each event, and none of them gives it up
 abbrev pub Lasts : ℕ → BatchState → List BatchEvent → Type 0

@@ -10,10 +10,10 @@ use Rattle.batch_model.specs.declared.job.JobKind.TheVariants.{Commit, Zero, Dec
 use Rattle.batch_model.specs.declared.job.Job.{Job}
 
 -- the plain command of a kind of job on a range
-abbrev pub plain : JobKind → VmoName → ℕ → ℕ → Command
-plain Commit name offset len = VmoCommit name offset len
-plain Zero name offset len = VmoZero name offset len
-plain Decommit name offset len = VmoDecommit name offset len
+abbrev pub plain_command : JobKind → VmoName → ℕ → ℕ → Command
+plain_command Commit name offset len = VmoCommit name offset len
+plain_command Zero name offset len = VmoZero name offset len
+plain_command Decommit name offset len = VmoDecommit name offset len
 
 -- a job as it begins: all of its range is left
 abbrev pub begun : JobKind → VmoName → ℕ → ℕ → Job
@@ -29,11 +29,11 @@ piece_len job pages = min (pages * PAGE) (job.end - job.next)
 
 -- the plain command on these pages
 abbrev pub piece_of : Job → ℕ → Command
-piece_of job pages = plain job.kind job.name job.next (piece_len job pages)
+piece_of job pages = plain_command job.kind job.name job.next (piece_len job pages)
 
 -- the plain command on all that is left
 abbrev pub whole_of : Job → Command
-whole_of job = plain job.kind job.name job.next (job.end - job.next)
+whole_of job = plain_command job.kind job.name job.next (job.end - job.next)
 
 -- the job once these pages are done
 abbrev pub advanced : Job → ℕ → Job

@@ -15,7 +15,7 @@ ghost use Rattle.batch_model.specs.declared.command.BatchReply.TheVariants.{Left
 ghost use Rattle.batch_model.specs.declared.job.Job.{Job};
 ghost use Rattle.batch_model.specs.declared.job.JobKind.{JobKind};
 ghost use Rattle.batch_model.specs.declared.job.JobName.{JobName};
-ghost use Rattle.batch_model.specs.Pieces.{plain, begun, whole_of, IsOfPages};
+ghost use Rattle.batch_model.specs.Pieces.{plain_command, begun, whole_of, IsOfPages};
 ghost use Rattle.batch_model.specs.Batch.{BatchState, BatchStep, IsGoodBatch, HasBatchRanges};
 ghost use Rattle.batch_model.specs.BatchRuns.{BatchEvent, BatchRun, last_batch, MachineRun, machine_events, last_machine, Lasts, Part, job_parts, Tiles, times_in, AreTurns, NoneRefused};
 
@@ -61,7 +61,7 @@ pub fn a_job_begins_whole()
         BatchStep old (Begin job kind name offset len) (Left left) new →
         (new.machine ≡ old.machine) × (new.jobs job.0 ≡ Some (begun kind name offset len)) × IsOfPages (begun kind name offset len) }
     ensures whole { (kind : JobKind) (name : VmoName) (offset len : ℕ) →
-        whole_of (begun kind name offset len) ≡ plain kind name offset len }
+        whole_of (begun kind name offset len) ≡ plain_command kind name offset len }
 {}
 
 /// States that a step, by a command whose fields are within their types, leads from a good machine with good jobs to another.

@@ -4,8 +4,8 @@ use Rattle.batch_vm.specs.declared.batch.Batch.TheInside.{Inside}
 use Rattle.batch_vm.specs.Batch.{BatchParts}
 use Rattle.batch_vm.specs.Jobs.{jobs_of}
 
-abbrev pub parts_of : Inside → BatchParts
-parts_of a = record { vm = a.vm; jobs = a.jobs }
+abbrev pub batch_parts_of : Inside → BatchParts
+batch_parts_of a = record { vm = a.vm; jobs = a.jobs }
 
 -- each job is of whole pages
 pub record HasGoodJobs (a : Inside) : Type 0 where

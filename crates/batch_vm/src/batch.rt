@@ -25,9 +25,9 @@ impl Model for Batch {
 
     ghost Value = { BatchParts };
 
-    ghost use Rattle.batch_vm.specs.BatchFields.{parts_of, HasGoodJobs};
+    ghost use Rattle.batch_vm.specs.BatchFields.{batch_parts_of, HasGoodJobs};
 
-    ghost view = { parts_of };
+    ghost view = { batch_parts_of };
 
     ghost invariant = { HasGoodJobs };
 }

@@ -11,7 +11,7 @@ ghost use Rattle.cow_split.specs.Exact.{IsExact, all_in_sight};
 ghost use Rattle.frame_pool.specs.Pool.{is_taken};
 ghost use Rattle.page_store.specs.Held.{held_from};
 ghost use Rattle.cow_forest.specs.Tables.{node_in};
-ghost use Rattle.cow_forest.specs.Store.{tree, content_of};
+ghost use Rattle.cow_forest.specs.Store.{tree, forest_content};
 ghost use Rattle.cow_forest.specs.Ranges.{rows_reached};
 
 use cow_arena::{CowArena, NodeId};
@@ -49,7 +49,7 @@ pub fn a_page_without_a_parent_takes_one_look_up<L: Ledger>(
     forest: &CowForest,
     steps: &mut Steps<L>,
 ) -> Look
-    requires page { 0 < pages_of (content_of forest.now) 1 }
+    requires page { 0 < pages_of (forest_content forest.now) 1 }
     requires root { (k : ℕ) → node_in forest.now.nodes 1 ≡ link_to k →
         depth (nodes_of forest.now.arena) forest.now.arena.lists k ≡ 1 }
     ensures { (most k : ℕ) → IsMostOfLookUp (row_count forest.now.rows) most → node_in forest.now.nodes 1 ≡ link_to k →
@@ -63,9 +63,9 @@ pub fn pages_without_rows_are_made_zero_in_one_step<L: Ledger>(
     forest: &mut CowForest,
     steps: &mut Steps<L>,
 )
-    requires vmo { IsSome ((content_of forest.old).count 1) }
-    requires range { 8 ≤ pages_of (content_of forest.old) 1 }
-    requires room { held_from (content_of forest.old) 1 0 8 ≤ forest.old.rows.spare }
+    requires vmo { IsSome ((forest_content forest.old).count 1) }
+    requires range { 8 ≤ pages_of (forest_content forest.old) 1 }
+    requires room { held_from (forest_content forest.old) 1 0 8 ≤ forest.old.rows.spare }
     requires root { (k : ℕ) → node_in forest.old.nodes 1 ≡ link_to k →
         depth (nodes_of forest.old.arena) forest.old.arena.lists k ≡ 1 }
     requires bare { (k : ℕ) → rows_reached (tree forest.old) k 0 8 ≡ 0 }
@@ -76,7 +76,7 @@ pub fn pages_without_rows_are_made_zero_in_one_step<L: Ledger>(
 
 /// States that a VMO that is the only one has no hidden node above it.
 pub fn one_vmo_has_no_hidden_node(forest: &CowForest) -> u64
-    requires { vmos_of (content_of forest.now) ≡ 1 }
+    requires { vmos_of (forest_content forest.now) ≡ 1 }
     ensures { result ≡ 0 }
 {
     forest.hidden()

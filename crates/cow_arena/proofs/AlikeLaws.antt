@@ -9,7 +9,7 @@ use Rattle.page_list.specs.declared.row.Slot.{Slot}
 use Rattle.cow_arena.specs.declared.node.Node.{Node}
 use Rattle.cow_arena.specs.declared.node.Side.{Side}
 use Rattle.cow_arena.specs.Nodes.{IsVisible, side_in}
-use Rattle.cow_arena.specs.Walk.{Slots, Tree, Found, from_side, walk, frame_in, frame_found, frame_at}
+use Rattle.cow_arena.specs.Walk.{Slots, Tree, Found, from_side, walk, frame_in, frame_found, frame_shown}
 use Rattle.cow_arena.specs.Forest.{IsForest}
 use Rattle.cow_arena.specs.Ways.{Climbs, Reaches, Arrives, SameElsewhere, SameFrames, Sight, sight_of, absent_node, own_row, past_window, on_upwards}
 use Rattle.cow_arena.proofs.WalkLaws.{up-each, begins, walk-absent, walk-row, walk-past, walk-climbs}
@@ -188,7 +188,7 @@ module _ (t : Tree) (slots : Slots) (alike : SameFrames t.slots slots) where
           let same : sight_of now ≡ sight_of it = some_same e in
           (now.slot, (λ i. Some (record { node = (same i).node; page = (same i).page; side = (same i).side; slot = now.slot })), ap (λ (s : Sight). s.frame) same)
 
-  pub frame-alike : IsForest t.nodes t.lists → (k p : ℕ) → frame_at (record t { slots = slots }) k p ≡ frame_at t k p
+  pub frame-alike : IsForest t.nodes t.lists → (k p : ℕ) → frame_shown (record t { slots = slots }) k p ≡ frame_shown t k p
   frame-alike f k p = frame (walk (record t { slots = slots }) k p) (walk t k p) (walk-alike f k p)
     where
       shown : Option Sight → Option ℕ

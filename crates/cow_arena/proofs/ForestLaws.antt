@@ -9,7 +9,7 @@ use Rattle.vm_base.specs.declared.names.Koid.{Koid}
 use Rattle.cow_arena.specs.declared.node.NodeId.{NodeId}
 use Rattle.cow_arena.specs.declared.node.Node.{Node}
 use Rattle.cow_arena.specs.Nodes.{Nodes, link_to, node_above}
-use Rattle.cow_arena.specs.Forest.{IsForest, IsForestBy, HasPair, IsChild, IsBelow}
+use Rattle.cow_arena.specs.Forest.{IsForest, IsForestBy, HasPair, IsChild, HasAsChild}
 use Rattle.cow_arena.specs.Changes.{root_node}
 use Rattle.cow_arena.proofs.LinkLaws.{node_above-root, node_above-child}
 
@@ -120,7 +120,7 @@ module _ (nodes : Nodes) (lists : ℕ) (rank : ℕ → ℕ) (f : IsForestBy node
   child_stays : (h n : ℕ) → IsChild nodes h n → IsChild now h n
   child_stays h n child = let b = stays n child.node child.at in record { node = b.0; at = b.1; parent = b.2.parent ∙ child.parent }
 
-  below_stays : (h n : ℕ) (b : Node) → IsBelow nodes rank h n b → IsBelow now rank h n b
+  below_stays : (h n : ℕ) (b : Node) → HasAsChild nodes rank h n b → HasAsChild now rank h n b
   below_stays h n b up = let above = stays h up.above up.at in record {
     above = above.0;
     at = above.1;
@@ -130,12 +130,12 @@ module _ (nodes : Nodes) (lists : ℕ) (rank : ℕ → ℕ) (f : IsForestBy node
     deeper = up.deeper;
   }
 
-  below_now : (h n : ℕ) (b : Node) → now n ≡ Some b → b.parent ≡ link_to h → IsBelow now rank h n b
+  below_now : (h n : ℕ) (b : Node) → now n ≡ Some b → b.parent ≡ link_to h → HasAsChild now rank h n b
   below_now h n b e parent = elim (with_key-cases nodes k new n b e) [
     | inl is ↦
         let child = ap (λ (x : Node). x.parent) is.1 ∙ parent in
         let up = f.below h n node (ap nodes is.0 ∙ at) (sym place.parent ∙ child) in
-        subst (IsBelow now rank h n) is.1 (below_stays h n new (record {
+        subst (HasAsChild now rank h n) is.1 (below_stays h n new (record {
           above = up.above;
           at = up.at;
           hidden = up.hidden;
@@ -205,7 +205,7 @@ module _ (nodes : Nodes) (lists : ℕ) (rank : ℕ → ℕ) (f : IsForestBy node
     right_child = child_held n pair.right pair.right_child;
   }
 
-  below_held : (h n : ℕ) (a : Node) → nodes n ≡ Some a → IsBelow nodes rank h n a → IsBelow with_root root_rank h n a
+  below_held : (h n : ℕ) (a : Node) → nodes n ≡ Some a → HasAsChild nodes rank h n a → HasAsChild with_root root_rank h n a
   below_held h n a e up = record {
     above = up.above;
     at = held_stays h up.above up.at;
@@ -220,7 +220,7 @@ module _ (nodes : Nodes) (lists : ℕ) (rank : ℕ → ℕ) (f : IsForestBy node
     leaves = λ n b v. each_rooted (λ n b. IsSome b.koid → (b.left ≡ None) × (b.right ≡ None)) (λ some. (refl, refl))
         (λ n a e some. f.leaves n a (record { at = e; koid = some })) n b v.at v.koid;
     pairs = each_rooted (λ n b. b.koid ≡ None → HasPair with_root n b) (λ hidden. absurd (cc)) (λ n a e hidden. pair_held n a (f.pairs n a e hidden));
-    below = λ h. each_rooted (λ n b. b.parent ≡ link_to h → IsBelow with_root root_rank h n b) (λ child. absurd (cc))
+    below = λ h. each_rooted (λ n b. b.parent ≡ link_to h → HasAsChild with_root root_rank h n b) (λ child. absurd (cc))
         (λ n a e child. below_held h n a e (f.below h n a e child));
     own = λ i j a b e g same. each_rooted (λ i a. a.list.0 ≡ b.list.0 → i ≡ j)
         (each_rooted (λ j b. ◌≡◌ {A = ℕ} lists b.list.0 → k ≡ j) (λ same. refl) (λ j b g same. absurd (omega (arith, f.given j b g))) j b g)
@@ -259,7 +259,7 @@ module _ (nodes : Nodes) (lists : ℕ) (rank : ℕ → ℕ) (f : IsForestBy node
     right_child = child_kept n pair.right pair.right_child;
   }
 
-  below_kept : (h n : ℕ) (a : Node) → IsBelow nodes rank h n a → IsBelow less_root rank h n a
+  below_kept : (h n : ℕ) (a : Node) → HasAsChild nodes rank h n a → HasAsChild less_root rank h n a
   below_kept h n a up = record {
     above = up.above;
     at = without_key-other nodes k h (kinds_apart nodes h k up.above node up.at at up.hidden koid) ∙ up.at;

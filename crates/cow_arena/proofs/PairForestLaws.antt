@@ -8,7 +8,7 @@ use Rattle.vm_base.proofs.EntryLaws.{some_same, some_is, with_key-same, with_key
 use Rattle.vm_base.specs.declared.names.Koid.{Koid}
 use Rattle.cow_arena.specs.declared.node.Node.{Node}
 use Rattle.cow_arena.specs.Nodes.{Nodes, link_to}
-use Rattle.cow_arena.specs.Forest.{IsForestBy, HasPair, IsChild, IsBelow}
+use Rattle.cow_arena.specs.Forest.{IsForestBy, HasPair, IsChild, HasAsChild}
 use Rattle.cow_arena.specs.Changes.{window_first, moved_link, paired, hidden_over, below_hidden, snapshot_node}
 use Rattle.cow_arena.proofs.LinkLaws.{link_same, moved, moved_key, moved_key-here, moved_key-other, moved_key-apart, moved_link-none, moved_link-to, moved_link-here, moved_link-other, relinked_at}
 use Rattle.cow_arena.proofs.ForestLaws.{held_apart, kinds_apart}
@@ -145,10 +145,10 @@ module _ (nodes : Nodes) (lists : ℕ) (rank : ℕ → ℕ) (f : IsForestBy node
     right_child = record { node = snapshot_at; at = at_c; parent = refl };
   }
 
-  above_apart : (p n : ℕ) (a : Node) → (up : IsBelow nodes rank p n a) → p ≢ k
+  above_apart : (p n : ℕ) (a : Node) → (up : HasAsChild nodes rank p n a) → p ≢ k
   above_apart p n a up = kinds_apart nodes p k up.above node up.at at up.hidden visible
 
-  below_hidden_at : (p : ℕ) → IsBelow nodes rank p k node → IsBelow now pair_rank p h hidden_at
+  below_hidden_at : (p : ℕ) → HasAsChild nodes rank p k node → HasAsChild now pair_rank p h hidden_at
   below_hidden_at p up = record {
     above = moved k h up.above;
     at = held_now p up.above (above_apart p k node up) up.at;
@@ -158,7 +158,7 @@ module _ (nodes : Nodes) (lists : ℕ) (rank : ℕ → ℕ) (f : IsForestBy node
     deeper = omega (arith, up.deeper, rank_h, rank_other p up.above (above_apart p k node up) up.at);
   }
 
-  below_other : (p n : ℕ) (a : Node) → n ≢ k → nodes n ≡ Some a → IsBelow nodes rank p n a → IsBelow now pair_rank p n (moved k h a)
+  below_other : (p n : ℕ) (a : Node) → n ≢ k → nodes n ≡ Some a → HasAsChild nodes rank p n a → HasAsChild now pair_rank p n (moved k h a)
   below_other p n a n_k e up = record {
     above = moved k h up.above;
     at = held_now p up.above (above_apart p n a up) up.at;
@@ -168,10 +168,10 @@ module _ (nodes : Nodes) (lists : ℕ) (rank : ℕ → ℕ) (f : IsForestBy node
     deeper = omega (arith, up.deeper, rank_other n a n_k e, rank_other p up.above (above_apart p n a up) up.at);
   }
 
-  below_new_left : IsBelow now pair_rank h k below_at
+  below_new_left : HasAsChild now pair_rank h k below_at
   below_new_left = record { above = hidden_at; at = at_h; hidden = refl; side = inl refl; window = omega arith; deeper = omega (arith, rank_h, rank_k) }
 
-  below_new_right : IsBelow now pair_rank h c snapshot_at
+  below_new_right : HasAsChild now pair_rank h c snapshot_at
   below_new_right = record { above = hidden_at; at = at_h; hidden = refl; side = inr refl; window = window_fits first seen node.count window; deeper = omega (arith, rank_h, rank_c) }
 
   -- the three new nodes are below the bound
@@ -223,11 +223,11 @@ module _ (nodes : Nodes) (lists : ℕ) (rank : ℕ → ℕ) (f : IsForestBy node
       (λ some. (refl, refl))
       (λ n a n_k e some. let ends = f.leaves n a (record { at = e; koid = some }) in (ap (moved_link k h) ends.0 ∙ moved_link-none k h, ap (moved_link k h) ends.1 ∙ moved_link-none k h))
 
-  below_now : (p n : ℕ) (b : Node) → now n ≡ Some b → b.parent ≡ link_to p → IsBelow now pair_rank p n b
-  below_now p = each_now (λ n b. b.parent ≡ link_to p → IsBelow now pair_rank p n b)
+  below_now : (p n : ℕ) (b : Node) → now n ≡ Some b → b.parent ≡ link_to p → HasAsChild now pair_rank p n b
+  below_now p = each_now (λ n b. b.parent ≡ link_to p → HasAsChild now pair_rank p n b)
       (λ child. below_hidden_at p (f.below p k node at child))
-      (λ child. subst (λ (q : ℕ). IsBelow now pair_rank q k below_at) (link_same h p child) below_new_left)
-      (λ child. subst (λ (q : ℕ). IsBelow now pair_rank q c snapshot_at) (link_same h p child) below_new_right)
+      (λ child. subst (λ (q : ℕ). HasAsChild now pair_rank q k below_at) (link_same h p child) below_new_left)
+      (λ child. subst (λ (q : ℕ). HasAsChild now pair_rank q c snapshot_at) (link_same h p child) below_new_right)
       (λ n a n_k e child. below_other p n a n_k e (f.below p n a e child))
 
   pub paired_by : IsForestBy now (lists + 2) pair_rank

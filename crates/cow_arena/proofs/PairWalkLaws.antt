@@ -11,8 +11,8 @@ use Rattle.cow_arena.specs.declared.node.Node.{Node}
 use Rattle.cow_arena.specs.declared.node.Side.{Side}
 use Rattle.cow_arena.specs.declared.node.Side.TheVariants as side
 use Rattle.cow_arena.specs.Nodes.{Nodes, IsVisible, link_to, child_on, side_in}
-use Rattle.cow_arena.specs.Walk.{Tree, from_side, walk, frame_found, frame_at}
-use Rattle.cow_arena.specs.Forest.{IsForest, IsListed, AreListed}
+use Rattle.cow_arena.specs.Walk.{Tree, from_side, walk, frame_found, frame_shown}
+use Rattle.cow_arena.specs.Forest.{IsForest, IsListed, HasListedRows}
 use Rattle.cow_arena.specs.Changes.{relinked, hidden_over, below_hidden, snapshot_node, paired}
 use Rattle.cow_arena.specs.Ways.{Climbs, Reaches}
 use Rattle.cow_arena.proofs.WalkLaws.{climb_below, walk-own, walk-past}
@@ -32,7 +32,7 @@ paired_tree t k leaf h c koid first seen count = record {
 held-apart : (nodes : Nodes) (j k : ℕ) (a : Node) → nodes j ≡ Some a → nodes k ≡ None → j ≢ k
 held-apart nodes j k a here free same = absurd (let there = ap nodes same in cc)
 
-module _ (t : Tree) (f : IsForest t.nodes t.lists) (rows : AreListed t) where
+module _ (t : Tree) (f : IsForest t.nodes t.lists) (rows : HasListedRows t) where
   -- a list that was not given yet has no rows
   pub rows-fresh : (l p : ℕ) → t.lists ≤ l → t.slots l p ≡ None
   rows-fresh l p new = none (t.slots l p) refl
@@ -205,7 +205,7 @@ module _ (t : Tree) (f : IsForest t.nodes t.lists) (k : ℕ) (leaf : Node) (visi
   -- ---- the nodes below the hidden node
 
   -- the leaf sees all of it
-  pub pair-views-leaf : AreListed t → Views after h k side.Left 0 leaf.count
+  pub pair-views-leaf : HasListedRows t → Views after h k side.Left 0 leaf.count
   pair-views-leaf rows = record {
     node = below_hidden leaf h t.lists;
     at = leaf-at;
@@ -217,7 +217,7 @@ module _ (t : Tree) (f : IsForest t.nodes t.lists) (k : ℕ) (leaf : Node) (visi
   }
 
   -- and the node of the snapshot its window
-  pub pair-views-child : AreListed t → Views after h c side.Right first seen
+  pub pair-views-child : HasListedRows t → Views after h c side.Right first seen
   pair-views-child rows = record {
     node = snapshot_node koid h (t.lists + 1) first seen count;
     at = child-at;
@@ -240,10 +240,10 @@ module _ (t : Tree) (f : IsForest t.nodes t.lists) (k : ℕ) (leaf : Node) (visi
         walk-reach after g i p s h q (views-reach v p q inside page)
         ∙ (ap (from_side (Some s)) (pair-walk-hidden q free) ∙ side-kept t f k q leaf (Some s) visible.at free)
 
-    pub pair-frame : p < pages → frame_at after i p ≡ frame_at t k q
+    pub pair-frame : p < pages → frame_shown after i p ≡ frame_shown t k q
     pair-frame inside = with_row (t.slots leaf.list.0 q) refl
       where
-        with_row : (o : Option Slot) → t.slots leaf.list.0 q ≡ o → frame_at after i p ≡ frame_at t k q
+        with_row : (o : Option Slot) → t.slots leaf.list.0 q ≡ o → frame_shown after i p ≡ frame_shown t k q
         with_row None e = ap frame_found (pair-walk-free inside e)
         with_row (Some slot) e = ap frame_found (pair-walk-own slot inside e) ∙ sym (ap frame_found (walk-own t f k q leaf slot visible.at e))
 
@@ -268,7 +268,7 @@ module _ (t : Tree) (f : IsForest t.nodes t.lists) (k : ℕ) (leaf : Node) (visi
   pair-walk-past i s from pages v p outside = walk-past after g i p v.node v.at (v.free p) (let seen_is = v.seen_is in omega arith)
 
   -- rows still stand in lists of nodes alone
-  pub pair-listed : AreListed t → AreListed after
+  pub pair-listed : HasListedRows t → HasListedRows after
   pair-listed rows = record { listed = λ l p slot e. here l (rows.listed l p slot e) }
     where
       here : (l : ℕ) → IsListed t.nodes l → IsListed after.nodes l

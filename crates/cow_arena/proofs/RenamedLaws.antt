@@ -8,8 +8,8 @@ use Rattle.vm_base.proofs.EntryLaws.{some_same}
 use Rattle.cow_arena.specs.declared.node.NodeId.{NodeId}
 use Rattle.cow_arena.specs.declared.node.Node.{Node}
 use Rattle.cow_arena.specs.Nodes.{Nodes, link_to, side_of, side_in}
-use Rattle.cow_arena.specs.Walk.{Tree, from_side, walk_over, walk, frame_found, frame_at}
-use Rattle.cow_arena.specs.Forest.{IsForest, IsForestBy, IsChild, HasPair, IsBelow}
+use Rattle.cow_arena.specs.Walk.{Tree, from_side, walk_over, walk, frame_found, frame_shown}
+use Rattle.cow_arena.specs.Forest.{IsForest, IsForestBy, IsChild, HasPair, HasAsChild}
 use Rattle.cow_arena.specs.Renamed.{exchanged, renamed_node, renamed_nodes, renamed, IsExchange}
 use Rattle.cow_arena.specs.Ways.{absent_node, own_row, past_window, on_upwards}
 use Rattle.cow_arena.proofs.WalkLaws.{over-none, over-absent, over-own, over-past, over-up, begins}
@@ -111,7 +111,7 @@ module _ (name : ℕ → ℕ) (lists : ℕ) (exchange : IsExchange name lists) (
         (λ k node at koid. f.leaves k node (record { at = at; koid = koid })) k now v.at v.koid;
     pairs = renamed-each name nodes (λ k now. now.koid ≡ None → HasPair (renamed_nodes name nodes) k now)
         (λ k node at hidden. pair k node (f.pairs k node at hidden));
-    below = λ h. renamed-each name nodes (λ k now. now.parent ≡ link_to h → IsBelow (renamed_nodes name nodes) rank h k now)
+    below = λ h. renamed-each name nodes (λ k now. now.parent ≡ link_to h → HasAsChild (renamed_nodes name nodes) rank h k now)
         (λ k node at parent.
         let b = f.below h k node at parent in
         record {
@@ -171,5 +171,5 @@ module _ (name : ℕ → ℕ) (twice : (l : ℕ) → name (name l) ≡ l) (t : T
   pub walk-renamed : (k p : ℕ) → walk (renamed name t) k p ≡ walk t k p
   walk-renamed k p = over-renamed t.lists k p
 
-  pub frame-renamed : (k p : ℕ) → frame_at (renamed name t) k p ≡ frame_at t k p
+  pub frame-renamed : (k p : ℕ) → frame_shown (renamed name t) k p ≡ frame_shown t k p
   frame-renamed k p = ap frame_found (walk-renamed k p)

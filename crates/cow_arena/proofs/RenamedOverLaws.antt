@@ -12,7 +12,7 @@ use Rattle.cow_arena.specs.declared.node.Node.{Node}
 use Rattle.cow_arena.specs.declared.node.NodeId.{NodeId}
 use Rattle.cow_arena.specs.Nodes.{Arena, Nodes, nodes_of, IsVisible, AreFamily, sibling_in, other_side, side_of}
 use Rattle.cow_arena.specs.Walk.{Tree, Slots, tree_with, walk}
-use Rattle.cow_arena.specs.Forest.{IsForest, IsForestBy, IsListed, AreListed}
+use Rattle.cow_arena.specs.Forest.{IsForest, IsForestBy, IsListed, HasListedRows}
 use Rattle.cow_arena.specs.Changes.{relinked, lifted, spliced, spliced_over}
 use Rattle.cow_arena.specs.Renamed.{exchanged, renamed_node, renamed_nodes, renamed, IsExchange, AreExchanged}
 use Rattle.cow_arena.specs.Views.{KeepsWalks, KeepsListed}
@@ -114,7 +114,7 @@ module _ (nodes : Nodes) (lists : ℕ) (rank : ℕ → ℕ) (f : IsForestBy node
 
   -- Rows still stand in lists of nodes alone, where the lists that go have none.
   pub over-listed : (slots : Slots) → ((p : ℕ) → slots node.list.0 p ≡ None) → ((p : ℕ) → slots sibling.list.0 p ≡ None) →
-      AreListed (tree_with nodes lists slots) → AreListed (tree_with (spliced_over nodes k h s parent sibling) lists slots)
+      HasListedRows (tree_with nodes lists slots) → HasListedRows (tree_with (spliced_over nodes k h s parent sibling) lists slots)
   unfolding spliced_over
   over-listed slots bare left rows = record { listed = λ l p slot e. here l p slot e (rows.listed l p slot e) }
     where
@@ -213,6 +213,6 @@ module _ (old : Arena) (new : Nodes) (lists : ℕ) (f : IsForest (nodes_of old) 
   pub keeps-listed_over : (slots : Slots) → ((p : ℕ) → slots leaf.list.0 p ≡ None) → ((p : ℕ) → slots sibling.list.0 p ≡ None) →
       KeepsListed (tree_with (nodes_of old) old.lists slots) (tree_with new lists slots)
   keeps-listed_over slots bare left = record {
-    listed = λ rows. subst AreListed (over_now slots)
+    listed = λ rows. subst HasListedRows (over_now slots)
         (over-listed (nodes_of old) old.lists f.rank f.by k h s leaf parent sibling family slots bare left rows);
   }

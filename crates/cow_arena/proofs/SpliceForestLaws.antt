@@ -9,7 +9,7 @@ use Rattle.cow_arena.specs.declared.node.NodeId.{NodeId}
 use Rattle.cow_arena.specs.declared.node.Node.{Node}
 use Rattle.cow_arena.specs.declared.node.Side.TheVariants as side
 use Rattle.cow_arena.specs.Nodes.{Nodes, AreFamily, leads_to, link_to, child_on, other_side, side_of}
-use Rattle.cow_arena.specs.Forest.{IsForestBy, HasPair, IsChild, IsBelow}
+use Rattle.cow_arena.specs.Forest.{IsForestBy, HasPair, IsChild, HasAsChild}
 use Rattle.cow_arena.specs.Changes.{window_first, moved_link, spliced, lifted}
 use Rattle.cow_arena.proofs.LinkLaws.{link_same, leads_to-link, node_above-child, sibling_below, moved, moved-away, moved_key, moved_key-here, moved_key-other, moved_key-apart, moved_link-none, moved_link-to, moved_link-here, moved_link-other, relinked_at}
 use Rattle.cow_arena.proofs.ForestLaws.{kinds_apart}
@@ -27,7 +27,7 @@ lifted_fits first seen above_first above_seen n h = by_test (min seen (above_see
     ]
 
 module _ (nodes : Nodes) (lists : ℕ) (rank : ℕ → ℕ) (f : IsForestBy nodes lists rank) (k h s : ℕ) (node parent sibling : Node) (family : AreFamily nodes k h s node parent sibling) where
-  up_k : IsBelow nodes rank h k node
+  up_k : HasAsChild nodes rank h k node
   up_k = f.below h k node family.at family.parent_is
 
   one_parent : up_k.above ≡ parent
@@ -86,7 +86,7 @@ module _ (nodes : Nodes) (lists : ℕ) (rank : ℕ → ℕ) (f : IsForestBy node
     | inr b ↦ sibling_child pair_h.left b.1 pair_h.left_child
   ]
 
-  up_s : IsBelow nodes rank h s sibling
+  up_s : HasAsChild nodes rank h s sibling
   up_s = f.below h s sibling family.sibling_at sibling_parent
 
   pub s_h : s ≢ h
@@ -104,7 +104,7 @@ module _ (nodes : Nodes) (lists : ℕ) (rank : ℕ → ℕ) (f : IsForestBy node
 
   -- the parent of h is another node than the three
   module _ (p : ℕ) (e : parent.parent ≡ link_to p) where
-    pub up_h : IsBelow nodes rank p h parent
+    pub up_h : HasAsChild nodes rank p h parent
     up_h = f.below p h parent family.parent_at e
 
     pub p_h : p ≢ h
@@ -212,10 +212,10 @@ module _ (nodes : Nodes) (lists : ℕ) (rank : ℕ → ℕ) (f : IsForestBy node
           right_child = new.right_child;
         }
 
-    above_apart : (p n : ℕ) (a : Node) → (up : IsBelow nodes rank p n a) → p ≢ k
+    above_apart : (p n : ℕ) (a : Node) → (up : HasAsChild nodes rank p n a) → p ≢ k
     above_apart p n a up = kinds_apart nodes p k up.above node up.at family.at up.hidden visible
 
-    below_sibling : (p : ℕ) → parent.parent ≡ link_to p → IsBelow now rank p s lifted_at
+    below_sibling : (p : ℕ) → parent.parent ≡ link_to p → HasAsChild now rank p s lifted_at
     below_sibling p e = let up = up_h p e in record {
       above = moved h s up.above;
       at = held_now p up.above (p_s p e) (above_apart p h parent up) (p_h p e) up.at;
@@ -226,7 +226,7 @@ module _ (nodes : Nodes) (lists : ℕ) (rank : ℕ → ℕ) (f : IsForestBy node
     }
 
     -- a node below the sibling, or below another one
-    below_other : (p n : ℕ) (a : Node) → n ≢ s → n ≢ k → n ≢ h → nodes n ≡ Some a → a.parent ≡ link_to p → IsBelow now rank p n (moved h s a)
+    below_other : (p n : ℕ) (a : Node) → n ≢ s → n ≢ k → n ≢ h → nodes n ≡ Some a → a.parent ≡ link_to p → HasAsChild now rank p n (moved h s a)
     below_other p n a n_s n_k n_h e child = let up = f.below p n a e child in elim (cases_eq p s) [
       | inl same ↦
           let one = some_same (sym up.at ∙ (ap nodes same ∙ family.sibling_at)) in
@@ -283,7 +283,7 @@ module _ (nodes : Nodes) (lists : ℕ) (rank : ℕ → ℕ) (f : IsForestBy node
       pairs = each_now (λ n b. b.koid ≡ None → HasPair now n b)
           (λ hidden. pair_sibling (f.pairs s sibling family.sibling_at hidden))
           (λ n a n_s n_k n_h e hidden. pair_now n a n_h (f.pairs n a e hidden));
-      below = λ p. each_now (λ n b. b.parent ≡ link_to p → IsBelow now rank p n b) (below_sibling p) (below_other p);
+      below = λ p. each_now (λ n b. b.parent ≡ link_to p → HasAsChild now rank p n b) (below_sibling p) (below_other p);
       own = λ i j a b e g same. let v = owner i a e in let w = owner j b g in f.own i j v.was w.was v.held w.held (v.named ∙ (same ∙ sym w.named));
       given = λ n b e. let w = owner n b e in omega (arith, f.given n w.was w.held, w.named);
       ranks = λ n b e. let w = owner n b e in f.ranks n w.was w.held;

@@ -13,7 +13,7 @@ use Rattle.cow_arena.specs.declared.node.Side.{Side}
 use Rattle.cow_arena.specs.declared.node.Side.TheVariants as side
 use Rattle.cow_arena.specs.Nodes.{Nodes, IsVisible, link_to, child_on, other_side, side_of, side_in, AreFamily}
 use Rattle.cow_arena.specs.Walk.{Tree, from_side, walk}
-use Rattle.cow_arena.specs.Forest.{IsForest, IsListed, AreListed}
+use Rattle.cow_arena.specs.Forest.{IsForest, IsListed, HasListedRows}
 use Rattle.cow_arena.specs.Changes.{relinked, lifted, spliced}
 use Rattle.cow_arena.specs.Ways.{Climbs, Reaches, absent_node, own_row, past_window, on_upwards}
 use Rattle.cow_arena.proofs.WalkLaws.{link_same, climb_below, rank-each, begins, walk-row, walk-past, walk-climbs}
@@ -221,7 +221,7 @@ module _ (t : Tree) (f : IsForest t.nodes t.lists) (k h s : ℕ) (leaf parent si
   walk-spliced j p node at j_k j_h = splice-walk j p (node, at, j_k, j_h)
 
   -- rows still stand in lists of nodes alone
-  pub spliced-listed : ((p : ℕ) → t.slots leaf.list.0 p ≡ None) → AreListed t → AreListed after
+  pub spliced-listed : ((p : ℕ) → t.slots leaf.list.0 p ≡ None) → HasListedRows t → HasListedRows after
   spliced-listed bare rows = record { listed = λ l p slot e. here l p slot e (rows.listed l p slot e) }
     where
       rowless : (n i : ℕ) (a b : Node) (l p : ℕ) (slot : Slot) → i ≡ n → t.nodes i ≡ Some a → t.nodes n ≡ Some b → ((p : ℕ) → t.slots b.list.0 p ≡ None) →
@@ -262,7 +262,7 @@ module _ (t : Tree) (f : IsForest t.nodes t.lists) (k : ℕ) (leaf : Node) (visi
       Reaches t j p side h q ↔ Reaches (record t { nodes = without_key t.nodes k }) j p side h q
   reach-removed = reach-stays t (without_key t.nodes k) t.lists k f g root_change
 
-  pub removed-listed : ((p : ℕ) → t.slots leaf.list.0 p ≡ None) → AreListed t → AreListed (record t { nodes = without_key t.nodes k })
+  pub removed-listed : ((p : ℕ) → t.slots leaf.list.0 p ≡ None) → HasListedRows t → HasListedRows (record t { nodes = without_key t.nodes k })
   removed-listed bare rows = record { listed = λ l p slot e. here l p slot e (rows.listed l p slot e) }
     where
       here : (l p : ℕ) (slot : Slot) → t.slots l p ≡ Some slot → IsListed t.nodes l → IsListed (without_key t.nodes k) l

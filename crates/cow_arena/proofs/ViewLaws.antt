@@ -10,7 +10,7 @@ use Rattle.cow_arena.specs.declared.node.Node.{Node}
 use Rattle.cow_arena.specs.declared.node.Side.TheVariants as side
 use Rattle.cow_arena.specs.Nodes.{Nodes, Arena, nodes_of, IsVisible, AreFamily}
 use Rattle.cow_arena.specs.Walk.{Tree, Slots, tree_with, walk, frame_found}
-use Rattle.cow_arena.specs.Forest.{IsForest, AreListed}
+use Rattle.cow_arena.specs.Forest.{IsForest, HasListedRows}
 use Rattle.cow_arena.specs.Changes.{paired, spliced}
 use Rattle.cow_arena.specs.inside.Fields.{arena_of, IsArena}
 use Rattle.cow_arena.specs.Views.{ShowsSnapshot, KeepsWalks, KeepsListed}
@@ -42,7 +42,7 @@ listed-changed a v k node change list view at slots = subst (λ (v : Arena). Kee
 
 module _ (t : Tree) (f : IsForest t.nodes t.lists) (k : ℕ) (leaf : Node) (visible : IsVisible t.nodes k leaf) (h c : ℕ) (koid : Koid) (first seen count : ℕ)
     (no_h : t.nodes h ≡ None) (no_c : t.nodes c ≡ None) (apart : h ≢ c) (g : IsForest (paired t.nodes k leaf h c t.lists koid first seen count) (t.lists + 2)) where
-  paired-shows : AreListed t → ShowsSnapshot t (paired_tree t k leaf h c koid first seen count) k c first seen
+  paired-shows : HasListedRows t → ShowsSnapshot t (paired_tree t k leaf h c koid first seen count) k c first seen
   paired-shows rows =
       let own = pair-views-leaf t f k leaf visible h c koid first seen count no_h no_c apart g rows in
       let views = pair-views-child t f k leaf visible h c koid first seen count no_h no_c apart g rows in
@@ -77,13 +77,13 @@ module _ (old : Arena) (new : Nodes) (lists : ℕ) (f : IsForest (nodes_of old) 
   paired_now : paired_tree (tree_seen old slots) k found.0 h c koid first seen count ≡ tree_with new lists slots
   paired_now = λ i. tree_with (sym nodes i) (sym more i) slots
 
-  pub shows-snapshot : AreListed (tree_seen old slots) → ShowsSnapshot (tree_seen old slots) (tree_with new lists slots) k c first seen
+  pub shows-snapshot : HasListedRows (tree_seen old slots) → ShowsSnapshot (tree_seen old slots) (tree_with new lists slots) k c first seen
   shows-snapshot rows = subst (λ (u : Tree). ShowsSnapshot (tree_seen old slots) u k c first seen) paired_now
       (paired-shows (tree_seen old slots) f k found.0 shown h c koid first seen count free.0 free.1 free.2 paired_forest rows)
 
   pub snapshot-listed : KeepsListed (tree_seen old slots) (tree_with new lists slots)
   snapshot-listed = record {
-    listed = λ rows. subst AreListed paired_now (pair-listed (tree_seen old slots) f k found.0 shown h c koid first seen count free.0 free.1 free.2 paired_forest rows);
+    listed = λ rows. subst HasListedRows paired_now (pair-listed (tree_seen old slots) f k found.0 shown h c koid first seen count free.0 free.1 free.2 paired_forest rows);
   }
 
 -- ---- a leaf goes with its parent
@@ -124,7 +124,7 @@ module _ (old : Arena) (new : Nodes) (lists : ℕ) (f : IsForest (nodes_of old) 
   keeps-walks = subst (λ (u : Tree). KeepsWalks (tree_seen old slots) u k h) spliced_now (spliced-keeps (tree_seen old slots) f k h s leaf parent sibling family visible empty spliced_forest)
 
   pub keeps-listed : ((p : ℕ) → slots leaf.list.0 p ≡ None) → KeepsListed (tree_seen old slots) (tree_with new lists slots)
-  keeps-listed bare = record { listed = λ rows. subst AreListed spliced_now (spliced-listed (tree_seen old slots) f k h s leaf parent sibling family visible empty spliced_forest bare rows) }
+  keeps-listed bare = record { listed = λ rows. subst HasListedRows spliced_now (spliced-listed (tree_seen old slots) f k h s leaf parent sibling family visible empty spliced_forest bare rows) }
 
 -- ---- a root goes
 
@@ -137,6 +137,6 @@ root-keeps-listed old new lists f g same k leaf shown nodes slots at bare =
     let after : IsForest (without_key (nodes_of old) k) old.lists =
     subst (λ l. IsForest (without_key (nodes_of old) k) l) same (subst (λ n. IsForest n lists) nodes g) in
     record {
-      listed = λ rows. subst AreListed (λ i. tree_with (sym nodes i) (sym same i) slots)
+      listed = λ rows. subst HasListedRows (λ i. tree_with (sym nodes i) (sym same i) slots)
           (removed-listed (tree_seen old slots) f k leaf (record { at = at; koid = visible.0 }) after bare rows);
     }

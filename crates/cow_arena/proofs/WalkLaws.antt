@@ -9,7 +9,7 @@ use Rattle.cow_arena.specs.declared.node.Node.{Node}
 use Rattle.cow_arena.specs.declared.node.Side.{Side}
 use Rattle.cow_arena.specs.Nodes.{link_to, side_in}
 use Rattle.cow_arena.specs.Walk.{Tree, from_side, walk_over, walk}
-use Rattle.cow_arena.specs.Forest.{IsForest, IsForestBy, IsBelow}
+use Rattle.cow_arena.specs.Forest.{IsForest, IsForestBy, HasAsChild}
 use Rattle.cow_arena.specs.Ways.{HasRow, Climbs, Begins, absent_node, own_row, past_window, on_upwards}
 
 -- ---- one step
@@ -54,7 +54,7 @@ module _ (t : Tree) where
 -- ---- the rank
 
 -- a step upwards goes to the node that is the parent, at a lesser rank
-pub climb_below : (t : Tree) (rank : ℕ → ℕ) → IsForestBy t.nodes t.lists rank → (k p h q : ℕ) (c : Climbs t k p h q) → IsBelow t.nodes rank h k c.node
+pub climb_below : (t : Tree) (rank : ℕ → ℕ) → IsForestBy t.nodes t.lists rank → (k p h q : ℕ) (c : Climbs t k p h q) → HasAsChild t.nodes rank h k c.node
 climb_below t rank f k p h q c = f.below h k c.node c.at c.parent
 
 -- what holds of each node, where it holds of one if it holds of all further up

@@ -12,7 +12,7 @@ pub record IsChild (nodes : Nodes) (h k : ℕ) : Type 0 where
   pub parent : node.parent ≡ link_to h
 
 -- node h is there and has k as a child. The window of k ends inside h, and k is further down
-pub record IsBelow (nodes : Nodes) (rank : ℕ → ℕ) (h k : ℕ) (node : Node) : Type 0 where
+pub record HasAsChild (nodes : Nodes) (rank : ℕ → ℕ) (h k : ℕ) (node : Node) : Type 0 where
   pub above : Node
   pub at : nodes h ≡ Some above
   pub hidden : above.koid ≡ None
@@ -37,7 +37,7 @@ pub record IsForestBy (nodes : Nodes) (lists : ℕ) (rank : ℕ → ℕ) : Type 
   pub leaves : (k : ℕ) (node : Node) → IsVisible nodes k node → (node.left ≡ None) × (node.right ≡ None)
   pub pairs : (k : ℕ) (node : Node) → nodes k ≡ Some node → node.koid ≡ None → HasPair nodes k node
   -- a node that has a parent is one of its children
-  pub below : (h k : ℕ) (node : Node) → nodes k ≡ Some node → node.parent ≡ link_to h → IsBelow nodes rank h k node
+  pub below : (h k : ℕ) (node : Node) → nodes k ≡ Some node → node.parent ≡ link_to h → HasAsChild nodes rank h k node
   -- no two nodes have one list, and each list was given
   pub own : (j k : ℕ) (a b : Node) → nodes j ≡ Some a → nodes k ≡ Some b → a.list.0 ≡ b.list.0 → j ≡ k
   pub given : (k : ℕ) (node : Node) → nodes k ≡ Some node → node.list.0 < lists
@@ -59,5 +59,5 @@ pub record IsListed (nodes : Nodes) (list : ℕ) : Type 0 where
   pub named : node.list.0 ≡ list
 
 -- rows stand only in lists of nodes
-pub record AreListed (t : Tree) : Type 0 where
+pub record HasListedRows (t : Tree) : Type 0 where
   pub listed : (l p : ℕ) (slot : Slot) → t.slots l p ≡ Some slot → IsListed t.nodes l

@@ -46,13 +46,13 @@ child_on node side.Right = node.right
 abbrev pub side_of : Node → ℕ → Side
 side_of parent k = if leads_to parent.left k then side.Left else side.Right
 
-abbrev pub parent_in : Option Node → Option NodeId
-parent_in None = None
-parent_in (Some node) = node.parent
+abbrev pub parent_node_in : Option Node → Option NodeId
+parent_node_in None = None
+parent_node_in (Some node) = node.parent
 
 -- the parent of node k, if it has one
 abbrev pub node_above : Nodes → ℕ → Option Node
-node_above nodes k = node_at nodes (parent_in (nodes k))
+node_above nodes k = node_at nodes (parent_node_in (nodes k))
   where
     node_at : Nodes → Option NodeId → Option Node
     node_at nodes None = None

@@ -2,19 +2,19 @@
 use Rattle.std.specs.Prelude.{◌≡◌, ◌≢◌, ℕ, ◌+◌, ◌<◌, ◌≤◌, None, Some, IsSome}
 use Rattle.cow_arena.specs.declared.node.Node.{Node}
 use Rattle.cow_arena.specs.declared.node.Side.{Side}
-use Rattle.cow_arena.specs.Walk.{Tree, walk, frame_at}
+use Rattle.cow_arena.specs.Walk.{Tree, walk, frame_shown}
 use Rattle.cow_arena.specs.Ways.{Rises}
-use Rattle.cow_arena.specs.Forest.{IsChild, AreListed}
+use Rattle.cow_arena.specs.Forest.{IsChild, HasListedRows}
 
 -- Node c is a snapshot of node v: it sees `seen` pages of v, from page `first` of v on.
 pub record ShowsSnapshot (old new : Tree) (v c first seen : ℕ) : Type 0 where
   -- each page of node v shows what it showed
-  pub node : (p : ℕ) (leaf : Node) → old.nodes v ≡ Some leaf → p < leaf.count → frame_at new v p ≡ frame_at old v p
+  pub node : (p : ℕ) (leaf : Node) → old.nodes v ≡ Some leaf → p < leaf.count → frame_shown new v p ≡ frame_shown old v p
   -- the walk from each page of each other node that was there finds what it found
   pub others : (k p : ℕ) (other : Node) → old.nodes k ≡ Some other → k ≢ v → walk new k p ≡ walk old k p
   -- a page of the snapshot that lies in its window shows what the page of node v showed, and any other is zero
-  pub inside : (p : ℕ) → p < seen → frame_at new c p ≡ frame_at old v (first + p)
-  pub past : (p : ℕ) → seen ≤ p → frame_at new c p ≡ None
+  pub inside : (p : ℕ) → p < seen → frame_shown new c p ≡ frame_shown old v (first + p)
+  pub past : (p : ℕ) → seen ≤ p → frame_shown new c p ≡ None
 
 -- The walk from each page of each node but v and h finds what it found.
 pub record KeepsWalks (old new : Tree) (v h : ℕ) : Type 0 where
@@ -22,7 +22,7 @@ pub record KeepsWalks (old new : Tree) (v h : ℕ) : Type 0 where
 
 -- If all rows stood in lists of nodes, they still do.
 pub record KeepsListed (old new : Tree) : Type 0 where
-  pub listed : AreListed old → AreListed new
+  pub listed : HasListedRows old → HasListedRows new
 
 -- Node v is gone, and its parent. The other nodes are there, and see no more pages of their parents than they did. A page of one of
 -- them that rose to a page of another rises to it.

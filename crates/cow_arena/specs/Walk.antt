@@ -69,5 +69,5 @@ frame_found None = None
 frame_found (Some it) = frame_in it.slot
 
 -- the frame that page p of node k shows. None if the page is zero
-abbrev pub frame_at : Tree → ℕ → ℕ → Option ℕ
-frame_at t k p = frame_found (walk t k p)
+abbrev pub frame_shown : Tree → ℕ → ℕ → Option ℕ
+frame_shown t k p = frame_found (walk t k p)

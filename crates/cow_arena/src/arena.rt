@@ -7,7 +7,7 @@ ghost use Rattle.cow_arena.specs.declared.node.Node.{Node};
 ghost use Rattle.cow_arena.specs.Nodes.{nodes_of, link_to, child_on, other_side, side_of, node_above, side_in, sibling_in, AreFamily};
 ghost use Rattle.cow_arena.specs.Walk.{Slots, tree_with};
 ghost use Rattle.cow_arena.specs.Views.{ShowsSnapshot, KeepsWalks, KeepsListed};
-ghost use Rattle.cow_arena.specs.Forest.{IsForest, AreListed};
+ghost use Rattle.cow_arena.specs.Forest.{IsForest, HasListedRows};
 ghost use Rattle.cow_arena.specs.Changes.{root_node, window_first, moved_link, hidden_over, below_hidden, paired, relinked, lifted, spliced, spliced_over};
 ghost use Rattle.cow_arena.specs.Renamed.{AreExchanged};
 ghost use Rattle.cow_arena.specs.Counts.{hidden_count, visible_count, HasFewerHidden};
@@ -115,7 +115,7 @@ impl CowArena {
         ensures nodes { IfOk result (λ pair. (node : Node) → nodes_of self.old leaf.0 ≡ Some node →
             nodes_of self.new ≡ paired (nodes_of self.old) leaf.0 node pair.hidden.0 pair.child.0 self.old.lists
             koid first seen count) }
-        ensures shows { IfOk result (λ pair. (slots : Slots) → AreListed (tree_with (nodes_of self.old) self.old.lists slots) →
+        ensures shows { IfOk result (λ pair. (slots : Slots) → HasListedRows (tree_with (nodes_of self.old) self.old.lists slots) →
             ShowsSnapshot (tree_with (nodes_of self.old) self.old.lists slots) (tree_with (nodes_of self.new) self.new.lists slots)
             leaf.0 pair.child.0 first seen) }
         ensures lists { OnOk result (self.new.lists ≡ self.old.lists + 2) }

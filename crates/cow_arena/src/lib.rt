@@ -5,7 +5,7 @@
 //! over the parent. It stands on `page_list` for the number of a list, and never looks at a row. The contracts speak of
 //! the nodes under their numbers (`nodes_of`), which are a forest (`IsForest`), and of how a page of a node is looked
 //! for upwards (`walk`). They say which walks a change of the nodes leaves as they were, and that all rows stand in
-//! lists of nodes (`AreListed`). `cow_split` comes next.
+//! lists of nodes (`HasListedRows`). `cow_split` comes next.
 #![tactic(auto)]
 
 mod arena;

@@ -19,7 +19,7 @@ use Rattle.cow_arena.specs.declared.node.NodeId.{NodeId}
 use Rattle.cow_arena.specs.declared.node.Side.{Side}
 use Rattle.cow_arena.specs.declared.node.Side.TheVariants as side
 use Rattle.cow_arena.specs.Nodes.{nodes_of, link_to, IsVisible}
-use Rattle.cow_arena.specs.Walk.{Found, frame_at, frame_in, frame_found}
+use Rattle.cow_arena.specs.Walk.{Found, frame_shown, frame_in, frame_found}
 use Rattle.cow_arena.proofs.WalkLaws.{link_same, walk-own}
 use Rattle.cow_arena.proofs.ReachLaws.{walk-ends}
 use Rattle.cow_split.specs.Sight.{IsPage, IsSeenFrom, IsLastViewer}
@@ -27,7 +27,7 @@ use Rattle.cow_split.specs.Exact.{all_in_sight}
 use Rattle.cow_split.proofs.RowLaws.{frame-in_use}
 use Rattle.page_store.specs.Pages.{ShowsTag}
 use Rattle.cow_forest.specs.Tables.{node_in}
-use Rattle.cow_forest.specs.Store.{Forest, tree, content_of, count_from, pages_in, frame_from, page_with, page_showing, HasNode, IsStore}
+use Rattle.cow_forest.specs.Store.{Forest, tree, forest_content, count_from, pages_in, frame_from, page_with_frame, page_showing, HasNode, IsStore}
 use Rattle.cow_forest.proofs.LookLaws.{page-past}
 
 -- the VMO v has the node k, and p is one of its pages
@@ -38,10 +38,10 @@ pub record HasPage (f : Forest) (v k p : ℕ) : Type 0 where
 -- page p of the VMO v shows the frame t, by its node k
 pub record ShownBy (f : Forest) (v k p t : ℕ) : Type 0 where
   pub page : HasPage f v k p
-  pub frame : frame_at (tree f) k p ≡ Some t
+  pub frame : frame_shown (tree f) k p ≡ Some t
 
 -- a page that is held shows a frame
-pub frame-showing : (pool : Pool) (o : Option ℕ) (held : Page) → page_showing pool o ≡ Some held → (t : ℕ) × (o ≡ Some t) × (page_with pool t ≡ held)
+pub frame-showing : (pool : Pool) (o : Option ℕ) (held : Page) → page_showing pool o ≡ Some held → (t : ℕ) × (o ≡ Some t) × (page_with_frame pool t ≡ held)
 frame-showing pool None held e = absurd cc
 frame-showing pool (Some t) held e = (t, refl, cc)
 
@@ -51,7 +51,7 @@ module _ (f : Forest) (s : IsStore f) where
   node-visible v k h = record { at = h.is.at; koid = ap is_some h.is.has_koid }
 
   -- a VMO has a node
-  pub vmo-node : (v : ℕ) → IsSome ((content_of f).count v) → (k : ℕ) × (node_in f.nodes v ≡ link_to k) × HasNode f v k
+  pub vmo-node : (v : ℕ) → IsSome ((forest_content f).count v) → (k : ℕ) × (node_in f.nodes v ≡ link_to k) × HasNode f v k
   vmo-node v some = with_node (node_in f.nodes v) refl some
     where
       with_node : (o : Option NodeId) → node_in f.nodes v ≡ o → IsSome (count_from (nodes_of f.arena) o) →
@@ -79,27 +79,27 @@ module _ (f : Forest) (s : IsStore f) where
       (koid.0.0, record { node = node; is = record { at = visible.at; koid = koid.0; has_koid = koid.1; number = refl } })
 
   -- the pages of a VMO are those of its node, and one past the count shows no frame
-  pub page-of : (v k p : ℕ) → HasNode f v k → (content_of f).page v p ≡ page_showing f.pool (frame_at (tree f) k p)
+  pub page-of : (v k p : ℕ) → HasNode f v k → (forest_content f).page v p ≡ page_showing f.pool (frame_shown (tree f) k p)
   page-of v k p h = ap (λ (o : Option NodeId). page_showing f.pool (frame_from (tree f) o p)) (node-of v k h)
 
-  pub count-of : (v k : ℕ) (h : HasNode f v k) → (content_of f).count v ≡ Some h.node.count
+  pub count-of : (v k : ℕ) (h : HasNode f v k) → (forest_content f).count v ≡ Some h.node.count
   count-of v k h = ap (count_from (nodes_of f.arena)) (node-of v k h) ∙ ap pages_in h.is.at
 
-  pub pages-of : (v k : ℕ) (h : HasNode f v k) → pages_of (content_of f) v ≡ h.node.count
+  pub pages-of : (v k : ℕ) (h : HasNode f v k) → pages_of (forest_content f) v ≡ h.node.count
   unfolding pages_of
   pages-of v k h = ap (λ (o : Option ℕ). unwrap_or o 0) (count-of v k h)
 
-  pub frame-past : (k p : ℕ) (node : Node) → IsVisible (nodes_of f.arena) k node → node.count ≤ p → frame_at (tree f) k p ≡ None
+  pub frame-past : (k p : ℕ) (node : Node) → IsVisible (nodes_of f.arena) k node → node.count ≤ p → frame_shown (tree f) k p ≡ None
   frame-past k p node visible past = page-past (tree f) (is_taken f.pool, s.exact) k node visible p past
 
   -- a VMO has a node, of which p is a page
-  pub page-node : (v p : ℕ) → p < pages_of (content_of f) v → (k : ℕ) × (node_in f.nodes v ≡ link_to k) × HasPage f v k p
+  pub page-node : (v p : ℕ) → p < pages_of (forest_content f) v → (k : ℕ) × (node_in f.nodes v ≡ link_to k) × HasPage f v k p
   page-node v p less =
-      let it = vmo-node v (ap is_some (count_from_page (content_of f) v p less)) in
+      let it = vmo-node v (ap is_some (count_from_page (forest_content f) v p less)) in
       let count = pages-of v it.0 it.2 in
       (it.0, it.1, record { node = it.2; page = record { node = it.2.node; visible = node-visible v it.0 it.2; below = omega arith } })
 
-  pub shown-page : (v p : ℕ) (held : Page) → (content_of f).page v p ≡ Some held → (k : ℕ) × ShownBy f v k p held.tag × (held.bytes ≡ frame_bytes f.pool held.tag)
+  pub shown-page : (v p : ℕ) (held : Page) → (forest_content f).page v p ≡ Some held → (k : ℕ) × ShownBy f v k p held.tag × (held.bytes ≡ frame_bytes f.pool held.tag)
   shown-page v p held e = with_node (node_in f.nodes v) refl e
     where
       with_node : (o : Option NodeId) → node_in f.nodes v ≡ o → page_showing f.pool (frame_from (tree f) o p) ≡ Some held →
@@ -107,7 +107,7 @@ module _ (f : Forest) (s : IsStore f) where
       with_node None is e = absurd cc
       with_node (Some at) is e =
           let h = s.named v at is in
-          let found = frame-showing f.pool (frame_at (tree f) at.0 p) held e in
+          let found = frame-showing f.pool (frame_shown (tree f) at.0 p) held e in
           let below : p < h.node.count = elim (cases_lt p h.node.count) [
             | inl less ↦ less
             | inr past ↦ absurd (let none = frame-past at.0 p h.node (node-visible v at.0 h) past in let some = found.1 in cc)
@@ -121,30 +121,30 @@ module _ (f : Forest) (s : IsStore f) where
             ap (λ (page : Page). page.bytes) (sym found.2) ∙ ap (frame_bytes f.pool) tag,
           )
 
-  pub page-shown : (v k p t : ℕ) → ShownBy f v k p t → (held : Page) × ShowsTag (content_of f) t v p held
-  page-shown v k p t shown = (page_with f.pool t, record { page = page-of v k p shown.page.node ∙ ap (page_showing f.pool) shown.frame; tag = refl })
+  pub page-shown : (v k p t : ℕ) → ShownBy f v k p t → (held : Page) × ShowsTag (forest_content f) t v p held
+  page-shown v k p t shown = (page_with_frame f.pool t, record { page = page-of v k p shown.page.node ∙ ap (page_showing f.pool) shown.frame; tag = refl })
 
   -- a page of a visible node that shows a frame is that of a VMO
-  pub vmo-shows : (k p t : ℕ) → IsPage (tree f) k p → frame_at (tree f) k p ≡ Some t → (v : ℕ) × ShownBy f v k p t
+  pub vmo-shows : (k p t : ℕ) → IsPage (tree f) k p → frame_shown (tree f) k p ≡ Some t → (v : ℕ) × ShownBy f v k p t
   vmo-shows k p t page frame =
       let vmo = visible-vmo k page.node page.visible in
       (vmo.0, record { page = record { node = vmo.1; page = page }; frame = frame })
 
   -- who shows a frame
-  pub shown-views : (v k p t : ℕ) → ShownBy f v k p t → views (content_of f) t v ≡ true
+  pub shown-views : (v k p t : ℕ) → ShownBy f v k p t → views (forest_content f) t v ≡ true
   shown-views v k p t shown =
       let held = page-shown v k p t shown in
       let h = shown.page.node in
       let at = shown.page.page in
       let same : at.node ≡ h.node = some_same (sym at.visible.at ∙ h.is.at) in
       let below = at.below in
-      let less : p < pages_of (content_of f) v = omega (arith, pages-of v k h, ap (λ (node : Node). node.count) same) in
-      views_at (content_of f) t v p held.0 less held.1.page held.1.tag
+      let less : p < pages_of (forest_content f) v = omega (arith, pages-of v k h, ap (λ (node : Node). node.count) same) in
+      views_at (forest_content f) t v p held.0 less held.1.page held.1.tag
 
-  pub views-shown : (v t : ℕ) → (views (content_of f) t v ≡ true) ↔ ((k p : ℕ) × ShownBy f v k p t)
+  pub views-shown : (v t : ℕ) → (views (forest_content f) t v ≡ true) ↔ ((k p : ℕ) × ShownBy f v k p t)
   views-shown v t = (
     λ e.
-        let found = views_found (content_of f) t v e in
+        let found = views_found (forest_content f) t v e in
         let it = shown-page v found.0 found.1 found.3 in
         (it.0, found.0, subst (λ u. ShownBy f v it.0 found.0 u) found.4 it.1),
     λ it. shown-views v it.0 it.1 t it.2,
@@ -195,51 +195,51 @@ module _ (f : Forest) (s : IsStore f) where
   vmo-below v k h = (s.koids v k h.node h.is).1
 
   -- the frames in use are those that are taken
-  pub in_use-taken : (t : ℕ) → in_use (content_of f) t ≡ is_taken f.pool t
+  pub in_use-taken : (t : ℕ) → in_use (forest_content f) t ≡ is_taken f.pool t
   unfolding in_use
-  in_use-taken t = both_ways (in_use (content_of f) t) (is_taken f.pool t)
+  in_use-taken t = both_ways (in_use (forest_content f) t) (is_taken f.pool t)
       (λ e.
-      let koid = any_below_found f.next (views (content_of f) t) e in
+      let koid = any_below_found f.next (views (forest_content f) t) e in
       let shown = (views-shown koid.0 t).0 koid.2 in
       frame-in_use (tree f) all_in_sight (is_taken f.pool) s.exact shown.0 shown.1 t shown.2.frame)
       (λ taken.
       let shown = taken-shown t taken in
-      any_below_at f.next shown.0 (views (content_of f) t) (vmo-below shown.0 shown.1 shown.3.page.node) (shown-views shown.0 shown.1 shown.2 t shown.3))
+      any_below_at f.next shown.0 (views (forest_content f) t) (vmo-below shown.0 shown.1 shown.3.page.node) (shown-views shown.0 shown.1 shown.2 t shown.3))
 
-  pub used-taken : used (content_of f) ≡ taken_count f.pool
+  pub used-taken : used (forest_content f) ≡ taken_count f.pool
   unfolding used
-  used-taken = count_below_same f.pool.frames (in_use (content_of f)) (λ t. is_some (taken_frames f.pool t)) (λ t h. in_use-taken t)
+  used-taken = count_below_same f.pool.frames (in_use (forest_content f)) (λ t. is_some (taken_frames f.pool t)) (λ t h. in_use-taken t)
       ∙ sym (taken_count-is f.pool)
 
-  pub sole-last : (v k p t : ℕ) → ShownBy f v k p t → (sole (content_of f) v p ≡ true) ↔ IsLastViewer (tree f) k t
+  pub sole-last : (v k p t : ℕ) → ShownBy f v k p t → (sole (forest_content f) v p ≡ true) ↔ IsLastViewer (tree f) k t
   unfolding seen_elsewhere
   sole-last v k p t shown =
       let held = page-shown v k p t shown in
       let h = shown.page.node in (
         λ alone w q page frame.
             let other = vmo-shows w q t page frame in
-            let unseen : seen_elsewhere (content_of f) held.0.tag v ≡ false = not-true (seen_elsewhere (content_of f) held.0.tag v) (sym (sole-at (content_of f) v p held.0 held.1.page) ∙ alone) in
+            let unseen : seen_elsewhere (forest_content f) held.0.tag v ≡ false = not-true (seen_elsewhere (forest_content f) held.0.tag v) (sym (sole-at (forest_content f) v p held.0 held.1.page) ∙ alone) in
             elim (cases_eq other.0 v) [
               | inl same ↦ one-node v w k (subst (λ u. HasNode f u w) same other.1.page.node) h
               | inr apart ↦
-                  let shows : views (content_of f) held.0.tag other.0 ≡ true = ap (λ u. views (content_of f) u other.0) held.1.tag ∙ shown-views other.0 w q t other.1 in
-                  absurd (let seen = any_below_at f.next other.0 (λ u. not (u == v) && views (content_of f) held.0.tag u) (vmo-below other.0 w other.1.page.node)
-                  (and_from (not (other.0 == v)) (views (content_of f) held.0.tag other.0) (ap not (eqb_apart other.0 v apart)) shows) in cc)
+                  let shows : views (forest_content f) held.0.tag other.0 ≡ true = ap (λ u. views (forest_content f) u other.0) held.1.tag ∙ shown-views other.0 w q t other.1 in
+                  absurd (let seen = any_below_at f.next other.0 (λ u. not (u == v) && views (forest_content f) held.0.tag u) (vmo-below other.0 w other.1.page.node)
+                  (and_from (not (other.0 == v)) (views (forest_content f) held.0.tag other.0) (ap not (eqb_apart other.0 v apart)) shows) in cc)
             ],
-        λ last. sole_from (content_of f) v p held.0 held.1.page (λ w q other apart e tag.
+        λ last. sole_from (forest_content f) v p held.0 held.1.page (λ w q other apart e tag.
             let it = shown-page w q other e in
             let same : it.0 ≡ k = last it.0 q it.1.page.page (it.1.frame ∙ ap (λ u. Some u) (tag ∙ held.1.tag)) in
             apart (one-vmo w v k (subst (HasNode f w) same it.1.page.node) h)),
       )
 
   -- the table leads from a VMO to its node
-  pub vmo-found : (v : ℕ) → IsSome ((content_of f).count v) → IsSome (node_in f.nodes v)
+  pub vmo-found : (v : ℕ) → IsSome ((forest_content f).count v) → IsSome (node_in f.nodes v)
   vmo-found v some = ap is_some (vmo-node v some).1
 
-  pub page-found : (v p : ℕ) → p < pages_of (content_of f) v → IsSome (node_in f.nodes v)
+  pub page-found : (v p : ℕ) → p < pages_of (forest_content f) v → IsSome (node_in f.nodes v)
   page-found v p less = ap is_some (page-node v p less).1
 
-  pub page-at : (v p : ℕ) (at : NodeId) → p < pages_of (content_of f) v → node_in f.nodes v ≡ Some at → HasPage f v at.0 p
+  pub page-at : (v p : ℕ) (at : NodeId) → p < pages_of (forest_content f) v → node_in f.nodes v ≡ Some at → HasPage f v at.0 p
   page-at v p at less found =
       let it = page-node v p less in
       subst (λ k. HasPage f v k p) (link_same (sym it.1 ∙ found)) it.2

@@ -9,7 +9,7 @@ use Rattle.cow_arena.proofs.CountLaws.{is_visible}
 use Rattle.cow_split.specs.Cost.{depth}
 use Rattle.cow_split.proofs.DepthLaws.{depth-hidden}
 use Rattle.cow_forest.specs.Tables.{node_in}
-use Rattle.cow_forest.specs.Store.{Forest, content_of, HasNode, IsStore}
+use Rattle.cow_forest.specs.Store.{Forest, forest_content, HasNode, IsStore}
 
 module _ (f : Forest) (s : IsStore f) (fewer : HasFewerHidden f.arena) (held : (k : ℕ) → IsSome (nodes_of f.arena k) → k < f.arena.slots.capacity) (v k : ℕ)
     (is : node_in f.nodes v ≡ link_to k) where
@@ -23,7 +23,7 @@ module _ (f : Forest) (s : IsStore f) (fewer : HasFewerHidden f.arena) (held : (
       (ap is_some has-node.is.has_koid)
 
   -- each node above the VMO's is hidden, and fewer are hidden than there are VMOs
-  pub depth-vmos : depth (nodes_of f.arena) f.arena.lists k ≤ vmos_of (content_of f)
+  pub depth-vmos : depth (nodes_of f.arena) f.arena.lists k ≤ vmos_of (forest_content f)
   depth-vmos =
       let up = depth-hidden f.arena s.exact.forest held k has-node.node has-node.is.at in
       elim fewer [

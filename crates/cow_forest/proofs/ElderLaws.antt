@@ -8,23 +8,23 @@ use Rattle.frame_pool.specs.Pool.{is_taken}
 use Rattle.cow_arena.specs.declared.node.NodeId.{NodeId}
 use Rattle.cow_arena.specs.declared.node.Side.{Side}
 use Rattle.cow_arena.specs.Nodes.{nodes_of, link_to}
-use Rattle.cow_arena.specs.Walk.{Found, frame_at}
+use Rattle.cow_arena.specs.Walk.{Found, frame_shown}
 use Rattle.cow_arena.specs.Ways.{Arrives}
 use Rattle.cow_arena.proofs.ReachLaws.{walk-ends, hidden-apart}
 use Rattle.cow_forest.specs.declared.founders.FounderTable.{FounderTable}
 use Rattle.cow_forest.specs.inside.Founders.{AreFounders, IsElderFor}
 use Rattle.cow_forest.specs.inside.Viewing.{HasFrameRow}
 use Rattle.cow_forest.specs.Tables.{node_in}
-use Rattle.cow_forest.specs.Store.{Forest, tree, content_of, frame_from, HasNode, IsStore}
+use Rattle.cow_forest.specs.Store.{Forest, tree, forest_content, frame_from, HasNode, IsStore}
 use Rattle.cow_forest.proofs.ContentLaws.{ShownBy, node-visible, node-of, shown-views, views-shown, frame-past}
 use Rattle.cow_forest.proofs.ViewingLaws.{sees-row}
 use Rattle.cow_forest.proofs.FounderLaws.{reach-founders}
 
 -- who shows a frame at some page of its node views it
-pub frame-views : (f : Forest) (s : IsStore f) (v q tag : ℕ) → frame_from (tree f) (node_in f.nodes v) q ≡ Some tag → views (content_of f) tag v ≡ true
+pub frame-views : (f : Forest) (s : IsStore f) (v q tag : ℕ) → frame_from (tree f) (node_in f.nodes v) q ≡ Some tag → views (forest_content f) tag v ≡ true
 frame-views f s v q tag shown = with_node (node_in f.nodes v) refl shown
   where
-    with_node : (o : Option NodeId) → node_in f.nodes v ≡ o → frame_from (tree f) o q ≡ Some tag → views (content_of f) tag v ≡ true
+    with_node : (o : Option NodeId) → node_in f.nodes v ≡ o → frame_from (tree f) o q ≡ Some tag → views (forest_content f) tag v ≡ true
     with_node None at shown = absurd (cc)
     with_node (Some at) led shown =
         let h = s.named v at led in
@@ -52,13 +52,13 @@ module _ (f : Forest) (s : IsStore f) (table : FounderTable) (are : AreFounders 
         | inl own ↦
             let mine = own.0 in (
               omega arith,
-              ap (λ o. frame_from (tree f) o q) (node-of f s w j its) ∙ (ap (frame_at (tree f) j) (sym own.1) ∙ shown.frame),
+              ap (λ o. frame_from (tree f) o q) (node-of f s w j its) ∙ (ap (frame_shown (tree f) j) (sym own.1) ∙ shown.frame),
             )
         | inr late ↦ absurd (omega arith)
       ]
 
   -- a VMO with a lesser koid that views the frame is the elder, by this page
-  elder-alone : (w : ℕ) → w < koid.0 → views (content_of f) tag w ≡ true → (w ≡ elder.0) × (frame_from (tree f) (node_in f.nodes elder.0) q ≡ Some tag)
+  elder-alone : (w : ℕ) → w < koid.0 → views (forest_content f) tag w ≡ true → (w ≡ elder.0) × (frame_from (tree f) (node_in f.nodes elder.0) q ≡ Some tag)
   elder-alone w less e =
       let it = (views-shown f s w tag).0 e in
       let sees = sees-row (tree f) (is_taken f.pool, s.exact) k q tag it.0 has (record { p = it.1; page = it.2.page.page; frame = it.2.frame }) in
@@ -67,9 +67,9 @@ module _ (f : Forest) (s : IsStore f) (table : FounderTable) (are : AreFounders 
       (alone.0, subst (λ v. frame_from (tree f) (node_in f.nodes v) q ≡ Some tag) alone.0 alone.1)
 
   -- it has no lesser koid itself
-  pub elder-late : koid.0 ≤ elder.0 → (w : ℕ) → w < koid.0 → views (content_of f) tag w ≡ false
-  elder-late late w less = false_from_ne_true (views (content_of f) tag w) (λ e. let same = (elder-alone w less e).0 in absurd (omega arith))
+  pub elder-late : koid.0 ≤ elder.0 → (w : ℕ) → w < koid.0 → views (forest_content f) tag w ≡ false
+  elder-late late w less = false_from_ne_true (views (forest_content f) tag w) (λ e. let same = (elder-alone w less e).0 in absurd (omega arith))
 
   -- or does not show the frame there
-  pub elder-parted : (frame_from (tree f) (node_in f.nodes elder.0) q ≡ Some tag → ⊥) → (w : ℕ) → w < koid.0 → views (content_of f) tag w ≡ false
-  elder-parted parted w less = false_from_ne_true (views (content_of f) tag w) (λ e. absurd (parted (elder-alone w less e).1))
+  pub elder-parted : (frame_from (tree f) (node_in f.nodes elder.0) q ≡ Some tag → ⊥) → (w : ℕ) → w < koid.0 → views (forest_content f) tag w ≡ false
+  elder-parted parted w less = false_from_ne_true (views (forest_content f) tag w) (λ e. absurd (parted (elder-alone w less e).1))

@@ -22,7 +22,7 @@ use Rattle.cow_split.proofs.RowLaws.{exact-in_use_alike}
 use Rattle.cow_fork.proofs.RootLaws.{exact-empty}
 use Rattle.vm_model.proofs.ContentLaws.{same_content}
 use Rattle.cow_forest.specs.Tables.{node_in}
-use Rattle.cow_forest.specs.Store.{Forest, tree, content_of, count_from, frame_from, page_showing, IsNodeOf, IsStore}
+use Rattle.cow_forest.specs.Store.{Forest, tree, forest_content, count_from, frame_from, page_showing, IsNodeOf, IsStore}
 use Rattle.cow_forest.proofs.ContentLaws.{page-shown, taken-shown}
 use Rattle.cow_forest.proofs.StoreLaws.{store-kept}
 
@@ -50,7 +50,7 @@ module _ (f : Forest) (h : HasNothing f) where
   none-named : (v k : ℕ) (node : Node) → IsNodeOf (nodes_of f.arena) v k node → ⊥
   none-named v k node is = let none = no-node k in let some = is.at in absurd cc
 
-  no-count : (v : ℕ) → (content_of f).count v ≡ None
+  no-count : (v : ℕ) → (forest_content f).count v ≡ None
   no-count v = ap (count_from (nodes_of f.arena)) (h.table v)
 
   pub store-empty : IsStore f
@@ -65,11 +65,11 @@ module _ (f : Forest) (h : HasNothing f) where
     koids = λ v k node is. absurd (none-named v k node is);
     first_koid = omega (arith, h.next);
     lists = omega (arith, h.next, h.lists);
-    vmos = h.vmos ∙ sym (count_below_none f.next (λ v. is_some ((content_of f).count v)) (λ v less. ap is_some (no-count v)));
+    vmos = h.vmos ∙ sym (count_below_none f.next (λ v. is_some ((forest_content f).count v)) (λ v less. ap is_some (no-count v)));
     visible = h.visible ∙ sym h.vmos;
   }
 
-  pub content-empty : f.pool.frames ≡ 0 → content_of f ≡ nothing
+  pub content-empty : f.pool.frames ≡ 0 → forest_content f ≡ nothing
   unfolding nothing
   content-empty frames = same_content _ _ frames h.next no-count (λ v p. ap (λ (o : Option NodeId). page_showing f.pool (frame_from (tree f) o p)) (h.table v))
 
@@ -79,12 +79,12 @@ showing-none : (pool other : Pool) (o : Option ℕ) → page_showing pool o ≡ 
 showing-none pool other None e = refl
 showing-none pool other (Some t) e = absurd cc
 
-module _ (f : Forest) (pool : Pool) (s : IsStore f) (empty : content_of f ≡ nothing) where
+module _ (f : Forest) (pool : Pool) (s : IsStore f) (empty : forest_content f ≡ nothing) where
   pub no-frames : f.pool.frames ≡ 0
   unfolding nothing
   no-frames = ap (λ (c : Content). c.frames) empty
 
-  none-held : (v p : ℕ) → (content_of f).page v p ≡ None
+  none-held : (v p : ℕ) → (forest_content f).page v p ≡ None
   unfolding nothing
   none-held v p = ap (λ (c : Content). c.page v p) empty
 
@@ -101,7 +101,7 @@ module _ (f : Forest) (pool : Pool) (s : IsStore f) (empty : content_of f ≡ no
       (exact-in_use_alike (tree f) all_in_sight (is_taken f.pool) (is_taken pool) (λ t. none-taken t ∙ sym (ap is_some (free t))) s.exact)
       (record { linked = λ l q row tag at frame. let none = none-taken tag in let some = s.exact.used l q row tag at frame in absurd cc })
 
-  pub content-filled : (n : ℕ) → pool.frames ≡ n → content_of (record f { pool = pool }) ≡ record (content_of f) { frames = n }
+  pub content-filled : (n : ℕ) → pool.frames ≡ n → forest_content (record f { pool = pool }) ≡ record (forest_content f) { frames = n }
   content-filled n frames = same_content _ _ frames refl (λ v. refl) (λ v p. showing-none f.pool pool (frame_from (tree f) (node_in f.nodes v) p) (none-held v p))
 
 -- ---- more room for rows

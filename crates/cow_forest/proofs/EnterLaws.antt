@@ -15,7 +15,7 @@ use Rattle.cow_arena.specs.declared.node.Node.{Node}
 use Rattle.cow_arena.specs.declared.node.NodeId.{NodeId}
 use Rattle.cow_arena.specs.Nodes.{Arena, Nodes, nodes_of, link_to, IsVisible}
 use Rattle.cow_arena.specs.Counts.{visible_count}
-use Rattle.cow_arena.specs.Walk.{Tree, frame_at}
+use Rattle.cow_arena.specs.Walk.{Tree, frame_shown}
 use Rattle.cow_split.specs.Trees.{tree_of}
 use Rattle.cow_split.specs.Sight.{IsPage, StaysVisible}
 use Rattle.cow_split.specs.Exact.{IsExact, all_in_sight}
@@ -23,13 +23,13 @@ use Rattle.cow_merge.specs.Ranges.{AreLinked}
 use Rattle.vm_model.proofs.ContentLaws.{same_content}
 use Rattle.vm_model.proofs.CountLaws.{vmos_of-same, vmos_of-created}
 use Rattle.cow_forest.specs.Tables.{NodeEntries, node_in}
-use Rattle.cow_forest.specs.Store.{Forest, tree, content_of, count_from, pages_in, frame_from, page_showing, HasNode, IsNodeOf, IsStore}
+use Rattle.cow_forest.specs.Store.{Forest, tree, forest_content, count_from, pages_in, frame_from, page_showing, HasNode, IsNodeOf, IsStore}
 use Rattle.cow_forest.proofs.ContentLaws.{node-visible, frame-past}
 
 -- there are no more VMOs than koids
 pub vmos_le : (f : Forest) → IsStore f → f.vmos ≤ f.next
 unfolding vmos_of
-vmos_le f s = let same = s.vmos in omega (arith, same, count_below_le f.next (λ v. is_some ((content_of f).count v)))
+vmos_le f s = let same = s.vmos in omega (arith, same, count_below_le f.next (λ v. is_some ((forest_content f).count v)))
 
 -- a VMO is found in a table with the same nodes
 pub found-node : (f : Forest) → IsStore f → (nodes : NodeEntries) → node_in nodes ≡ node_in f.nodes → (v : ℕ) (at : NodeId) → node_in nodes v ≡ Some at →
@@ -53,7 +53,7 @@ module _ (f : Forest) (arena : Arena) (nodes owners : NodeEntries) (a : IsAlike 
   tree-alike : tree alike ≡ tree f
   tree-alike = λ i. record (tree f) { nodes = a.arena_nodes i; lists = a.lists i }
 
-  pub content-alike : content_of alike ≡ content_of f
+  pub content-alike : forest_content alike ≡ forest_content f
   content-alike = same_content _ _ refl refl
       (λ v. λ i. count_from (a.arena_nodes i) (a.nodes_in i v))
       (λ v p. λ i. page_showing f.pool (frame_from (tree-alike i) (a.nodes_in i v) p))
@@ -100,7 +100,7 @@ pub record HasNewVmo (f : Forest) (arena : Arena) (rows : Rows Row) (nodes owner
   pub below : node.count ≤ VMO_PAGES
   pub stays : (w : ℕ) (n : Node) → IsVisible (nodes_of f.arena) w n → StaysVisible (nodes_of f.arena) (nodes_of arena) w n
   pub no_more : (w : ℕ) (n : Node) → IsVisible (nodes_of arena) w n → w ≢ k → StaysVisible (nodes_of arena) (nodes_of f.arena) w n
-  pub shows : (w q : ℕ) → IsPage (tree f) w q → frame_at (tree_of arena rows) w q ≡ frame_at (tree f) w q
+  pub shows : (w q : ℕ) → IsPage (tree f) w q → frame_shown (tree_of arena rows) w q ≡ frame_shown (tree f) w q
   pub nodes_in : node_in nodes ≡ with_key (node_in f.nodes) f.next (record { 0 = k })
   pub owners_in : (j : ℕ) (n : Node) → nodes_of arena j ≡ Some n → node_in owners n.list.0 ≡ link_to j
   pub lists : arena.lists ≤ f.arena.lists + 2
@@ -116,7 +116,7 @@ module _ (f : Forest) (s : IsStore f) (arena : Arena) (rows : Rows Row) (nodes o
       with_node None e = e
       with_node (Some at) e = let its = s.named f.next at e in let koid = s.koids f.next at.0 its.node its.is in absurd (let less = koid.1 in omega (arith, less))
 
-  pub next-bare : (p : ℕ) → (content_of f).page f.next p ≡ None
+  pub next-bare : (p : ℕ) → (forest_content f).page f.next p ≡ None
   next-bare p = ap (λ (o : Option NodeId). page_showing f.pool (frame_from (tree f) o p)) next-free
 
   node-here : (v : ℕ) → v ≡ f.next → node_in nodes v ≡ link_to k
@@ -147,12 +147,12 @@ module _ (f : Forest) (s : IsStore f) (arena : Arena) (rows : Rows Row) (nodes o
         was_there back.after (record { at = back.at; koid = is.koid; has_koid = back.koid ∙ is.has_koid; number = is.number }) back.count
   ]
 
-  count-now : (v : ℕ) → count_from (nodes_of arena) (node_in nodes v) ≡ with_key (content_of f).count f.next node.count v
+  count-now : (v : ℕ) → count_from (nodes_of arena) (node_in nodes v) ≡ with_key (forest_content f).count f.next node.count v
   count-now v = elim (cases_eq v f.next) [
     | inl same ↦
-        ap (count_from (nodes_of arena)) (node-here v same) ∙ (ap pages_in has.comes.at ∙ sym (with_key-here (content_of f).count f.next node.count v same))
+        ap (count_from (nodes_of arena)) (node-here v same) ∙ (ap pages_in has.comes.at ∙ sym (with_key-here (forest_content f).count f.next node.count v same))
     | inr apart ↦
-        ap (count_from (nodes_of arena)) (node-there v apart) ∙ (with_node (node_in f.nodes v) refl ∙ sym (with_key-other (content_of f).count f.next node.count v apart))
+        ap (count_from (nodes_of arena)) (node-there v apart) ∙ (with_node (node_in f.nodes v) refl ∙ sym (with_key-other (forest_content f).count f.next node.count v apart))
   ]
     where
       with_node : (o : Option NodeId) → node_in f.nodes v ≡ o → count_from (nodes_of arena) o ≡ count_from (nodes_of f.arena) o
@@ -192,12 +192,12 @@ module _ (f : Forest) (s : IsStore f) (arena : Arena) (rows : Rows Row) (nodes o
     ];
     first_koid = omega arith;
     lists = let few = s.lists in let more = has.lists in omega (arith, few, more);
-    vmos = ap (λ n. n + 1) s.vmos ∙ (sym (vmos_of-created (content_of f) node.count)
-        ∙ sym (vmos_of-same (created (content_of f) node.count) (content_of (with_vmo f arena rows nodes owners)) refl (λ v. ap is_some (count-now v))));
+    vmos = ap (λ n. n + 1) s.vmos ∙ (sym (vmos_of-created (forest_content f) node.count)
+        ∙ sym (vmos_of-same (created (forest_content f) node.count) (forest_content (with_vmo f arena rows nodes owners)) refl (λ v. ap is_some (count-now v))));
     visible = has.visible ∙ ap (λ n. n + 1) s.visible;
   }
 
-  page-now : (v p : ℕ) → v ≢ f.next → page_showing f.pool (frame_from (tree_of arena rows) (node_in nodes v) p) ≡ (content_of f).page v p
+  page-now : (v p : ℕ) → v ≢ f.next → page_showing f.pool (frame_from (tree_of arena rows) (node_in nodes v) p) ≡ (forest_content f).page v p
   page-now v p apart = ap (λ (o : Option NodeId). page_showing f.pool (frame_from (tree_of arena rows) o p)) (node-there v apart) ∙ with_node (node_in f.nodes v) refl
     where
       with_node : (o : Option NodeId) → node_in f.nodes v ≡ o → page_showing f.pool (frame_from (tree_of arena rows) o p) ≡ page_showing f.pool (frame_from (tree f) o p)
@@ -216,9 +216,9 @@ module _ (f : Forest) (s : IsStore f) (arena : Arena) (rows : Rows Row) (nodes o
           ]
 
   -- The content is any that has the new VMO, with what its node shows, and the others as they were.
-  pub content-new : (d : Content) → d.frames ≡ f.pool.frames → d.next ≡ f.next + 1 → ((v : ℕ) → d.count v ≡ with_key (content_of f).count f.next node.count v) →
-      ((p : ℕ) → d.page f.next p ≡ page_showing f.pool (frame_at (tree_of arena rows) k p)) →
-      ((v p : ℕ) → v ≢ f.next → d.page v p ≡ (content_of f).page v p) → content_of (with_vmo f arena rows nodes owners) ≡ d
+  pub content-new : (d : Content) → d.frames ≡ f.pool.frames → d.next ≡ f.next + 1 → ((v : ℕ) → d.count v ≡ with_key (forest_content f).count f.next node.count v) →
+      ((p : ℕ) → d.page f.next p ≡ page_showing f.pool (frame_shown (tree_of arena rows) k p)) →
+      ((v p : ℕ) → v ≢ f.next → d.page v p ≡ (forest_content f).page v p) → forest_content (with_vmo f arena rows nodes owners) ≡ d
   content-new d frames next count here there = same_content _ _ (sym frames) (sym next) (λ v. count-now v ∙ sym (count v)) (λ v p. elim (cases_eq v f.next) [
     | inl same ↦
         ap (λ (o : Option NodeId). page_showing f.pool (frame_from (tree_of arena rows) o p)) (node-here v same)

@@ -10,50 +10,50 @@ use Rattle.vm_base.proofs.EntryLaws.{with_key-same, with_key-other}
 use Rattle.vm_model.specs.Contents.Content.{Page, is_sole_page, sole, hold}
 use Rattle.frame_pool.specs.declared.frame_pool.Backlink.{Backlink}
 use Rattle.frame_pool.specs.Pool.{Pool, taken_frames, is_taken, frame_bytes, links_of}
-use Rattle.cow_arena.specs.Walk.{frame_at}
+use Rattle.cow_arena.specs.Walk.{frame_shown}
 use Rattle.cow_split.specs.Exact.{IsExact, all_in_sight}
 use Rattle.cow_split.specs.Sight.{IsPage}
 use Rattle.cow_split.proofs.RowLaws.{frame-in_use, exact-in_use_alike}
 use Rattle.cow_merge.specs.Ranges.{AreLinked}
-use Rattle.page_store.specs.Pages.{look_at, frame_of, ShowsTag, IsShown, IsShownOnce, Overwrites}
+use Rattle.page_store.specs.Pages.{look_at, tag_held, ShowsTag, IsShown, IsShownOnce, Overwrites}
 use Rattle.page_store.specs.declared.page_store.Look.{Look}
 use Rattle.page_store.specs.declared.page_store.Look.TheVariants as look
 use Rattle.page_store.proofs.FlatOwning.{is_some-with_key}
-use Rattle.cow_forest.specs.inside.Looking.{IsLook, ShowsFrame}
-use Rattle.cow_forest.specs.Store.{Forest, tree, content_of, page_with, page_showing, HasNode, IsStore}
+use Rattle.cow_forest.specs.inside.Looking.{IsLook, ShowsFrameOrNone}
+use Rattle.cow_forest.specs.Store.{Forest, tree, forest_content, page_with_frame, page_showing, HasNode, IsStore}
 use Rattle.cow_forest.proofs.ContentLaws.{HasPage, ShownBy, page-of, page-shown, shown-page, vmo-shows, sole-last, one-node}
 use Rattle.cow_forest.proofs.StoreLaws.{IsChangedAt, store-kept, content-held}
 
 module _ (f : Forest) (s : IsStore f) where
   -- what a look at the VMO's node answers
-  pub look-of : (v k p : ℕ) (answer : Look) → HasPage f v k p → IsLook (tree f) k p answer → answer ≡ look_at (content_of f) v ((content_of f).page v p)
-  look-of v k p look.Zero h zero = ap (look_at (content_of f) v) (sym (page-of f s v k p h.node ∙ ap (page_showing f.pool) zero))
+  pub look-of : (v k p : ℕ) (answer : Look) → HasPage f v k p → IsLook (tree f) k p answer → answer ≡ look_at (forest_content f) v ((forest_content f).page v p)
+  look-of v k p look.Zero h zero = ap (look_at (forest_content f) v) (sym (page-of f s v k p h.node ∙ ap (page_showing f.pool) zero))
   look-of v k p (look.Held tag alone) h held =
       let shown : ShownBy f v k p tag.0 = record { page = h; frame = held.0 } in
-      let page_is : (content_of f).page v p ≡ Some (page_with f.pool tag.0) = page-of f s v k p h.node ∙ ap (page_showing f.pool) held.0 in
+      let page_is : (forest_content f).page v p ≡ Some (page_with_frame f.pool tag.0) = page-of f s v k p h.node ∙ ap (page_showing f.pool) held.0 in
       let last = sole-last f s v k p tag.0 shown in
-      let same : alone ≡ sole (content_of f) v p = both_ways alone (sole (content_of f) v p) (λ e. last.1 (held.1.0 e)) (λ e. held.1.1 (last.0 e)) in
-      ap (look.Held tag) (same ∙ ap (is_sole_page (content_of f) v) page_is) ∙ ap (look_at (content_of f) v) (sym page_is)
+      let same : alone ≡ sole (forest_content f) v p = both_ways alone (sole (forest_content f) v p) (λ e. last.1 (held.1.0 e)) (λ e. held.1.1 (last.0 e)) in
+      ap (look.Held tag) (same ∙ ap (is_sole_page (forest_content f) v) page_is) ∙ ap (look_at (forest_content f) v) (sym page_is)
 
   -- which frame the VMO's node shows
-  pub frame-from : (v k p : ℕ) (answer : Option Tag) → HasPage f v k p → ShowsFrame (tree f) k p answer → answer ≡ frame_of ((content_of f).page v p)
-  frame-from v k p None h zero = ap frame_of (sym (page-of f s v k p h.node ∙ ap (page_showing f.pool) zero))
-  frame-from v k p (Some tag) h held = ap frame_of (sym (page-of f s v k p h.node ∙ ap (page_showing f.pool) held))
+  pub frame-from : (v k p : ℕ) (answer : Option Tag) → HasPage f v k p → ShowsFrameOrNone (tree f) k p answer → answer ≡ tag_held ((forest_content f).page v p)
+  frame-from v k p None h zero = ap tag_held (sym (page-of f s v k p h.node ∙ ap (page_showing f.pool) zero))
+  frame-from v k p (Some tag) h held = ap tag_held (sym (page-of f s v k p h.node ∙ ap (page_showing f.pool) held))
 
   -- the frame of a page that is held is taken
-  pub held-taken : (v p t : ℕ) (held : Page) → ShowsTag (content_of f) t v p held → IsSome (taken_frames f.pool t)
+  pub held-taken : (v p t : ℕ) (held : Page) → ShowsTag (forest_content f) t v p held → IsSome (taken_frames f.pool t)
   held-taken v p t held shows =
       let it = shown-page f s v p held shows.page in
       subst (λ u. IsSome (taken_frames f.pool u)) shows.tag (frame-in_use (tree f) all_in_sight (is_taken f.pool) s.exact it.0 p held.tag it.1.frame)
 
-  pub shown-taken : (t : ℕ) → IsShown (content_of f) t → IsSome (taken_frames f.pool t)
+  pub shown-taken : (t : ℕ) → IsShown (forest_content f) t → IsSome (taken_frames f.pool t)
   shown-taken t shown = held-taken shown.v shown.p t shown.held shown.shows
 
-  pub once-taken : (t : ℕ) → IsShownOnce (content_of f) t → IsSome (taken_frames f.pool t)
+  pub once-taken : (t : ℕ) → IsShownOnce (forest_content f) t → IsSome (taken_frames f.pool t)
   once-taken t once = held-taken once.v once.p t once.held once.shows.shows
 
 -- bytes are written to a frame that one page shows
-module _ (f : Forest) (s : IsStore f) (pool : Pool) (t at : ℕ) (bytes : List ℕ) (once : IsShownOnce (content_of f) t)
+module _ (f : Forest) (s : IsStore f) (pool : Pool) (t at : ℕ) (bytes : List ℕ) (once : IsShownOnce (forest_content f) t)
     (frames : pool.frames ≡ f.pool.frames) (links : links_of pool ≡ links_of f.pool)
     (taken : taken_frames pool ≡ with_key (taken_frames f.pool) t (replaced (frame_bytes f.pool t) at bytes)) where
   abbrev written : List ℕ
@@ -84,7 +84,7 @@ module _ (f : Forest) (s : IsStore f) (pool : Pool) (t at : ℕ) (bytes : List �
         ∙ ap (λ (o : Option (List ℕ)). unwrap_or o []) (with_key-other (taken_frames f.pool) t written u apart);
   }
     where
-      one-page : (w q : ℕ) → IsPage (tree f) w q → frame_at (tree f) w q ≡ Some t → (w ≡ k) × (q ≡ p)
+      one-page : (w q : ℕ) → IsPage (tree f) w q → frame_shown (tree f) w q ≡ Some t → (w ≡ k) × (q ≡ p)
       one-page w q page frame =
           let other = vmo-shows f s w q t page frame in
           let its = page-shown f s other.0 w q t other.1 in
@@ -93,7 +93,7 @@ module _ (f : Forest) (s : IsStore f) (pool : Pool) (t at : ℕ) (bytes : List �
           let here = once.shows.alone v p held.0 held.1 in
           (one-node f s v w k (subst (λ x. HasNode f x w) (there.0 ∙ sym here.0) other.1.page.node) shown.page.node, there.1 ∙ sym here.1)
 
-  pub overwrites : Overwrites (content_of f) (content_of (record f { pool = pool })) t at bytes
+  pub overwrites : Overwrites (forest_content f) (forest_content (record f { pool = pool })) t at bytes
   overwrites v p held shows =
       let it = shown-page f s v p held shows.page in
       let shown : ShownBy f v it.0 p t = subst (λ u. ShownBy f v it.0 p u) shows.tag it.1 in
@@ -101,5 +101,5 @@ module _ (f : Forest) (s : IsStore f) (pool : Pool) (t at : ℕ) (bytes : List �
       let now : frame_bytes pool t ≡ replaced held.bytes at bytes =
       ap (λ (map : ℕ → Option (List ℕ)). unwrap_or (map t) []) taken
       ∙ (ap (λ (o : Option (List ℕ)). unwrap_or o []) (with_key-same (taken_frames f.pool) t written) ∙ ap (λ xs. replaced xs at bytes) same) in
-      let page : page_with pool t ≡ record held { bytes = replaced held.bytes at bytes } = λ i. record { tag = sym shows.tag i; bytes = now i } in
-      content-held f f.rows pool v it.0 p s shown.page.node (changed v it.0 p shown) t shown.frame ∙ ap (hold (content_of f) v p) page
+      let page : page_with_frame pool t ≡ record held { bytes = replaced held.bytes at bytes } = λ i. record { tag = sym shows.tag i; bytes = now i } in
+      content-held f f.rows pool v it.0 p s shown.page.node (changed v it.0 p shown) t shown.frame ∙ ap (hold (forest_content f) v p) page

@@ -5,9 +5,9 @@ use Rattle.vm_model.specs.Contents.Content.{Page}
 use Rattle.frame_pool.specs.Pool.{Pool}
 use Rattle.cow_arena.specs.declared.node.Node.{Node}
 use Rattle.cow_arena.specs.Nodes.{nodes_of}
-use Rattle.cow_arena.specs.Walk.{frame_at}
+use Rattle.cow_arena.specs.Walk.{frame_shown}
 use Rattle.cow_forest.specs.inside.Looking.{ShowsNoneIn, ShowsNoneFrom}
-use Rattle.cow_forest.specs.Store.{Forest, tree, content_of, page_showing, HasNode, IsStore}
+use Rattle.cow_forest.specs.Store.{Forest, tree, forest_content, page_showing, HasNode, IsStore}
 use Rattle.cow_forest.proofs.ContentLaws.{page-of}
 
 -- a page that shows a frame is held
@@ -20,21 +20,21 @@ module _ (f : Forest) (s : IsStore f) (v k : ℕ) (h : HasNode f v k) where
   pub node-leaf : IsSomeAnd (nodes_of f.arena k) (λ (node : Node). IsSome node.koid)
   node-leaf = subst (λ (o : Option Node). IsSomeAnd o (λ (node : Node). IsSome node.koid)) (sym h.is.at) (ap is_some h.is.has_koid)
 
-  page-none : (p : ℕ) → frame_at (tree f) k p ≡ None → (content_of f).page v p ≡ None
+  page-none : (p : ℕ) → frame_shown (tree f) k p ≡ None → (forest_content f).page v p ≡ None
   page-none p none = page-of f s v k p h ∙ ap (page_showing f.pool) none
 
   -- the next page of the node that shows a frame is the next that is held
   pub next-some : (answer : Option ℕ) (from : ℕ) →
-      IfSome answer (λ page. (from ≤ page) × IsSome (frame_at (tree f) k page) × ShowsNoneIn (tree f) k from page) →
-      IfSome answer (λ page. (from ≤ page) × IsSome ((content_of f).page v page) × ((p : ℕ) → from ≤ p → p < page → (content_of f).page v p ≡ None))
+      IfSome answer (λ page. (from ≤ page) × IsSome (frame_shown (tree f) k page) × ShowsNoneIn (tree f) k from page) →
+      IfSome answer (λ page. (from ≤ page) × IsSome ((forest_content f).page v page) × ((p : ℕ) → from ≤ p → p < page → (forest_content f).page v p ≡ None))
   next-some None from next = next
   next-some (Some page) from next = (
     next.0,
-    subst (λ (o : Option Page). IsSome o) (sym (page-of f s v k page h)) (showing-some f.pool (frame_at (tree f) k page) next.1),
+    subst (λ (o : Option Page). IsSome o) (sym (page-of f s v k page h)) (showing-some f.pool (frame_shown (tree f) k page) next.1),
     λ p start less. page-none p (next.2 p start less),
   )
 
   pub next-none : (answer : Option ℕ) (from : ℕ) → IfNone answer (ShowsNoneFrom (tree f) k from) →
-      IfNone answer ((p : ℕ) → from ≤ p → (content_of f).page v p ≡ None)
+      IfNone answer ((p : ℕ) → from ≤ p → (forest_content f).page v p ≡ None)
   next-none None from next = λ p start. page-none p (next p start)
   next-none (Some page) from next = next

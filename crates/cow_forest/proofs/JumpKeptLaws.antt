@@ -32,9 +32,9 @@ use Rattle.cow_merge.specs.Merging.{with_count, HasShrunk}
 use Rattle.cow_jump.specs.declared.jumps.Jump.{Jump}
 use Rattle.cow_jump.specs.declared.jumps.JumpTable.{JumpTable}
 use Rattle.cow_jump.proofs.JumpRowLaws.{jumps-alike, jump-bare, jumps-bare, taken-retired, less-retired}
-use Rattle.cow_jump.specs.Jumps.{jump_in, serial_in, IsTaken, IsJump, AreJumps, AreMovedUp, ArePairRetired}
+use Rattle.cow_jump.specs.Jumps.{jump_in, serial_in, IsCurrentJump, IsJump, AreJumps, AreMovedUp, ArePairRetired}
 use Rattle.cow_forest.specs.Store.{Forest, tree, HasNode, IsStore}
-use Rattle.cow_forest.specs.Ranges.{IsReady, HasZeroedSome}
+use Rattle.cow_forest.specs.Ranges.{IsReadyToZero, HasZeroedSome}
 use Rattle.cow_forest.proofs.ContentLaws.{node-visible}
 
 pub tree-alike : (old new : Arena) (rows : Rows Row) → nodes_of new ≡ nodes_of old → new.lists ≡ old.lists → tree_of old rows ≡ tree_of new rows
@@ -76,7 +76,7 @@ jumps-places f s rows v k h Is places =
     jumps-rows f s rows v k h (λ node at. places-bare (slots_of f.rows) (slots_of rows) node.list.0 Is (places node at))
 
 -- some pages of a range were made zero
-pub jumps-zeroed : (arena : Arena) (old new : Rows Row) (before after : Pool) (v first end a b : ℕ) → IsReady arena old before v first end →
+pub jumps-zeroed : (arena : Arena) (old new : Rows Row) (before after : Pool) (v first end a b : ℕ) → IsReadyToZero arena old before v first end →
     HasZeroedSome arena old new before after v a b → (table : JumpTable) → ((next : ℕ) × AreJumps (tree_of arena old) next table) →
     ((next : ℕ) × AreJumps (tree_of arena new) next table)
 jumps-zeroed arena old new before after v first end a b ready zeroed table are = (
@@ -197,7 +197,7 @@ module _ (t : Tree) (f : IsForest t.nodes t.lists) (v : ℕ) (leaf : Node) (visi
   }
 
   -- a jump that is to be taken leads to no node that is new
-  taken-was : (jump : Jump) → jump.serial < next → IsTaken new jump → IsTaken old jump
+  taken-was : (jump : Jump) → jump.serial < next → IsCurrentJump new jump → IsCurrentJump old jump
   taken-was jump less taken = elim (cases_eq jump.to.0 h) [
     | inl here ↦ absurd (no moved.now (ap (serial_in new) (sym here) ∙ taken.same))
     | inr other ↦ record { some = taken.some; same = sym (moved.serials jump.to.0 other) ∙ taken.same }
@@ -341,15 +341,15 @@ jumps-closed t u next v old new are retired keeps came = record {
 }
   where
     -- a jump that is to be taken leads to a node that stays
-    numbered : (jump : Jump) → IsTaken new jump → (k : ℕ) → jump.to.0 ≡ k → serial_in new k ≡ 0 → ⊥
+    numbered : (jump : Jump) → IsCurrentJump new jump → (k : ℕ) → jump.to.0 ≡ k → serial_in new k ≡ 0 → ⊥
     numbered jump taken k here none = let some = taken.some in let same = taken.same in let at = ap (serial_in new) here in absurd (omega arith)
 
-    stays : (jump : Jump) → IsTaken new jump → IsSome (t.nodes jump.to.0) → IsSome (u.nodes jump.to.0)
+    stays : (jump : Jump) → IsCurrentJump new jump → IsSome (t.nodes jump.to.0) → IsSome (u.nodes jump.to.0)
     stays jump taken some =
         let it = some_is (t.nodes jump.to.0) some in
         keeps.stays jump.to.0 it.0 it.1 (λ same. numbered jump taken v same retired.leaf) (λ child. numbered jump taken jump.to.0 refl (retired.parent jump.to.0 child))
 
-    jump-closed : (k : ℕ) (jump : Jump) → IsTaken new jump → IsJump t k jump → IsJump u k jump
+    jump-closed : (k : ℕ) (jump : Jump) → IsCurrentJump new jump → IsJump t k jump → IsJump u k jump
     jump-closed k jump taken is = record {
       there = λ now at some.
           let node = came k now at in

@@ -17,14 +17,14 @@ use Rattle.cow_arena.specs.declared.node.NodeId.{NodeId}
 use Rattle.cow_arena.specs.Nodes.{Arena, nodes_of, AreFamily, link_to, sibling_in}
 use Rattle.cow_arena.proofs.WalkLaws.{link_same}
 use Rattle.cow_arena.proofs.SpliceForestLaws.{s_h}
-use Rattle.cow_arena.specs.Walk.{frame_at}
+use Rattle.cow_arena.specs.Walk.{frame_shown}
 use Rattle.cow_arena.specs.Forest.{IsForest, IsChild}
 use Rattle.cow_split.specs.Sight.{IsPage}
 use Rattle.cow_merge.specs.Merging.{HasListOfParent, HasClosed}
 use Rattle.vm_model.proofs.ContentLaws.{same_content}
 use Rattle.vm_model.proofs.CountLaws.{vmos_of-same, vmos_of-less}
 use Rattle.cow_forest.specs.Tables.{NodeEntries, node_in, IsDisowned, AreMerged, HasOneOf}
-use Rattle.cow_forest.specs.Store.{Forest, tree, content_of, count_from, pages_in, frame_from, page_showing, HasNode, IsNodeOf, IsStore}
+use Rattle.cow_forest.specs.Store.{Forest, tree, forest_content, count_from, pages_in, frame_from, page_showing, HasNode, IsNodeOf, IsStore}
 use Rattle.cow_forest.proofs.ContentLaws.{node-visible, node-of, one-node, one-vmo, vmo-below, page-of, count-of, frame-past}
 use Rattle.cow_forest.proofs.ResizingLaws.{showing-given}
 
@@ -144,15 +144,15 @@ module _ (f : Forest) (arena : Arena) (rows : Rows Row) (pool : Pool) (nodes own
 
   -- ---- the counts
 
-  counts-now : (w : ℕ) → (content_of g).count w ≡ (without (content_of f) v).count w
+  counts-now : (w : ℕ) → (forest_content g).count w ≡ (without (forest_content f) v).count w
   counts-now w = elim (cases_eq w v) [
     | inl same ↦
-        ap (content_of g).count same
-        ∙ (ap (count_from (nodes_of arena)) entry-gone ∙ sym (ap (without (content_of f) v).count same ∙ count-without_here (content_of f) v))
-    | inr apart ↦ stays apart (node_in f.nodes w) refl ∙ sym (count-without_other (content_of f) v w apart)
+        ap (forest_content g).count same
+        ∙ (ap (count_from (nodes_of arena)) entry-gone ∙ sym (ap (without (forest_content f) v).count same ∙ count-without_here (forest_content f) v))
+    | inr apart ↦ stays apart (node_in f.nodes w) refl ∙ sym (count-without_other (forest_content f) v w apart)
   ]
     where
-      stays : w ≢ v → (o : Option NodeId) → node_in f.nodes w ≡ o → (content_of g).count w ≡ (content_of f).count w
+      stays : w ≢ v → (o : Option NodeId) → node_in f.nodes w ≡ o → (forest_content g).count w ≡ (forest_content f).count w
       stays apart None is = ap (count_from (nodes_of arena)) (entry-stays w apart ∙ is) ∙ sym (ap (count_from (nodes_of f.arena)) is)
       stays apart (Some at) is =
           let its = s.named w at is in
@@ -160,11 +160,11 @@ module _ (f : Forest) (arena : Arena) (rows : Rows Row) (pool : Pool) (nodes own
           ap (count_from (nodes_of arena)) (entry-stays w apart ∙ is)
           ∙ (ap pages_in now.now.is.at ∙ (ap (λ n. Some n) now.count ∙ sym (count-of f s w at.0 its)))
 
-  vmos-less : f.vmos - 1 ≡ vmos_of (content_of g)
+  vmos-less : f.vmos - 1 ≡ vmos_of (forest_content g)
   unfolding only
   vmos-less =
-      let same = vmos_of-same (without (content_of f) v) (content_of g) refl (λ w. ap is_some (counts-now w)) in
-      let less = vmos_of-less (content_of f) v (vmo-below f s v k h) (ap is_some (count-of f s v k h)) in
+      let same = vmos_of-same (without (forest_content f) v) (forest_content g) refl (λ w. ap is_some (counts-now w)) in
+      let less = vmos_of-less (forest_content f) v (vmo-below f s v k h) (ap is_some (count-of f s v k h)) in
       omega (arith, same, less, s.vmos)
 
   pub store-left : IsStore (with_less f arena rows pool nodes owners)
@@ -193,16 +193,16 @@ module _ (f : Forest) (arena : Arena) (rows : Rows Row) (pool : Pool) (nodes own
 
   -- ---- the pages
 
-  pages-now : (w q : ℕ) → (content_of g).page w q ≡ (without (content_of f) v).page w q
+  pages-now : (w q : ℕ) → (forest_content g).page w q ≡ (without (forest_content f) v).page w q
   unfolding only
   pages-now w q = elim (cases_eq w v) [
     | inl same ↦
         ap (λ o. page_showing pool (frame_from (tree g) o q)) (ap (node_in nodes) same ∙ entry-gone)
-        ∙ sym (ap (λ b. cond {A = Option Page} (not b) ((content_of f).page w q) None) (eq-eqb w v same))
-    | inr apart ↦ stays apart (node_in f.nodes w) refl ∙ sym (page-only_stays (content_of f) (λ u. not (u == v)) w q (ap not (eqb_apart w v apart)))
+        ∙ sym (ap (λ b. cond {A = Option Page} (not b) ((forest_content f).page w q) None) (eq-eqb w v same))
+    | inr apart ↦ stays apart (node_in f.nodes w) refl ∙ sym (page-only_stays (forest_content f) (λ u. not (u == v)) w q (ap not (eqb_apart w v apart)))
   ]
     where
-      stays : w ≢ v → (o : Option NodeId) → node_in f.nodes w ≡ o → (content_of g).page w q ≡ (content_of f).page w q
+      stays : w ≢ v → (o : Option NodeId) → node_in f.nodes w ≡ o → (forest_content g).page w q ≡ (forest_content f).page w q
       stays apart None is =
           ap (λ o. page_showing pool (frame_from (tree g) o q)) (entry-stays w apart ∙ is)
           ∙ sym (ap (λ o. page_showing f.pool (frame_from (tree f) o q)) is)
@@ -214,13 +214,13 @@ module _ (f : Forest) (arena : Arena) (rows : Rows Row) (pool : Pool) (nodes own
           ∙ (elim (cases_lt q now.now.node.count) [
             | inl less ↦
                 let page : IsPage (tree g) at.0 q = record { node = now.now.node; visible = visible; below = less } in
-                showing-given (tree g) f.pool pool c.exact c.pool at.0 q (frame_at (tree f) at.0 q) (c.shows at.0 q page)
+                showing-given (tree g) f.pool pool c.exact c.pool at.0 q (frame_shown (tree f) at.0 q) (c.shows at.0 q page)
             | inr past ↦
                 ap (page_showing pool) (frame-past g store-left at.0 q now.now.node visible past)
                 ∙ sym (ap (page_showing f.pool) (frame-past f s at.0 q its.node (node-visible f s w at.0 its) (omega (arith, now.count))))
           ]
           ∙ sym (page-of f s w at.0 q its))
 
-  pub content-left : content_of (with_less f arena rows pool nodes owners) ≡ without (content_of f) v
+  pub content-left : forest_content (with_less f arena rows pool nodes owners) ≡ without (forest_content f) v
   unfolding only
   content-left = same_content _ _ c.pool.frames refl counts-now pages-now

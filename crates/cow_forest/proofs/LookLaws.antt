@@ -12,7 +12,7 @@ use Rattle.cow_arena.specs.declared.node.NodeId.{NodeId}
 use Rattle.cow_arena.specs.declared.node.Side.{Side}
 use Rattle.cow_arena.specs.Nodes.{Arena, nodes_of, IsVisible}
 use Rattle.cow_arena.specs.Forest.{IsForest}
-use Rattle.cow_arena.specs.Walk.{Tree, walk, frame_at, frame_found}
+use Rattle.cow_arena.specs.Walk.{Tree, walk, frame_shown, frame_found}
 use Rattle.cow_arena.specs.Ways.{Arrives}
 use Rattle.cow_arena.proofs.WalkLaws.{walk-own, walk-past}
 use Rattle.cow_arena.proofs.ReachLaws.{reach-hidden, hidden-apart, walk-ends}
@@ -26,7 +26,8 @@ use Rattle.cow_split.specs.Exact.{IsExact, all_in_sight}
 use Rattle.cow_split.specs.Cutting.{cut_answer, leaves_frame}
 use Rattle.cow_split.proofs.RowLaws.{only-none, frame-shown, frame-once}
 use Rattle.cow_split.proofs.CutLaws.{cut-last}
-use Rattle.cow_forest.specs.inside.Looking.{look_in, tag_in, IsLook, ShowsFrame}
+use Rattle.cow_forest.specs.inside.Looking.{look_in, IsLook, ShowsFrameOrNone}
+use Rattle.cow_forest.specs.Owning.{tag_in}
 use Rattle.cow_fork.proofs.LeafLaws.{IsLeaf, leaf-is}
 use Rattle.cow_fork.proofs.HolderLaws.{held-shown, own-row, bare-row}
 
@@ -37,7 +38,7 @@ none-from (Some x) h = absurd (h x refl)
 
 -- a page past the count of a visible node shows nothing
 pub page-past : (t : Tree) → (in_use : ℕ → Bool) × IsExact t all_in_sight in_use → (v : ℕ) (node : Node) → IsVisible t.nodes v node → (p : ℕ) →
-    node.count ≤ p → frame_at t v p ≡ None
+    node.count ≤ p → frame_shown t v p ≡ None
 page-past t exact v node visible p past =
     let seen = exact.1.forest.by.seen v node visible.at in
     ap frame_found (walk-past t exact.1.forest v p node visible.at (free (t.slots node.list.0 p) refl) (omega arith))
@@ -59,10 +60,10 @@ module _ (arena : Arena) (rows : Rows Row) (v p : ℕ) (exact : (in_use : ℕ �
 
   -- a frame in a row of the node's own list is shown by no other node
   pub own-look : (tag : Tag) (left right : Bool) → holder.Own (slot.Frame tag left right) ≡ holder_of (walk (tree_of arena rows) v p) →
-      (frame_at (tree_of arena rows) v p ≡ Some tag.0) × IsLastViewer (tree_of arena rows) v tag.0
+      (frame_shown (tree_of arena rows) v p ≡ Some tag.0) × IsLastViewer (tree_of arena rows) v tag.0
   own-look tag left right held = (shown, last)
     where
-      shown : frame_at (tree_of arena rows) v p ≡ Some tag.0
+      shown : frame_shown (tree_of arena rows) v p ≡ Some tag.0
       shown = sym (held-shown (tree_of arena rows) v p _ held)
 
       found : walk (tree_of arena rows) v p ≡ Some (record { node = v; page = p; side = None; slot = slot.Frame tag left right })
@@ -92,17 +93,17 @@ module _ (arena : Arena) (rows : Rows Row) (v p : ℕ) (exact : (in_use : ℕ �
   pub above-look : (h : NodeId) (q : ℕ) (side : Side) (tag : Tag) (left right : Bool) →
       holder.Above h q side (slot.Frame tag left right) ≡ holder_of (walk (tree_of arena rows) v p) → (answer : Bool) →
       answer ≡ leaves_frame (cut_answer (tree_of arena rows) v p) →
-      (frame_at (tree_of arena rows) v p ≡ Some tag.0) × ((answer ≡ true) ↔ IsLastViewer (tree_of arena rows) v tag.0)
+      (frame_shown (tree_of arena rows) v p ≡ Some tag.0) × ((answer ≡ true) ↔ IsLastViewer (tree_of arena rows) v tag.0)
   above-look h q side tag left right held answer is = (shown, (forth, back))
     where
-      shown : frame_at (tree_of arena rows) v p ≡ Some tag.0
+      shown : frame_shown (tree_of arena rows) v p ≡ Some tag.0
       shown = sym (held-shown (tree_of arena rows) v p _ held)
 
       free : slots_of rows page.node.list.0 p ≡ None
       free = bare-row leaf _ held (λ row e. cc)
 
       ways : (other : Tag) → (cut_answer (tree_of arena rows) v p ≡ cut.LastViewer other)
-          ↔ ((frame_at (tree_of arena rows) v p ≡ Some other.0) × IsLastViewer (tree_of arena rows) v other.0)
+          ↔ ((frame_shown (tree_of arena rows) v p ≡ Some other.0) × IsLastViewer (tree_of arena rows) v other.0)
       ways = cut-last (tree_of arena rows) all_in_sight exact.0 exact.1 v p (only-none v) page.node page.visible free
 
       forth : answer ≡ true → IsLastViewer (tree_of arena rows) v tag.0
@@ -116,12 +117,12 @@ module _ (arena : Arena) (rows : Rows Row) (v p : ℕ) (exact : (in_use : ℕ �
 
 -- the frame of a row of a node's own is what the page shows
 pub row-frame : (t : Tree) → IsForest t.nodes t.lists → (v p : ℕ) (node : Node) (row : Slot) → t.nodes v ≡ Some node → t.slots node.list.0 p ≡ Some row →
-    ShowsFrame t v p (tag_in row)
+    ShowsFrameOrNone t v p (tag_in row)
 row-frame t forest v p node (slot.Frame tag left right) at row = ap frame_found (walk-own t forest v p node _ at row)
 row-frame t forest v p node slot.Zero at row = ap frame_found (walk-own t forest v p node slot.Zero at row)
 
 -- the frame of the row that holds a page is what the page shows
-pub shows-frame : (t : Tree) (v p : ℕ) (held : Holder) (answer : Option Tag) → frame_held held ≡ frame_at t v p → IfSome answer (λ tag. frame_held held ≡ Some tag.0) →
-    IfNone answer (frame_held held ≡ None) → ShowsFrame t v p answer
+pub shows-frame : (t : Tree) (v p : ℕ) (held : Holder) (answer : Option Tag) → frame_held held ≡ frame_shown t v p → IfSome answer (λ tag. frame_held held ≡ Some tag.0) →
+    IfNone answer (frame_held held ≡ None) → ShowsFrameOrNone t v p answer
 shows-frame t v p held (Some tag) same some none = sym same ∙ some
 shows-frame t v p held None same some none = sym same ∙ none

@@ -11,12 +11,12 @@ use Rattle.cow_arena.specs.Nodes.{Arena, Nodes, nodes_of, link_to}
 use Rattle.cow_arena.specs.Forest.{IsForest}
 use Rattle.cow_arena.specs.Changes.{root_node}
 use Rattle.cow_arena.specs.Counts.{visible_count}
-use Rattle.cow_arena.specs.Walk.{Tree, frame_at}
+use Rattle.cow_arena.specs.Walk.{Tree, frame_shown}
 use Rattle.cow_split.specs.Trees.{tree_of}
 use Rattle.cow_split.specs.Exact.{IsExact, all_in_sight}
 use Rattle.cow_fork.proofs.RootLaws.{rooted, rooted-zero, rooted-shows, exact-rooted}
 use Rattle.cow_forest.specs.Tables.{NodeEntries, node_in}
-use Rattle.cow_forest.specs.Store.{Forest, tree, content_of, page_showing, IsStore}
+use Rattle.cow_forest.specs.Store.{Forest, tree, forest_content, page_showing, IsStore}
 use Rattle.cow_forest.proofs.EnterLaws.{with_vmo, HasNewVmo, store-new, content-new, next-bare}
 
 -- the arena has a root more, and the tables have its node by its koid and by its list
@@ -83,7 +83,7 @@ module _ (f : Forest) (s : IsStore f) (arena : Arena) (nodes owners : NodeEntrie
       | inl here ↦ absurd (apart here.0)
       | inr there ↦ record { after = n; at = there.1; koid = refl; count = refl }
     ];
-    shows = λ w q page. ap (λ (t : Tree). frame_at t w q) tree-now
+    shows = λ w q page. ap (λ (t : Tree). frame_shown t w q) tree-now
         ∙ rooted-shows (tree f) all_in_sight (is_taken f.pool) s.exact k (record { 0 = f.next }) count has.free forest-with w q page;
     nodes_in = has.nodes_in;
     owners_in = owner-now;
@@ -94,10 +94,10 @@ module _ (f : Forest) (s : IsStore f) (arena : Arena) (nodes owners : NodeEntrie
   pub store-made : IsStore (with_vmo f arena f.rows nodes owners)
   store-made = store-new f s arena f.rows nodes owners k _ new-root
 
-  pub content-made : content_of (with_vmo f arena f.rows nodes owners) ≡ created (content_of f) count
+  pub content-made : forest_content (with_vmo f arena f.rows nodes owners) ≡ created (forest_content f) count
   unfolding created
-  content-made = content-new f s arena f.rows nodes owners k _ new-root (created (content_of f) count) refl refl (λ v. refl)
+  content-made = content-new f s arena f.rows nodes owners k _ new-root (created (forest_content f) count) refl refl (λ v. refl)
       (λ p. next-bare f s arena f.rows nodes owners k _ new-root p
-      ∙ sym (ap (page_showing f.pool) (ap (λ (t : Tree). frame_at t k p) tree-now
+      ∙ sym (ap (page_showing f.pool) (ap (λ (t : Tree). frame_shown t k p) tree-now
       ∙ rooted-zero (tree f) all_in_sight (is_taken f.pool) s.exact k (record { 0 = f.next }) count has.free forest-with p)))
       (λ v p apart. refl)

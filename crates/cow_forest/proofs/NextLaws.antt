@@ -8,7 +8,7 @@ use Rattle.vm_base.proofs.EntryLaws.{some_same}
 use Rattle.cow_arena.specs.declared.node.Node.{Node}
 use Rattle.cow_arena.specs.declared.node.NodeId.{NodeId}
 use Rattle.cow_arena.specs.Nodes.{IsVisible, side_in}
-use Rattle.cow_arena.specs.Walk.{Tree, walk, frame_at, frame_found}
+use Rattle.cow_arena.specs.Walk.{Tree, walk, frame_shown, frame_found}
 use Rattle.cow_arena.proofs.WalkLaws.{walk-past, walk-up}
 use Rattle.page_list.specs.declared.row.Slot.{Slot}
 use Rattle.cow_split.specs.Cost.{nodes_up}
@@ -16,14 +16,14 @@ use Rattle.cow_split.specs.Sight.{IsPage}
 use Rattle.cow_split.specs.Exact.{IsExact, all_in_sight}
 use Rattle.cow_split.proofs.CostLaws.{parent-there}
 use Rattle.cow_merge.proofs.PassingLaws.{frame-from, up-less}
-use Rattle.cow_forest.specs.inside.Looking.{ShowsNoneIn, ShowsNoneFrom, IsNextBelow, nearer_page}
+use Rattle.cow_forest.specs.inside.Looking.{ShowsNoneIn, ShowsNoneFrom, IsNextRowBelow, nearer_page}
 use Rattle.cow_forest.proofs.LookLaws.{page-past}
 
 -- ---- one node
 
 -- the next row of a list, where it is below a page, and where it is not
 pub below-some : (rows : ℕ → Option Slot) (from to : ℕ) (answer : Option ℕ) (row : ℕ) → IsNext rows from answer → answer ≡ Some row → row < to →
-    IsNextBelow rows from to (Some row)
+    IsNextRowBelow rows from to (Some row)
 below-some rows from to answer row next is less = record {
   found = λ page e.
       let same : row ≡ page = some_same e in
@@ -33,14 +33,14 @@ below-some rows from to answer row next is less = record {
 }
 
 pub below-none : (rows : ℕ → Option Slot) (from to : ℕ) (answer : Option ℕ) (row : ℕ) → IsNext rows from answer → answer ≡ Some row → to ≤ row →
-    IsNextBelow rows from to None
+    IsNextRowBelow rows from to None
 below-none rows from to answer row next is past = record {
   found = λ page e. absurd (cc);
   free = λ page start before. (next.least row is).2 page start (omega arith);
 }
 
 -- the next row is not before any page that is at or before the first
-pub row-past : (rows : ℕ → Option Slot) (from to shift : ℕ) (answer : Option ℕ) → IsNextBelow rows from to answer → shift ≤ from →
+pub row-past : (rows : ℕ → Option Slot) (from to shift : ℕ) (answer : Option ℕ) → IsNextRowBelow rows from to answer → shift ≤ from →
     IfSome answer (λ page. shift ≤ page)
 row-past rows from to shift None next le = search rules
 row-past rows from to shift (Some row) next le = let found = next.found row refl in omega arith
@@ -63,8 +63,8 @@ pub record IsLookingUp (t : Tree) (v from : ℕ) (best : Option ℕ) (at : Node)
   pub risen : from ≤ here
   pub known : (page : ℕ) → best ≡ Some page → (from ≤ page) × (page < leaf.count)
   pub within : (d : ℕ) → here + d < to → from + d < leaf.count
-  pub same : (d : ℕ) → here + d < to → frame_at t v (from + d) ≡ frame_at t h (here + d)
-  pub rest : (d : ℕ) → to ≤ here + d → IsBefore best (from + d) → frame_at t v (from + d) ≡ None
+  pub same : (d : ℕ) → here + d < to → frame_shown t v (from + d) ≡ frame_shown t h (here + d)
+  pub rest : (d : ℕ) → to ≤ here + d → IsBefore best (from + d) → frame_shown t v (from + d) ≡ None
 
 -- The look has passed the rows of this node. Its pages from `here` on go on to the parent where they are below `end`.
 pub record HasPassed (t : Tree) (v from : ℕ) (best : Option ℕ) (at : Node) (here end : ℕ) : Type 0 where
@@ -95,7 +95,7 @@ module _ (t : Tree) (exact : (in_use : ℕ → Bool) × IsExact t all_in_sight i
 
   -- the node's next row leads to a better page, before which the node has none
   better : (best : Option ℕ) (at : Node) (here to : ℕ) → IsLookingUp t v from best at here to → (row : Option ℕ) →
-      IsNextBelow (t.slots at.list.0) here to row → IsLookingUp t v from (nearer_page best row (here - from)) at here (unwrap_or row to)
+      IsNextRowBelow (t.slots at.list.0) here to row → IsLookingUp t v from (nearer_page best row (here - from)) at here (unwrap_or row to)
   better best at here to was None next = was
   better best at here to was (Some row) next = record {
     leaf = was.leaf;
@@ -115,7 +115,7 @@ module _ (t : Tree) (exact : (in_use : ℕ → Bool) × IsExact t all_in_sight i
 
   -- the rows of the node are passed
   pub look-passed : (best : Option ℕ) (at : Node) (here to : ℕ) → IsLookingUp t v from best at here to → (row : Option ℕ) →
-      IsNextBelow (t.slots at.list.0) here to row → (now : Option ℕ) → now ≡ nearer_page best row (here - from) → (upto : ℕ) → upto ≡ unwrap_or row to →
+      IsNextRowBelow (t.slots at.list.0) here to row → (now : Option ℕ) → now ≡ nearer_page best row (here - from) → (upto : ℕ) → upto ≡ unwrap_or row to →
       (end : ℕ) → end ≡ min upto at.seen → HasPassed t v from now at here end
   look-passed best at here to was row next now now_is upto upto_is end end_is = record {
     to = unwrap_or row to;
@@ -126,7 +126,7 @@ module _ (t : Tree) (exact : (in_use : ℕ → Bool) × IsExact t all_in_sight i
 
   module _ (best : Option ℕ) (at : Node) (here end : ℕ) (has : HasPassed t v from best at here end) where
     -- a page outside the node's window shows nothing
-    outside : (d : ℕ) → end ≤ here + d → IsBefore best (from + d) → frame_at t v (from + d) ≡ None
+    outside : (d : ℕ) → end ≤ here + d → IsBefore best (from + d) → frame_shown t v (from + d) ≡ None
     outside d past before = elim (cases_lt (here + d) has.to) [
       | inr further ↦ has.looking.rest d further before
       | inl less ↦
@@ -156,15 +156,15 @@ module _ (t : Tree) (exact : (in_use : ℕ → Bool) × IsExact t all_in_sight i
               let on = walk-up t exact.1.forest was.h (here + d) parent.0 at was.there free (omega arith) parent_is in
               let page : at.first + (here + d) ≡ (here + at.first) + d = omega arith in
               was.same d (omega arith) ∙ (ap frame_found on ∙ (frame-from (side_in t.nodes was.h) (walk t parent.0 (at.first + (here + d)))
-              ∙ ap (frame_at t parent.0) page));
+              ∙ ap (frame_shown t parent.0) page));
           rest = λ d past before. outside d (omega arith) before;
         }
 
     -- it ends where no page goes on
-    before-best : end ≤ here → (p : ℕ) → from ≤ p → IsBefore best p → frame_at t v p ≡ None
+    before-best : end ≤ here → (p : ℕ) → from ≤ p → IsBefore best p → frame_shown t v p ≡ None
     before-best stop p start before =
         let page : from + (p - from) ≡ p = omega arith in
-        subst (λ p. frame_at t v p ≡ None) page (outside (p - from) (omega arith) (subst (IsBefore best) (sym page) before))
+        subst (λ p. frame_shown t v p ≡ None) page (outside (p - from) (omega arith) (subst (IsBefore best) (sym page) before))
 
     -- what is found then, and what not
     pub look-some : end ≤ here → IfSome best (λ page. (from ≤ page) × IsPage t v page × ShowsNoneIn t v from page)

@@ -14,7 +14,7 @@ use Rattle.frame_pool.specs.Pool.{Pool, taken_frames, is_taken, frame_bytes}
 use Rattle.frame_pool.proofs.PoolLaws.{takes_apart}
 use Rattle.page_list.specs.declared.row.Row.{Row}
 use Rattle.cow_arena.specs.Nodes.{link_to}
-use Rattle.cow_arena.specs.Walk.{frame_at}
+use Rattle.cow_arena.specs.Walk.{frame_shown}
 use Rattle.cow_arena.proofs.WalkLaws.{link_same}
 use Rattle.cow_arena.specs.declared.node.NodeId.{NodeId}
 use Rattle.cow_split.specs.Trees.{tree_of}
@@ -26,7 +26,7 @@ use Rattle.cow_fork.specs.Zeroing.{HasZeroed}
 use Rattle.cow_merge.specs.Ranges.{AreLinked}
 use Rattle.cow_forest.specs.Tables.{node_in}
 use Rattle.cow_forest.specs.Owning.{HasOwnRow, HasOwned}
-use Rattle.cow_forest.specs.Store.{Forest, tree, content_of, page_with, page_showing, IsStore}
+use Rattle.cow_forest.specs.Store.{Forest, tree, forest_content, page_with_frame, page_showing, IsStore}
 use Rattle.cow_forest.proofs.ContentLaws.{HasPage, page-of, page-at, in_use-taken, used-taken, sole-last}
 use Rattle.cow_forest.proofs.StoreLaws.{with_rows, store-kept, IsChangedAt, content-held, content-same, content-zeroed}
 
@@ -37,34 +37,34 @@ bytes-kept old new t same = ap (λ (o : Option (List ℕ)). unwrap_or o []) same
 -- what a page shows, by its frame
 shown-bytes : (pool : Pool) (o : Option ℕ) (page : Option Page) → page ≡ page_showing pool o → bytes_shown pool o ≡ bytes_of page
 shown-bytes pool None page e = sym (bytes_of-none page e)
-shown-bytes pool (Some t) page e = sym (bytes_of-some page (page_with pool t) e)
+shown-bytes pool (Some t) page e = sym (bytes_of-some page (page_with_frame pool t) e)
 
-module _ (f : Forest) (s : IsStore f) (v p : ℕ) (less : p < pages_of (content_of f) v) where
+module _ (f : Forest) (s : IsStore f) (v p : ℕ) (less : p < pages_of (forest_content f) v) where
   module _ (at : NodeId) (is : node_in f.nodes v ≡ Some at) where
     vmo-page : HasPage f v at.0 p
     vmo-page = page-at f s v p at less is
 
-    page-is : (content_of f).page v p ≡ page_showing f.pool (frame_at (tree f) at.0 p)
+    page-is : (forest_content f).page v p ≡ page_showing f.pool (frame_shown (tree f) at.0 p)
     page-is = page-of f s v at.0 p vmo-page.node
 
     -- a page is sole where its node shows its frame alone
-    node-sole : (t : ℕ) → IsSole (tree f) at.0 p t → sole (content_of f) v p ≡ true
+    node-sole : (t : ℕ) → IsSole (tree f) at.0 p t → sole (forest_content f) v p ≡ true
     node-sole t alone = (sole-last f s v at.0 p t (record { page = vmo-page; frame = alone.shows })).1 alone.last
 
-    sole-node : sole (content_of f) v p ≡ true → HasSole (tree f) at.0 p
-    sole-node alone = with_frame (frame_at (tree f) at.0 p) refl
+    sole-node : sole (forest_content f) v p ≡ true → HasSole (tree f) at.0 p
+    sole-node alone = with_frame (frame_shown (tree f) at.0 p) refl
       where
-        with_frame : (o : Option ℕ) → frame_at (tree f) at.0 p ≡ o → HasSole (tree f) at.0 p
-        with_frame None e = absurd (both_ways (sole (content_of f) v p) (sole-zero (content_of f) v p (page-is ∙ ap (page_showing f.pool) e)) alone)
+        with_frame : (o : Option ℕ) → frame_shown (tree f) at.0 p ≡ o → HasSole (tree f) at.0 p
+        with_frame None e = absurd (both_ways (sole (forest_content f) v p) (sole-zero (forest_content f) v p (page-is ∙ ap (page_showing f.pool) e)) alone)
         with_frame (Some t) e = record { tag = t; sole = record { shows = e; last = (sole-last f s v at.0 p t (record { page = vmo-page; frame = e })).0 alone } }
 
-    pub room-own : {room : ℕ} → (sole (content_of f) v p ≡ true) ⊎ ((1 ≤ room) × (used (content_of f) < (content_of f).frames)) →
+    pub room-own : {room : ℕ} → (sole (forest_content f) v p ≡ true) ⊎ ((1 ≤ room) × (used (forest_content f) < (forest_content f).frames)) →
         HasSole (tree f) at.0 p ⊎ ((1 ≤ room) × HasFree f.pool)
     room-own (inl alone) = inl (sole-node alone)
     room-own (inr room) = inr (room.0, let some = room.1 in omega (arith, some, used-taken f s))
 
     -- a frame that some page shows is taken
-    frame-taken : (w q t : ℕ) → frame_at (tree f) w q ≡ Some t → is_taken f.pool t ≡ true
+    frame-taken : (w q t : ℕ) → frame_shown (tree f) w q ≡ Some t → is_taken f.pool t ≡ true
     frame-taken w q t shows = frame-in_use (tree f) all_in_sight (is_taken f.pool) s.exact w q t shows
 
     module _ (rows : Rows Row) (pool : Pool) (tag : ℕ) (o : HasOwned f.arena f.rows rows f.pool pool at.0 p tag) where
@@ -72,13 +72,13 @@ module _ (f : Forest) (s : IsStore f) (v p : ℕ) (less : p < pages_of (content_
       store-owned = store-kept f rows pool s o.exact o.linked
 
       -- frames that are shown keep their bytes
-      bytes-owned : (w q t : ℕ) → frame_at (tree f) w q ≡ Some t → frame_bytes pool t ≡ frame_bytes f.pool t
-      bytes-owned w q t shows = elim (cases_Bool (sole (content_of f) v p)) [
+      bytes-owned : (w q t : ℕ) → frame_shown (tree f) w q ≡ Some t → frame_bytes pool t ≡ frame_bytes f.pool t
+      bytes-owned w q t shows = elim (cases_Bool (sole (forest_content f) v p)) [
         | inl alone ↦
             let own = sole-node alone in
             bytes-kept f.pool pool t (ap (λ (map : ℕ → Option (List ℕ)). map t) (o.stays own.tag own.sole).1)
         | inr shared ↦
-            let takes = o.taken (λ u own. absurd (both_ways (sole (content_of f) v p) shared (node-sole u own))) in
+            let takes = o.taken (λ u own. absurd (both_ways (sole (forest_content f) v p) shared (node-sole u own))) in
             bytes-kept f.pool pool t (ap (λ (map : ℕ → Option (List ℕ)). map t) takes.taken
             ∙ with_key-other (taken_frames f.pool) tag _ t (takes_apart f.pool pool tag _ takes t (frame-taken w q t shows)))
       ]
@@ -92,7 +92,7 @@ module _ (f : Forest) (s : IsStore f) (v p : ℕ) (less : p < pages_of (content_
         bytes = λ w q t page apart shows. bytes-owned w q t shows;
       }
 
-      pub owns : Owns (content_of f) (content_of (with_rows f rows pool)) v p tag
+      pub owns : Owns (forest_content f) (forest_content (with_rows f rows pool)) v p tag
       owns = record {
         stays = λ alone.
             let own = sole-node alone in
@@ -101,14 +101,14 @@ module _ (f : Forest) (s : IsStore f) (v p : ℕ) (less : p < pages_of (content_
               λ held e. same ∙ ap (λ (page : Page). page.tag) (some_same (sym (page-is ∙ ap (page_showing f.pool) own.sole.shows) ∙ e)),
             );
         copies = λ shared.
-            let takes = o.taken (λ t own. absurd (both_ways (sole (content_of f) v p) shared (node-sole t own))) in
-            let bytes : frame_bytes pool tag ≡ shown (content_of f) v p =
+            let takes = o.taken (λ t own. absurd (both_ways (sole (forest_content f) v p) shared (node-sole t own))) in
+            let bytes : frame_bytes pool tag ≡ shown (forest_content f) v p =
             ap (λ (o : Option (List ℕ)). unwrap_or o []) (ap (λ (map : ℕ → Option (List ℕ)). map tag) takes.taken ∙ with_key-same (taken_frames f.pool) tag _)
-            ∙ shown-bytes f.pool (frame_at (tree f) at.0 p) ((content_of f).page v p) page-is in (
+            ∙ shown-bytes f.pool (frame_shown (tree f) at.0 p) ((forest_content f).page v p) page-is in (
               takes.below,
               in_use-taken f s tag ∙ ap is_some takes.was_free,
               content-held f rows pool v at.0 p s vmo-page.node changed tag o.shows
-                  ∙ ap (λ (bs : List ℕ). hold (content_of f) v p (record { tag = tag; bytes = bs })) bytes,
+                  ∙ ap (λ (bs : List ℕ). hold (forest_content f) v p (record { tag = tag; bytes = bs })) bytes,
             );
       }
 
@@ -129,8 +129,8 @@ module _ (f : Forest) (s : IsStore f) (v p : ℕ) (less : p < pages_of (content_
       store-zeroed = store-kept f rows pool s z.exact linked-zeroed
 
       -- the frames that other pages show keep their bytes
-      bytes-zeroed : (w q t : ℕ) → IsPage (tree f) w q → ((w ≡ at.0) × (q ≡ p) → ⊥) → frame_at (tree f) w q ≡ Some t → frame_bytes pool t ≡ frame_bytes f.pool t
-      bytes-zeroed w q t page apart shows = elim (cases_Bool (sole (content_of f) v p)) [
+      bytes-zeroed : (w q t : ℕ) → IsPage (tree f) w q → ((w ≡ at.0) × (q ≡ p) → ⊥) → frame_shown (tree f) w q ≡ Some t → frame_bytes pool t ≡ frame_bytes f.pool t
+      bytes-zeroed w q t page apart shows = elim (cases_Bool (sole (forest_content f) v p)) [
         | inl alone ↦
             let own = sole-node alone in
             let still = frame-in_use (tree_of f.arena rows) all_in_sight (is_taken pool) z.exact w q t (z.others w q page apart ∙ shows) in
@@ -140,9 +140,9 @@ module _ (f : Forest) (s : IsStore f) (v p : ℕ) (less : p < pages_of (content_
             let none = ap is_some gone in absurd (cc)))
         | inr shared ↦
             bytes-kept f.pool pool t (ap (λ (map : ℕ → Option (List ℕ)). map t)
-            (z.kept (λ u own. absurd (both_ways (sole (content_of f) v p) shared (node-sole u own)))))
+            (z.kept (λ u own. absurd (both_ways (sole (forest_content f) v p) shared (node-sole u own)))))
       ]
 
-      pub content-zero : content_of (with_rows f rows pool) ≡ zeroed (content_of f) v p (p + 1)
+      pub content-zero : forest_content (with_rows f rows pool) ≡ zeroed (forest_content f) v p (p + 1)
       content-zero = content-zeroed f rows pool v at.0 p s vmo-page.node
           (record { exact = z.exact; linked = linked-zeroed; frames = z.frames; others = z.others; bytes = bytes-zeroed }) z.zero

@@ -9,7 +9,7 @@ use Rattle.vm_base.proofs.EntryLaws.{some_same, with_key-here, with_key-other, w
 use Rattle.cow_arena.specs.declared.node.NodeId.{NodeId}
 use Rattle.cow_forest.specs.declared.node_table.TheConstants.{PLACES}
 use Rattle.cow_forest.specs.Tables.{NodeEntries, own_node, unless_own, displaced_in, node_in}
-use Rattle.cow_forest.specs.inside.TableFields.{IsPlaced}
+use Rattle.cow_forest.specs.inside.TableFields.{IsPlacedByNumber}
 
 abbrev Entry : Type 0
 Entry = ℕ × NodeId
@@ -66,7 +66,7 @@ nothing-at zero i = refl
 nothing-at (suc n) zero = refl
 nothing-at (suc n) (suc i) = nothing-at n i
 
-pub none-placed : IsPlaced (replicate PLACES None)
+pub none-placed : IsPlacedByNumber (replicate PLACES None)
 none-placed = record { place = λ i n node h. absurd (let bad : None ≡ Some (n, node) = sym (nothing-at PLACES i) ∙ h in cc) }
 
 pub none-in : (e : NodeEntries) → e.recent ≡ replicate PLACES None → e.displaced ≡ [] → (n : ℕ) → node_in e n ≡ None
@@ -95,7 +95,7 @@ unfolding node_in
 found-displaced e n is = ap (λ (o : Option NodeId). option_or o (displaced_in e.displaced n)) is
 
 -- One place of the array has another entry, and the map changed.
-module _ (old : NodeEntries) (r : IsPlaced old.recent) (number p : ℕ) (there : p ≡ number % PLACES) (inside : p < length old.recent) where
+module _ (old : NodeEntries) (r : IsPlacedByNumber old.recent) (number p : ℕ) (there : p ≡ number % PLACES) (inside : p < length old.recent) where
   set-here : (entry : Option Entry) (i : ℕ) → i ≡ p → entry_at (slice_set old.recent p entry) i ≡ entry
   set-here entry i same = ap (λ (k : ℕ). get_or (set old.recent p entry) k None) same ∙ get_or-set_same old.recent p entry None inside
 
@@ -103,7 +103,7 @@ module _ (old : NodeEntries) (r : IsPlaced old.recent) (number p : ℕ) (there :
   set-there entry i apart = get_or-set_other old.recent p i entry None apart
 
   -- each number that is entered at the place has this place
-  pub set-placed : (entry : Option Entry) → ((n : ℕ) (node : NodeId) → entry ≡ Some (n, node) → n % PLACES ≡ p) → IsPlaced (slice_set old.recent p entry)
+  pub set-placed : (entry : Option Entry) → ((n : ℕ) (node : NodeId) → entry ≡ Some (n, node) → n % PLACES ≡ p) → IsPlacedByNumber (slice_set old.recent p entry)
   set-placed entry own = record {
     place = λ i n node h. elim (cases_eq i p) [
       | inl same ↦ own n node (sym (set-here entry i same) ∙ h) ∙ sym same
@@ -136,7 +136,7 @@ module _ (old : NodeEntries) (r : IsPlaced old.recent) (number p : ℕ) (there :
   not-here n apart = own-other (entry_at old.recent p) n (λ k node is same. apart (ap (λ (m : ℕ). m % PLACES) same ∙ r.place p k node is))
 
   -- a number was entered, and the entry of another that stood at its place went into the map
-  pub entered-placed : (node : NodeId) → IsPlaced (slice_set old.recent p (Some (number, node)))
+  pub entered-placed : (node : NodeId) → IsPlacedByNumber (slice_set old.recent p (Some (number, node)))
   entered-placed node = set-placed (Some (number, node)) (λ n at is.
       let same : ◌≡◌ {A = Entry} (number, node) (n, at) = some_same is in
       ap (λ (e : Entry). e.0 % PLACES) (sym same) ∙ sym there)
@@ -166,7 +166,7 @@ module _ (old : NodeEntries) (r : IsPlaced old.recent) (number p : ℕ) (there :
     entered-in = λ i n. entered-at n i
 
   -- a number left the array and the map
-  pub left-placed : (n : ℕ) → IsPlaced (slice_set old.recent p (unless_own (entry_at old.recent p) n))
+  pub left-placed : (n : ℕ) → IsPlacedByNumber (slice_set old.recent p (unless_own (entry_at old.recent p) n))
   left-placed n = set-placed (unless_own (entry_at old.recent p) n) (λ k node is. r.place p k node (unless-was (entry_at old.recent p) n k node is))
 
   module _ (displaced : List Entry) (spare : ℕ) (gone : displaced_in displaced ≡ without_key (displaced_in old.displaced) number) where

@@ -12,7 +12,7 @@ use Rattle.page_list.specs.declared.row.Slot.{Slot}
 use Rattle.page_list.specs.Lists.{slots_of}
 use Rattle.cow_arena.specs.declared.node.Node.{Node}
 use Rattle.cow_arena.specs.Nodes.{Arena, nodes_of}
-use Rattle.cow_arena.specs.Walk.{Tree, walk, frame_at}
+use Rattle.cow_arena.specs.Walk.{Tree, walk, frame_shown}
 use Rattle.cow_split.specs.declared.answers.Holder.{Holder}
 use Rattle.cow_split.specs.Trees.{tree_of, holder_of, frame_held}
 use Rattle.cow_split.specs.Sight.{IsPage}
@@ -20,8 +20,8 @@ use Rattle.cow_split.specs.Exact.{IsExact, all_in_sight}
 use Rattle.cow_split.proofs.ExactLaws.{cases_place}
 use Rattle.cow_fork.specs.Zeroing.{HasZeroed}
 use Rattle.cow_fork.proofs.HolderLaws.{held-shown}
-use Rattle.cow_forest.specs.inside.Looking.{IsNextBelow}
-use Rattle.cow_forest.specs.Ranges.{rows_in, shown_from, IsReady, HasZeroedSome, HasNoFrame}
+use Rattle.cow_forest.specs.inside.Looking.{IsNextRowBelow}
+use Rattle.cow_forest.specs.Ranges.{rows_in, shown_from, IsReadyToZero, HasZeroedSome, HasNoFrame}
 
 -- ---- the rows of a range
 
@@ -60,25 +60,25 @@ some-from None apart = absurd (apart refl)
 some-from (Some a) apart = refl
 
 -- a page that became zero is one less
-shown-less : (old new : Tree) (v a n p : ℕ) → a ≤ p → p < a + n → ((q : ℕ) → q < a + n → q ≢ p → frame_at new v q ≡ frame_at old v q) →
-    frame_at old v p ≢ None → frame_at new v p ≡ None → shown_from new v a n + 1 ≡ shown_from old v a n
+shown-less : (old new : Tree) (v a n p : ℕ) → a ≤ p → p < a + n → ((q : ℕ) → q < a + n → q ≢ p → frame_shown new v q ≡ frame_shown old v q) →
+    frame_shown old v p ≢ None → frame_shown new v p ≡ None → shown_from new v a n + 1 ≡ shown_from old v a n
 unfolding shown_from
 shown-less old new v a n p low less same some none =
-    let before : ℕ → Bool = λ k. is_some (frame_at old v (a + k)) in
-    let after : ℕ → Bool = λ k. is_some (frame_at new v (a + k)) in
+    let before : ℕ → Bool = λ k. is_some (frame_shown old v (a + k)) in
+    let after : ℕ → Bool = λ k. is_some (frame_shown new v (a + k)) in
     let place : a + (p - a) ≡ p = omega arith in
-    let was : before (p - a) ≡ true = ap (λ q. is_some (frame_at old v q)) place ∙ some-from (frame_at old v p) some in
-    let is : after (p - a) ≡ false = ap (λ q. is_some (frame_at new v q)) place ∙ ap is_some none in
+    let was : before (p - a) ≡ true = ap (λ q. is_some (frame_shown old v q)) place ∙ some-from (frame_shown old v p) some in
+    let is : after (p - a) ≡ false = ap (λ q. is_some (frame_shown new v q)) place ∙ ap is_some none in
     let change = count_below_change n (p - a) before after (omega arith) (λ j below apart. ap is_some (same (a + j) (omega arith) (λ e. apart (omega arith)))) in
     omega (arith, change, bit-true (before (p - a)) was, bit-false (after (p - a)) is)
 
 -- a page that shows a frame is counted
-shown-some : (t : Tree) (v first n p : ℕ) → first ≤ p → p < first + n → frame_at t v p ≢ None → 0 < shown_from t v first n
+shown-some : (t : Tree) (v first n p : ℕ) → first ≤ p → p < first + n → frame_shown t v p ≢ None → 0 < shown_from t v first n
 unfolding shown_from
 shown-some t v first n p low less some =
     let place : first + (p - first) ≡ p = omega arith in
-    count_below_hit n (p - first) (λ k. is_some (frame_at t v (first + k))) (omega arith)
-    (ap (λ q. is_some (frame_at t v q)) place ∙ some-from (frame_at t v p) some)
+    count_below_hit n (p - first) (λ k. is_some (frame_shown t v (first + k))) (omega arith)
+    (ap (λ q. is_some (frame_shown t v q)) place ∙ some-from (frame_shown t v p) some)
 
 -- ---- some pages of a range become zero
 
@@ -103,7 +103,7 @@ module _ (arena : Arena) where
   }
 
   -- one page, which showed a frame
-  pub zeroed-one : (old new : Rows Row) (before after : Pool) (v p : ℕ) → IsPage (tree_of arena old) v p → frame_at (tree_of arena old) v p ≢ None →
+  pub zeroed-one : (old new : Rows Row) (before after : Pool) (v p : ℕ) → IsPage (tree_of arena old) v p → frame_shown (tree_of arena old) v p ≢ None →
       HasZeroed arena old new before after v p → HasZeroedSome arena old new before after v p (p + 1)
   zeroed-one old new before after v p here some z = record {
     exact = z.exact;
@@ -111,7 +111,7 @@ module _ (arena : Arena) where
         let place = same.1 in apart (same.0, omega arith, omega arith));
     part = λ w q t page shows. elim (cases_place v p w q) [
       | inl same ↦
-          let none : frame_at (tree_of arena new) w q ≡ None = rw (same.0, same.1) z.zero in
+          let none : frame_shown (tree_of arena new) w q ≡ None = rw (same.0, same.1) z.zero in
           absurd (cc)
       | inr apart ↦ sym (z.others w q page apart) ∙ shows
     ];
@@ -170,13 +170,13 @@ module _ (arena : Arena) where
   zeroed-wider old new before after v a b first end is low high =
       zeroed-then old new new before after after v a b a b first end is (zeroed-none new after v a b is.exact) low high low high
 
-  module _ (old : Rows Row) (before : Pool) (v first end : ℕ) (ready : IsReady arena old before v first end) where
+  module _ (old : Rows Row) (before : Pool) (v first end : ℕ) (ready : IsReadyToZero arena old before v first end) where
     -- the pages of the range are pages of the node
     pub ready-page : (p : ℕ) → p < end → IsPage (tree_of arena old) v p
     ready-page p less = record { node = ready.node; visible = ready.visible; below = omega (arith, less, ready.below) }
 
     -- the rest of the range stays ready
-    pub ready-on : (new : Rows Row) (after : Pool) → HasZeroedSome arena old new before after v first end → IsReady arena new after v first end
+    pub ready-on : (new : Rows Row) (after : Pool) → HasZeroedSome arena old new before after v first end → IsReadyToZero arena new after v first end
     ready-on new after is = record {
       exact = is.exact;
       node = ready.node;
@@ -189,7 +189,7 @@ module _ (arena : Arena) where
     }
 
     -- there is room for a page that shows a frame
-    pub ready-room : (p : ℕ) → first ≤ p → p < end → frame_at (tree_of arena old) v p ≢ None → 1 ≤ old.spare
+    pub ready-room : (p : ℕ) → first ≤ p → p < end → frame_shown (tree_of arena old) v p ≢ None → 1 ≤ old.spare
     ready-room p low less some = omega (arith, shown-some (tree_of arena old) v first (end - first) p low (omega arith) some, ready.room)
 
 -- ---- the rows of one list
@@ -204,7 +204,7 @@ pub record IsSweeping (arena : Arena) (old now : Rows Row) (before after : Pool)
   pub cost : steps + rows_in (slots_of old list) from to ≤ begun + rows_in (slots_of old list) here to
 
 module _ (arena : Arena) (old now : Rows Row) (before after : Pool) (v first end list here to begun steps from : ℕ)
-    (ready : IsReady arena old before v first end) (risen : first ≤ here) (within : (d : ℕ) → here + d < to → first + d < end)
+    (ready : IsReadyToZero arena old before v first end) (risen : first ≤ here) (within : (d : ℕ) → here + d < to → first + d < end)
     (is : IsSweeping arena old now before after v first list here to begun steps from) where
   -- the pages that are passed lie in the range
   sweep-inside : first + (from - here) ≤ end
@@ -219,7 +219,7 @@ module _ (arena : Arena) (old now : Rows Row) (before after : Pool) (v first end
   pub sweep-some : HasZeroedSome arena old now before after v first end
   sweep-some = zeroed-wider arena old now before after v first (first + (from - here)) first end is.some (omega arith) sweep-inside
 
-  now-ready : IsReady arena now after v first end
+  now-ready : IsReadyToZero arena now after v first end
   now-ready = ready-on arena old before v first end ready now after sweep-some
 
   pub sweep-exact : IsExact (tree_of arena now) all_in_sight (is_taken after)
@@ -233,11 +233,11 @@ module _ (arena : Arena) (old now : Rows Row) (before after : Pool) (v first end
     pub sweep-leaf : IsPage (tree_of arena now) v (row - (here - first))
     sweep-leaf = ready-page arena now after v first end now-ready (row - (here - first)) sweep-page.1
 
-    pub sweep-room : frame_at (tree_of arena now) v (row - (here - first)) ≢ None → 1 ≤ now.spare
+    pub sweep-room : frame_shown (tree_of arena now) v (row - (here - first)) ≢ None → 1 ≤ now.spare
     sweep-room = ready-room arena now after v first end now-ready (row - (here - first)) sweep-page.0 sweep-page.1
 
   -- the list has no row any more
-  pub sweep-end : IsNextBelow (slots_of now list) from to None → HasNoFrame (tree_of arena now) v first list here to
+  pub sweep-end : IsNextRowBelow (slots_of now list) from to None → HasNoFrame (tree_of arena now) v first list here to
   sweep-end next d tag shown row less shows at frame = elim (cases_lt (here + d) from) [
     | inl passed ↦ is.passed d tag shown row passed shows at frame
     | inr past ↦ let none = next.free (here + d) past less in absurd (cc)
@@ -245,9 +245,9 @@ module _ (arena : Arena) (old now : Rows Row) (before after : Pool) (v first end
 
   -- the page that comes to the next row is zero now
   pub sweep-on : (own : (node : Node) → nodes_of arena v ≡ Some node → list ≡ node.list.0 → here ≡ first) (row : ℕ) →
-      IsNextBelow (slots_of now list) from to (Some row) → (new : Rows Row) (last : Pool) →
+      IsNextRowBelow (slots_of now list) from to (Some row) → (new : Rows Row) (last : Pool) →
       HasZeroedSome arena now new after last v (row - (here - first)) (row - (here - first) + 1) →
-      frame_at (tree_of arena new) v (row - (here - first)) ≡ None → (taken : ℕ) → taken ≡ steps + 1 →
+      frame_shown (tree_of arena new) v (row - (here - first)) ≡ None → (taken : ℕ) → taken ≡ steps + 1 →
       IsSweeping arena old new before last v first list here to begun taken (row + 1)
   sweep-on own row next new last z none taken taken_is = record {
     order = omega (arith, is.order, found.0);
@@ -264,7 +264,7 @@ module _ (arena : Arena) (old now : Rows Row) (before after : Pool) (v first end
             | inl before ↦ let free = next.free (here + d) past before in let there = had.at in absurd (cc)
             | inr same ↦
                 let place : row - (here - first) ≡ first + d = omega (arith, is.order) in
-                let zero : frame_at (tree_of arena new) v (first + d) ≡ None = subst (λ p. frame_at (tree_of arena new) v p ≡ None) place none in
+                let zero : frame_shown (tree_of arena new) v (first + d) ≡ None = subst (λ p. frame_shown (tree_of arena new) v p ≡ None) place none in
                 absurd (cc)
           ]
         ];
@@ -301,6 +301,6 @@ sweep-start arena old before v first list here to begun exact = record {
 
 -- a page whose holder has a frame shows it
 pub held-some : (t : Tree) (v p : ℕ) (found : Holder) (answer : Option Tag) → found ≡ holder_of (walk t v p) →
-    IfSome answer (λ tag. frame_held found ≡ Some tag.0) → is_some answer ≡ true → frame_at t v p ≢ None
+    IfSome answer (λ tag. frame_held found ≡ Some tag.0) → is_some answer ≡ true → frame_shown t v p ≢ None
 held-some t v p found None is frame some none = absurd (cc)
 held-some t v p found (Some tag) is frame some none = let shown = sym (held-shown t v p found is) ∙ frame in absurd (cc)

@@ -17,7 +17,7 @@ use Rattle.page_list.specs.Lists.{slots_of}
 use Rattle.cow_arena.specs.declared.node.Node.{Node}
 use Rattle.cow_arena.specs.declared.node.NodeId.{NodeId}
 use Rattle.cow_arena.specs.Nodes.{Arena, Nodes, nodes_of, IsVisible}
-use Rattle.cow_arena.specs.Walk.{Tree, frame_at, frame_found}
+use Rattle.cow_arena.specs.Walk.{Tree, frame_shown, frame_found}
 use Rattle.cow_arena.specs.Forest.{IsForest}
 use Rattle.cow_arena.specs.Changes.{window_first, with_window}
 use Rattle.cow_arena.specs.Counts.{hidden_count, visible_count}
@@ -34,7 +34,7 @@ use Rattle.cow_merge.proofs.ShrinkLaws.{tree-now}
 use Rattle.vm_model.proofs.ContentLaws.{same_content}
 use Rattle.vm_model.proofs.CountLaws.{vmos_of-same}
 use Rattle.cow_forest.specs.Tables.{node_in}
-use Rattle.cow_forest.specs.Store.{Forest, tree, content_of, count_from, pages_in, frame_from, page_showing, HasNode, IsNodeOf, IsStore}
+use Rattle.cow_forest.specs.Store.{Forest, tree, forest_content, count_from, pages_in, frame_from, page_showing, HasNode, IsNodeOf, IsStore}
 use Rattle.cow_forest.proofs.ContentLaws.{node-visible, node-of, one-vmo, page-of, pages-of, count-of, frame-past}
 use Rattle.cow_forest.proofs.StoreLaws.{showing-same}
 
@@ -49,9 +49,9 @@ bytes-given before after gives t taken = elim (gives.kept t) [
 
 -- a page that shows the frame that it showed is the same page
 pub showing-given : (t : Tree) (before after : Pool) → IsExact t all_in_sight (is_taken after) → GivesBack before after →
-    (k q : ℕ) (was : Option ℕ) → frame_at t k q ≡ was → page_showing after (frame_at t k q) ≡ page_showing before was
+    (k q : ℕ) (was : Option ℕ) → frame_shown t k q ≡ was → page_showing after (frame_shown t k q) ≡ page_showing before was
 showing-given t before after exact gives k q was same =
-    showing-same before after was (frame_at t k q) same
+    showing-same before after was (frame_shown t k q) same
     (λ u e. bytes-given before after gives u (frame-in_use t all_in_sight (is_taken after) exact k q u (same ∙ e)))
 
 -- ---- a node that grows
@@ -89,7 +89,7 @@ shrunk-grown old new rows pool k count node exact visible more nodes lists hidde
       lists = lists;
       hidden = hidden;
       visible = shown;
-      shows = subst (λ (u : Tree). (w q : ℕ) → IsPage u w q → frame_at u w q ≡ frame_at t w q) (sym now) (λ w q page.
+      shows = subst (λ (u : Tree). (w q : ℕ) → IsPage u w q → frame_shown u w q ≡ frame_shown t w q) (sym now) (λ w q page.
           elim (with_key-cases (nodes_of old) k grown w page.node page.visible.at) [
             | inl here ↦ ap frame_found (walk-grown t k count node visible more g exact.forest w q node (ap (nodes_of old) here.0 ∙ visible.at))
             | inr apart ↦ ap frame_found (walk-grown t k count node visible more g exact.forest w q page.node apart.1)
@@ -187,12 +187,12 @@ module _ (f : Forest) (arena : Arena) (rows : Rows Row) (pool : Pool) (v k count
 
   -- ---- the counts
 
-  count-here : (content_of g).count v ≡ Some count
+  count-here : (forest_content g).count v ≡ Some count
   count-here =
       ap (count_from (nodes_of arena)) (node-of f s v k h)
       ∙ (ap (λ (m : Nodes). pages_in (m k)) nodes-now ∙ ap pages_in (with_key-same (nodes_of f.arena) k node_now))
 
-  count-other : (w : ℕ) → w ≢ v → (content_of g).count w ≡ (content_of f).count w
+  count-other : (w : ℕ) → w ≢ v → (forest_content g).count w ≡ (forest_content f).count w
   count-other w apart = with_node (node_in f.nodes w) refl
     where
       with_node : (o : Option NodeId) → node_in f.nodes w ≡ o → count_from (nodes_of arena) o ≡ count_from (nodes_of f.arena) o
@@ -201,15 +201,15 @@ module _ (f : Forest) (arena : Arena) (rows : Rows Row) (pool : Pool) (v k count
           ap (λ (m : Nodes). pages_in (m at.0)) nodes-now
           ∙ ap pages_in (with_key-other (nodes_of f.arena) k node_now at.0 (λ same. apart (vmo-here w at.0 (s.named w at is) same)))
 
-  counts-now : (w : ℕ) → (content_of g).count w ≡ with_key (content_of f).count v count w
+  counts-now : (w : ℕ) → (forest_content g).count w ≡ with_key (forest_content f).count v count w
   counts-now w = elim (cases_eq w v) [
-    | inl same ↦ ap (content_of g).count same ∙ (count-here ∙ sym (with_key-here (content_of f).count v count w same))
-    | inr apart ↦ count-other w apart ∙ sym (with_key-other (content_of f).count v count w apart)
+    | inl same ↦ ap (forest_content g).count same ∙ (count-here ∙ sym (with_key-here (forest_content f).count v count w same))
+    | inr apart ↦ count-other w apart ∙ sym (with_key-other (forest_content f).count v count w apart)
   ]
 
-  vmo-stays : (w : ℕ) → is_some ((content_of g).count w) ≡ is_some ((content_of f).count w)
+  vmo-stays : (w : ℕ) → is_some ((forest_content g).count w) ≡ is_some ((forest_content f).count w)
   vmo-stays w = elim (cases_eq w v) [
-    | inl same ↦ ap (λ u. is_some ((content_of g).count u)) same ∙ (ap is_some count-here ∙ sym (ap (λ u. is_some ((content_of f).count u)) same ∙ ap is_some (count-of f s v k h)))
+    | inl same ↦ ap (λ u. is_some ((forest_content g).count u)) same ∙ (ap is_some count-here ∙ sym (ap (λ u. is_some ((forest_content f).count u)) same ∙ ap is_some (count-of f s v k h)))
     | inr apart ↦ ap is_some (count-other w apart)
   ]
 
@@ -228,23 +228,23 @@ module _ (f : Forest) (arena : Arena) (rows : Rows Row) (pool : Pool) (v k count
     koids = λ w j node is. s.koids w j (node-was j node is.at).before (named-was w j node is);
     first_koid = s.first_koid;
     lists = subst (λ n. n + 2 ≤ 2 * f.next) (sym c.lists) s.lists;
-    vmos = s.vmos ∙ sym (vmos_of-same (content_of f) (content_of g) refl vmo-stays);
+    vmos = s.vmos ∙ sym (vmos_of-same (forest_content f) (forest_content g) refl vmo-stays);
     visible = c.visible ∙ s.visible;
   }
 
   -- ---- the pages
 
-  pages-now : count ≤ VMO_PAGES → (w q : ℕ) → (content_of g).page w q ≡ (zeroed (content_of f) v count (pages_of (content_of f) v)).page w q
+  pages-now : count ≤ VMO_PAGES → (w q : ℕ) → (forest_content g).page w q ≡ (zeroed (forest_content f) v count (pages_of (forest_content f) v)).page w q
   pages-now few w q = with_node (node_in f.nodes w) refl
     where
       -- where the page is none of those that leave, it is what it was
-      left : ((w ≡ v → (q < count) ⊎ (h.node.count ≤ q))) → (content_of f).page w q ≡ (zeroed (content_of f) v count (pages_of (content_of f) v)).page w q
-      left out = sym (page-zeroed_out (content_of f) v count (pages_of (content_of f) v) w q
+      left : ((w ≡ v → (q < count) ⊎ (h.node.count ≤ q))) → (forest_content f).page w q ≡ (zeroed (forest_content f) v count (pages_of (forest_content f) v)).page w q
+      left out = sym (page-zeroed_out (forest_content f) v count (pages_of (forest_content f) v) w q
           (λ same. subst (λ n. (q < count) ⊎ (n ≤ q)) (sym (pages-of f s v k h)) (out same)))
 
       -- a page past the node's count is zero
       past-count : (j : ℕ) (its : HasNode f w j) (now : NodeNow f g v h.node.count count w j its) → now.now.node.count ≤ q →
-          page_showing pool (frame_at (tree g) j q) ≡ (zeroed (content_of f) v count (pages_of (content_of f) v)).page w q
+          page_showing pool (frame_shown (tree g) j q) ≡ (zeroed (forest_content f) v count (pages_of (forest_content f) v)).page w q
       past-count j its now past =
           let none = ap (page_showing pool) (frame-past g (store-resized few) j q now.now.node (node-visible g (store-resized few) w j now.now) past) in
           let was = λ (old_past : its.node.count ≤ q). sym (page-of f s w j q its ∙ ap (page_showing f.pool) (frame-past f s j q its.node (node-visible f s w j its) old_past)) in
@@ -252,14 +252,14 @@ module _ (f : Forest) (arena : Arena) (rows : Rows Row) (pool : Pool) (v k count
             | inr other ↦ none ∙ (was (omega arith) ∙ left (λ same. absurd (other.0 same)))
             | inl new ↦ elim (cases_lt q h.node.count) [
               | inl less ↦
-                  none ∙ sym (page-zeroed_in (content_of f) v count (pages_of (content_of f) v) w q new.0 (omega arith) (omega (arith, pages-of f s v k h)))
+                  none ∙ sym (page-zeroed_in (forest_content f) v count (pages_of (forest_content f) v) w q new.0 (omega arith) (omega (arith, pages-of f s v k h)))
               | inr beyond ↦
                   none ∙ (was (omega arith) ∙ left (λ _. inr beyond))
             ]
           ]
 
       with_node : (o : Option NodeId) → node_in f.nodes w ≡ o →
-          page_showing pool (frame_from (tree g) o q) ≡ (zeroed (content_of f) v count (pages_of (content_of f) v)).page w q
+          page_showing pool (frame_from (tree g) o q) ≡ (zeroed (forest_content f) v count (pages_of (forest_content f) v)).page w q
       with_node None is =
           ap (λ o. page_showing f.pool (frame_from (tree f) o q)) (sym is)
           ∙ left (λ same. absurd (let there = node-of f s v k h in let none = ap (node_in f.nodes) (sym same) ∙ is in cc))
@@ -271,11 +271,11 @@ module _ (f : Forest) (arena : Arena) (rows : Rows Row) (pool : Pool) (v k count
             | inl less ↦
                 let page : IsPage (tree g) at.0 q =
                 record { node = now.now.node; visible = node-visible g (store-resized few) w at.0 now.now; below = less } in
-                showing-given (tree g) f.pool pool c.exact c.pool at.0 q (frame_at (tree f) at.0 q) (c.shows at.0 q page)
+                showing-given (tree g) f.pool pool c.exact c.pool at.0 q (frame_shown (tree f) at.0 q) (c.shows at.0 q page)
                 ∙ (sym (page-of f s w at.0 q its)
                 ∙ left (λ same. elim (now.which) [ inl new ↦ inl (omega arith) | inr other ↦ absurd (other.0 same) ]))
           ]
 
-  pub content-resized : count ≤ VMO_PAGES → content_of (with_tree f arena rows pool) ≡ resized (content_of f) v count
+  pub content-resized : count ≤ VMO_PAGES → forest_content (with_tree f arena rows pool) ≡ resized (forest_content f) v count
   unfolding resized zeroed with_key
   content-resized few = same_content _ _ c.pool.frames refl counts-now (pages-now few)

@@ -8,9 +8,9 @@ use Rattle.page_list.specs.declared.row.Row.{Row}
 use Rattle.page_list.specs.Lists.{slots_of}
 use Rattle.cow_arena.specs.declared.node.Node.{Node}
 use Rattle.cow_arena.specs.declared.node.NodeId.{NodeId}
-use Rattle.cow_arena.specs.Nodes.{Arena, Nodes, nodes_of, link_to, IsVisible, parent_in, side_in}
-use Rattle.cow_arena.specs.Walk.{Tree, walk, frame_at, frame_found}
-use Rattle.cow_arena.specs.Forest.{IsForest, IsBelow}
+use Rattle.cow_arena.specs.Nodes.{Arena, Nodes, nodes_of, link_to, IsVisible, parent_node_in, side_in}
+use Rattle.cow_arena.specs.Walk.{Tree, walk, frame_shown, frame_found}
+use Rattle.cow_arena.specs.Forest.{IsForest, HasAsChild}
 use Rattle.cow_arena.proofs.WalkLaws.{walk-own, walk-past, walk-up}
 use Rattle.cow_arena.proofs.ReachLaws.{walk-ends, hidden-apart}
 use Rattle.cow_split.specs.Trees.{tree_of}
@@ -19,7 +19,7 @@ use Rattle.cow_split.specs.Sight.{IsPage}
 use Rattle.cow_split.proofs.RowLaws.{frame-shown}
 use Rattle.cow_split.proofs.CostLaws.{parent-there}
 use Rattle.cow_merge.proofs.PassingLaws.{frame-from, up-less}
-use Rattle.cow_forest.specs.Ranges.{rows_in, rows_over, rows_up, rows_reached, IsReady, HasZeroedSome, AreZero, HasNoFrame}
+use Rattle.cow_forest.specs.Ranges.{rows_in, rows_over, rows_up, rows_reached, IsReadyToZero, HasZeroedSome, AreZero, HasNoFrame}
 use Rattle.cow_forest.proofs.LookLaws.{none-from}
 use Rattle.cow_forest.proofs.RangeLaws.{rows-less, page-on, zeroed-none, zeroed-then, ready-page, ready-on}
 
@@ -32,7 +32,7 @@ rows-node t n k from end node at = ap (rows_over t.slots (rows_up t n) from end)
 
 nodes-node : (nodes : Nodes) (n k : ℕ) (node : Node) → nodes k ≡ Some node → nodes_up nodes (suc n) (link_to k) ≡ suc (nodes_up nodes n node.parent)
 unfolding nodes_up
-nodes-node nodes n k node at = ap (λ (o : Option Node). suc (nodes_up nodes n (parent_in o))) at
+nodes-node nodes n k node at = ap (λ (o : Option Node). suc (nodes_up nodes n (parent_node_in o))) at
 
 -- The range has come up to page `here` of this node, and its pages show there what they show, as far as they are below `to`. The
 -- further ones are zero. Before the rows of the node are taken, at most the steps are made that the rows and the nodes below it stand for.
@@ -42,8 +42,8 @@ pub record IsRising (arena : Arena) (old now : Rows Row) (before after : Pool) (
   pub there : nodes_of arena h ≡ Some at
   pub risen : first ≤ here
   pub within : (d : ℕ) → here + d < to → first + d < end
-  pub same : (d t : ℕ) → here + d < to → frame_at (tree_of arena now) v (first + d) ≡ Some t → frame_at (tree_of arena old) h (here + d) ≡ Some t
-  pub rest : (d : ℕ) → to ≤ here + d → first + d < end → frame_at (tree_of arena now) v (first + d) ≡ None
+  pub same : (d t : ℕ) → here + d < to → frame_shown (tree_of arena now) v (first + d) ≡ Some t → frame_shown (tree_of arena old) h (here + d) ≡ Some t
+  pub rest : (d : ℕ) → to ≤ here + d → first + d < end → frame_shown (tree_of arena now) v (first + d) ≡ None
   -- the node has no row that it didn't have, and is the VMO's own at the start alone
   pub fresh : (q : ℕ) → here ≤ q → IsSome (slots_of now at.list.0 q) → IsSome (slots_of old at.list.0 q)
   pub own : (node : Node) → nodes_of arena v ≡ Some node → at.list.0 ≡ node.list.0 → here ≡ first
@@ -53,7 +53,7 @@ pub record IsRising (arena : Arena) (old now : Rows Row) (before after : Pool) (
   pub cost : steps + rows_up (tree_of arena old) fuel (link_to h) here to + nodes_up (nodes_of arena) fuel (link_to h)
       ≤ begun + rows_reached (tree_of arena old) v first end + depth (nodes_of arena) arena.lists v
 
-module _ (arena : Arena) (old : Rows Row) (before : Pool) (v first end begun : ℕ) (ready : IsReady arena old before v first end) where
+module _ (arena : Arena) (old : Rows Row) (before : Pool) (v first end begun : ℕ) (ready : IsReadyToZero arena old before v first end) where
   -- it begins at the VMO's node
   pub rise-start : (node : Node) → nodes_of arena v ≡ Some node → IsRising arena old old before before v first end begun begun node first end
   rise-start node at = record {
@@ -73,7 +73,7 @@ module _ (arena : Arena) (old : Rows Row) (before : Pool) (v first end begun : �
   }
 
   module _ (now : Rows Row) (after : Pool) (steps : ℕ) (at : Node) (here to : ℕ) (is : IsRising arena old now before after v first end begun steps at here to) where
-    pub rise-ready : IsReady arena now after v first end
+    pub rise-ready : IsReadyToZero arena now after v first end
     rise-ready = ready-on arena old before v first end ready now after is.some
 
     -- the rows of the node are passed: what is still shown comes to none of them
@@ -86,11 +86,11 @@ module _ (arena : Arena) (old : Rows Row) (before : Pool) (v first end begun : �
       page d less rows = page-on arena old rows v (first + d) (ready-page arena old before v first end ready (first + d) less)
 
       -- a page that is shown still was shown when the range came to the node
-      still : (d t : ℕ) → first + d < end → frame_at (tree_of arena new) v (first + d) ≡ Some t → frame_at (tree_of arena now) v (first + d) ≡ Some t
+      still : (d t : ℕ) → first + d < end → frame_shown (tree_of arena new) v (first + d) ≡ Some t → frame_shown (tree_of arena now) v (first + d) ≡ Some t
       still d t less shows = z.part v (first + d) t (page d less now) shows
 
       -- the row that it had at the node would be there still, with its frame
-      bare : (d t : ℕ) → here + d < to → frame_at (tree_of arena new) v (first + d) ≡ Some t → slots_of old at.list.0 (here + d) ≡ None
+      bare : (d t : ℕ) → here + d < to → frame_shown (tree_of arena new) v (first + d) ≡ Some t → slots_of old at.list.0 (here + d) ≡ None
       bare d t less shows = none-from (slots_of old at.list.0 (here + d)) (λ row own.
           let tree = tree_of arena old in
           let inside = is.within d less in
@@ -102,8 +102,8 @@ module _ (arena : Arena) (old : Rows Row) (before : Pool) (v first end begun : �
           passed d t t shown.it.slot less shows (sym (ap (λ l. slots_of new l (here + d)) place.0) ∙ (sym (ap (slots_of new ends.node.list.0) place.1) ∙ ends.row)) shown.frame)
 
       -- a page that does not go on is zero
-      outside : (stop : ℕ) → stop ≡ min to at.seen → (d : ℕ) → stop ≤ here + d → first + d < end → frame_at (tree_of arena new) v (first + d) ≡ None
-      outside stop stop_is d past less = none-from (frame_at (tree_of arena new) v (first + d)) (λ t shows. elim (cases_lt (here + d) to) [
+      outside : (stop : ℕ) → stop ≡ min to at.seen → (d : ℕ) → stop ≤ here + d → first + d < end → frame_shown (tree_of arena new) v (first + d) ≡ None
+      outside stop stop_is d past less = none-from (frame_shown (tree_of arena new) v (first + d)) (λ t shows. elim (cases_lt (here + d) to) [
         | inr further ↦ let none = is.rest d further less in let some = still d t less shows in absurd (cc)
         | inl near ↦
             let free = bare d t near shows in
@@ -116,7 +116,7 @@ module _ (arena : Arena) (old : Rows Row) (before : Pool) (v first end begun : �
       pub rise-zero : (stop : ℕ) → stop ≡ min to at.seen → stop ≤ here → AreZero (tree_of arena new) v first end
       rise-zero stop stop_is none p low less =
           let place : first + (p - first) ≡ p = omega arith in
-          subst (λ q. frame_at (tree_of arena new) v q ≡ None) place (outside stop stop_is (p - first) (omega arith) (omega arith))
+          subst (λ q. frame_shown (tree_of arena new) v q ≡ None) place (outside stop stop_is (p - first) (omega arith) (omega arith))
 
       -- that is so at a root
       pub rise-root : at.parent ≡ None → AreZero (tree_of arena new) v first end
@@ -158,7 +158,7 @@ module _ (arena : Arena) (old : Rows Row) (before : Pool) (v first end begun : �
               let on = walk-up (tree_of arena old) is.forest is.h (here + d) parent.0 at is.there (bare d t near shows) (omega arith) parent_is in
               let place : at.first + (here + d) ≡ (here + at.first) + d = omega arith in
               sym (ap frame_found on ∙ (frame-from (side_in (nodes_of arena) is.h) (walk (tree_of arena old) parent.0 (at.first + (here + d)))
-              ∙ ap (frame_at (tree_of arena old) parent.0) place)) ∙ is.same d t near (still d t inside shows);
+              ∙ ap (frame_shown (tree_of arena old) parent.0) place)) ∙ is.same d t near (still d t inside shows);
           rest = λ d past less. outside stop stop_is d (omega arith) less;
           fresh = λ q low some. elim (all.places ready.node ready.visible.at up.list.0 q some) [
             | inl was ↦ was
@@ -179,7 +179,7 @@ module _ (arena : Arena) (old : Rows Row) (before : Pool) (v first end begun : �
             fuel : (m : ℕ) × (is.fuel ≡ suc m)
             fuel = some-fuel is.fuel is.enough
 
-            below : IsBelow (nodes_of arena) is.forest.rank parent.0 is.h at
+            below : HasAsChild (nodes_of arena) is.forest.rank parent.0 is.h at
             below = is.forest.by.below parent.0 is.h at is.there parent_is
 
             -- the parent is hidden, so that its list is not the VMO's

@@ -18,7 +18,7 @@ use Rattle.cow_arena.specs.declared.node.Pair.{Pair}
 use Rattle.cow_arena.specs.Nodes.{Arena, Nodes, nodes_of, link_to}
 use Rattle.cow_arena.specs.Changes.{paired, snapshot_node}
 use Rattle.cow_arena.specs.Forest.{IsForest}
-use Rattle.cow_arena.specs.Walk.{Slots, frame_at}
+use Rattle.cow_arena.specs.Walk.{Slots, frame_shown}
 use Rattle.cow_arena.proofs.AlikeLaws.{some-alike, frames-back}
 use Rattle.cow_arena.proofs.PairWalkLaws.{hidden-at}
 use Rattle.cow_split.specs.Trees.{tree_of}
@@ -27,7 +27,7 @@ use Rattle.cow_fork.specs.Snapshots.{split_slots}
 use Rattle.cow_fork.proofs.SnapshotLaws.{Origin, from_hidden, from_leaf, from_child, from_other, origin-of, split-frames}
 use Rattle.cow_merge.specs.Ranges.{AreLinked}
 use Rattle.cow_forest.specs.Tables.{NodeEntries, node_in}
-use Rattle.cow_forest.specs.Store.{Forest, tree, content_of, page_showing, HasNode, IsStore}
+use Rattle.cow_forest.specs.Store.{Forest, tree, forest_content, page_showing, HasNode, IsStore}
 use Rattle.cow_forest.proofs.ContentLaws.{node-visible, page-of}
 use Rattle.cow_forest.proofs.EnterLaws.{with_vmo, HasNewVmo, store-new, content-new}
 
@@ -162,15 +162,15 @@ module _ (f : Forest) (s : IsStore f) (arena : Arena) (rows : Rows Row) (nodes o
   store-shared = store-new f s arena rows nodes owners pair.child.0 _ new-pair
 
   -- the snapshot shows what the VMO shows from the first page on
-  child-page : (p : ℕ) → page_seen (content_of f) v first seen p ≡ page_showing f.pool (frame_at (tree_of arena rows) pair.child.0 p)
+  child-page : (p : ℕ) → page_seen (forest_content f) v first seen p ≡ page_showing f.pool (frame_shown (tree_of arena rows) pair.child.0 p)
   unfolding page_seen
   child-page p = elim (cases_lt p seen) [
     | inl less ↦ cond-true _ _ _ (lt-ltb p seen less) ∙ (page-of f s v k (first + p) h ∙ sym (ap (page_showing f.pool) (has.shared.child p less)))
     | inr past ↦ cond-false _ _ _ (le-ltb p seen past) ∙ sym (ap (page_showing f.pool) (has.shared.child_past p past))
   ]
 
-  pub content-shared : content_of (with_vmo f arena rows nodes owners) ≡ snapshotted (content_of f) v first seen count
+  pub content-shared : forest_content (with_vmo f arena rows nodes owners) ≡ snapshotted (forest_content f) v first seen count
   unfolding snapshotted with_key
-  content-shared = content-new f s arena rows nodes owners pair.child.0 _ new-pair (snapshotted (content_of f) v first seen count) refl refl (λ w. refl)
+  content-shared = content-new f s arena rows nodes owners pair.child.0 _ new-pair (snapshotted (forest_content f) v first seen count) refl refl (λ w. refl)
       (λ p. cond-true (f.next == f.next) _ _ (eqb_same f.next) ∙ child-page p)
       (λ w p apart. cond-false (w == f.next) _ _ (eqb_apart w f.next apart))

@@ -9,14 +9,14 @@ use Rattle.vm_model.proofs.ZeroingLaws.{page-zeroed_in, page-zeroed_out}
 use Rattle.frame_pool.specs.Pool.{Pool, frame_bytes, is_taken}
 use Rattle.page_list.specs.declared.row.Row.{Row}
 use Rattle.cow_arena.specs.declared.node.NodeId.{NodeId}
-use Rattle.cow_arena.specs.Walk.{frame_at}
+use Rattle.cow_arena.specs.Walk.{frame_shown}
 use Rattle.cow_split.specs.Trees.{tree_of}
 use Rattle.cow_split.specs.Sight.{IsPage, OthersShowSame}
 use Rattle.cow_split.specs.Exact.{IsExact, all_in_sight}
 use Rattle.cow_merge.specs.Ranges.{AreLinked}
 use Rattle.vm_model.proofs.CountLaws.{vmos_of-same}
 use Rattle.cow_forest.specs.Tables.{node_in}
-use Rattle.cow_forest.specs.Store.{Forest, tree, content_of, frame_from, page_with, page_showing, HasNode, IsStore}
+use Rattle.cow_forest.specs.Store.{Forest, tree, forest_content, frame_from, page_with_frame, page_showing, HasNode, IsStore}
 use Rattle.cow_forest.proofs.ContentLaws.{node-visible, one-vmo, page-of, frame-past}
 
 -- the forest with these rows and frames
@@ -39,7 +39,7 @@ store-kept f rows pool s exact linked = record {
   koids = s.koids;
   first_koid = s.first_koid;
   lists = s.lists;
-  vmos = s.vmos ∙ sym (vmos_of-same (content_of f) (content_of (with_rows f rows pool)) refl (λ v. refl));
+  vmos = s.vmos ∙ sym (vmos_of-same (forest_content f) (forest_content (with_rows f rows pool)) refl (λ v. refl));
   visible = s.visible;
 }
 
@@ -50,7 +50,7 @@ pub record IsChangedAt (f : Forest) (rows : Rows Row) (pool : Pool) (k p : ℕ) 
   pub linked : AreLinked rows pool
   pub frames : pool.frames ≡ f.pool.frames
   pub others : OthersShowSame (tree f) (tree_of f.arena rows) k p
-  pub bytes : (w q t : ℕ) → IsPage (tree f) w q → ((w ≡ k) × (q ≡ p) → ⊥) → frame_at (tree f) w q ≡ Some t → frame_bytes pool t ≡ frame_bytes f.pool t
+  pub bytes : (w q t : ℕ) → IsPage (tree f) w q → ((w ≡ k) × (q ≡ p) → ⊥) → frame_shown (tree f) w q ≡ Some t → frame_bytes pool t ≡ frame_bytes f.pool t
 
 -- a frame with the same bytes is the same page
 pub showing-same : (old new : Pool) (before after : Option ℕ) → after ≡ before → ((t : ℕ) → before ≡ Some t → frame_bytes new t ≡ frame_bytes old t) →
@@ -60,11 +60,11 @@ showing-same old new (Some t) after same bytes = ap (page_showing new) same ∙ 
 
 -- page q of node k shows the frame that it showed, with the bytes that it had
 pub record ShowsAlike (f : Forest) (rows : Rows Row) (pool : Pool) (k q : ℕ) : Type 0 where
-  pub frame : frame_at (tree_of f.arena rows) k q ≡ frame_at (tree f) k q
-  pub bytes : (t : ℕ) → frame_at (tree f) k q ≡ Some t → frame_bytes pool t ≡ frame_bytes f.pool t
+  pub frame : frame_shown (tree_of f.arena rows) k q ≡ frame_shown (tree f) k q
+  pub bytes : (t : ℕ) → frame_shown (tree f) k q ≡ Some t → frame_bytes pool t ≡ frame_bytes f.pool t
 
 pub page-same : (f : Forest) (rows : Rows Row) (pool : Pool) → IsStore f → IsStore (with_rows f rows pool) → (w q : ℕ) →
-    ((k : ℕ) → HasNode f w k → IsPage (tree f) k q → ShowsAlike f rows pool k q) → (content_of (with_rows f rows pool)).page w q ≡ (content_of f).page w q
+    ((k : ℕ) → HasNode f w k → IsPage (tree f) k q → ShowsAlike f rows pool k q) → (forest_content (with_rows f rows pool)).page w q ≡ (forest_content f).page w q
 page-same f rows pool s now w q alike = with_node (node_in f.nodes w) refl
   where
     with_node : (o : Option NodeId) → node_in f.nodes w ≡ o →
@@ -76,7 +76,7 @@ page-same f rows pool s now w q alike = with_node (node_in f.nodes w) refl
         elim (cases_lt q its.node.count) [
           | inl less ↦
               let same = alike at.0 its (record { node = its.node; visible = visible; below = less }) in
-              showing-same f.pool pool (frame_at (tree f) at.0 q) (frame_at (tree_of f.arena rows) at.0 q) same.frame same.bytes
+              showing-same f.pool pool (frame_shown (tree f) at.0 q) (frame_shown (tree_of f.arena rows) at.0 q) same.frame same.bytes
           | inr past ↦
               ap (page_showing pool) (frame-past (with_rows f rows pool) now at.0 q its.node visible past)
               ∙ sym (ap (page_showing f.pool) (frame-past f s at.0 q its.node visible past))
@@ -90,56 +90,56 @@ module _ (f : Forest) (rows : Rows Row) (pool : Pool) (v k p : ℕ) (s : IsStore
   store-now = store-kept f rows pool s c.exact c.linked
 
   -- the other pages are as they were
-  other-pages : (w q : ℕ) → ((w ≡ v) × (q ≡ p) → ⊥) → (content_of (with_rows f rows pool)).page w q ≡ (content_of f).page w q
+  other-pages : (w q : ℕ) → ((w ≡ v) × (q ≡ p) → ⊥) → (forest_content (with_rows f rows pool)).page w q ≡ (forest_content f).page w q
   other-pages w q apart = page-same f rows pool s store-now w q (λ j its page.
       let away : (j ≡ k) × (q ≡ p) → ⊥ = λ here. apart (one-vmo f s w v k (subst (HasNode f w) here.0 its) h, here.1) in
       record { frame = c.others j q page away; bytes = λ t e. c.bytes j q t page away e })
 
-  page-now : (content_of (with_rows f rows pool)).page v p ≡ page_showing pool (frame_at (tree_of f.arena rows) k p)
+  page-now : (forest_content (with_rows f rows pool)).page v p ≡ page_showing pool (frame_shown (tree_of f.arena rows) k p)
   page-now = page-of (with_rows f rows pool) store-now v k p (node-kept f rows pool v k h)
 
   -- so the content is any that differs from the old one in this page alone
-  content-is : (d : Content) → d.frames ≡ f.pool.frames → d.next ≡ f.next → ((w : ℕ) → d.count w ≡ (content_of f).count w) →
-      d.page v p ≡ page_showing pool (frame_at (tree_of f.arena rows) k p) → ((w q : ℕ) → (w ≡ v → q ≡ p → ⊥) → d.page w q ≡ (content_of f).page w q) →
-      content_of (with_rows f rows pool) ≡ d
+  content-is : (d : Content) → d.frames ≡ f.pool.frames → d.next ≡ f.next → ((w : ℕ) → d.count w ≡ (forest_content f).count w) →
+      d.page v p ≡ page_showing pool (frame_shown (tree_of f.arena rows) k p) → ((w q : ℕ) → (w ≡ v → q ≡ p → ⊥) → d.page w q ≡ (forest_content f).page w q) →
+      forest_content (with_rows f rows pool) ≡ d
   content-is d frames next count here elsewhere =
       same_content _ _ (c.frames ∙ sym frames) (sym next) (λ w. sym (count w)) (λ w q. elim (same_page v p w q) [
         | inl place ↦
-            page-moved (content_of (with_rows f rows pool)) v p w q place.0 place.1
+            page-moved (forest_content (with_rows f rows pool)) v p w q place.0 place.1
             ∙ (page-now ∙ (sym here ∙ sym (page-moved d v p w q place.0 place.1)))
         | inr apart ↦ other-pages w q (λ place. apart place.0 place.1) ∙ sym (elsewhere w q apart)
       ])
 
   -- the page shows this frame now
-  pub content-held : (t : ℕ) → frame_at (tree_of f.arena rows) k p ≡ Some t → content_of (with_rows f rows pool) ≡ hold (content_of f) v p (page_with pool t)
+  pub content-held : (t : ℕ) → frame_shown (tree_of f.arena rows) k p ≡ Some t → forest_content (with_rows f rows pool) ≡ hold (forest_content f) v p (page_with_frame pool t)
   unfolding hold
-  content-held t shown = content-is (hold (content_of f) v p (page_with pool t)) refl refl (λ w. refl)
-      (page-hold_here (content_of f) v p (page_with pool t) ∙ sym (ap (page_showing pool) shown)) (page-hold_other (content_of f) v p (page_with pool t))
+  content-held t shown = content-is (hold (forest_content f) v p (page_with_frame pool t)) refl refl (λ w. refl)
+      (page-hold_here (forest_content f) v p (page_with_frame pool t) ∙ sym (ap (page_showing pool) shown)) (page-hold_other (forest_content f) v p (page_with_frame pool t))
 
   -- the page is zero now
-  pub content-zeroed : frame_at (tree_of f.arena rows) k p ≡ None → content_of (with_rows f rows pool) ≡ zeroed (content_of f) v p (p + 1)
+  pub content-zeroed : frame_shown (tree_of f.arena rows) k p ≡ None → forest_content (with_rows f rows pool) ≡ zeroed (forest_content f) v p (p + 1)
   unfolding zeroed
-  content-zeroed zero = content-is (zeroed (content_of f) v p (p + 1)) refl refl (λ w. refl)
-      (page-zeroed_in (content_of f) v p (p + 1) v p refl (omega arith) (omega arith) ∙ sym (ap (page_showing pool) zero))
-      (λ w q apart. page-zeroed_out (content_of f) v p (p + 1) w q (λ same. elim (cases_lt q p) [
+  content-zeroed zero = content-is (zeroed (forest_content f) v p (p + 1)) refl refl (λ w. refl)
+      (page-zeroed_in (forest_content f) v p (p + 1) v p refl (omega arith) (omega arith) ∙ sym (ap (page_showing pool) zero))
+      (λ w q apart. page-zeroed_out (forest_content f) v p (p + 1) w q (λ same. elim (cases_lt q p) [
         | inl before ↦ inl before
         | inr past ↦ let away : q ≢ p = apart same in inr (omega arith)
       ]))
 
   -- the page shows what it showed
-  pub content-same : frame_at (tree_of f.arena rows) k p ≡ frame_at (tree f) k p →
-      ((t : ℕ) → frame_at (tree f) k p ≡ Some t → frame_bytes pool t ≡ frame_bytes f.pool t) → content_of (with_rows f rows pool) ≡ content_of f
-  content-same shown bytes = content-is (content_of f) refl refl (λ w. refl)
-      (page-of f s v k p h ∙ sym (showing-same f.pool pool (frame_at (tree f) k p) (frame_at (tree_of f.arena rows) k p) shown bytes)) (λ w q apart. refl)
+  pub content-same : frame_shown (tree_of f.arena rows) k p ≡ frame_shown (tree f) k p →
+      ((t : ℕ) → frame_shown (tree f) k p ≡ Some t → frame_bytes pool t ≡ frame_bytes f.pool t) → forest_content (with_rows f rows pool) ≡ forest_content f
+  content-same shown bytes = content-is (forest_content f) refl refl (λ w. refl)
+      (page-of f s v k p h ∙ sym (showing-same f.pool pool (frame_shown (tree f) k p) (frame_shown (tree_of f.arena rows) k p) shown bytes)) (λ w q apart. refl)
 
 -- Each page shows the frame that it showed, with the bytes that it had.
 pub record IsUnchanged (f : Forest) (rows : Rows Row) (pool : Pool) : Type 0 where
   pub exact : IsExact (tree_of f.arena rows) all_in_sight (is_taken pool)
   pub linked : AreLinked rows pool
   pub frames : pool.frames ≡ f.pool.frames
-  pub shows : (w q : ℕ) → IsPage (tree f) w q → frame_at (tree_of f.arena rows) w q ≡ frame_at (tree f) w q
-  pub bytes : (w q t : ℕ) → IsPage (tree f) w q → frame_at (tree f) w q ≡ Some t → frame_bytes pool t ≡ frame_bytes f.pool t
+  pub shows : (w q : ℕ) → IsPage (tree f) w q → frame_shown (tree_of f.arena rows) w q ≡ frame_shown (tree f) w q
+  pub bytes : (w q t : ℕ) → IsPage (tree f) w q → frame_shown (tree f) w q ≡ Some t → frame_bytes pool t ≡ frame_bytes f.pool t
 
-pub content-unchanged : (f : Forest) (rows : Rows Row) (pool : Pool) → IsStore f → IsUnchanged f rows pool → content_of (with_rows f rows pool) ≡ content_of f
+pub content-unchanged : (f : Forest) (rows : Rows Row) (pool : Pool) → IsStore f → IsUnchanged f rows pool → forest_content (with_rows f rows pool) ≡ forest_content f
 content-unchanged f rows pool s c = same_content _ _ c.frames refl (λ w. refl) (λ w q.
     page-same f rows pool s (store-kept f rows pool s c.exact c.linked) w q (λ k its page. record { frame = c.shows k q page; bytes = λ t e. c.bytes k q t page e }))

@@ -3,14 +3,13 @@
 use Rattle.std.proofs.Common.{◌≡◌, ℕ, ◌+◌, ◌<◌, ◌≤◌, Bool, true, false, List, [], ◌∷◌, ◌++◌, length, Option, None, Some, refl, sym, ap, subst, ◌∙◌, inl, inr, arith}
 use Rattle.std.specs.Prelude.{eqb, nat_lt, is_some, IsSome, IsSomeAnd, IfSome, IfNone, MatchOption, if◌then◌else◌}
 use Rattle.std.specs.List.{Contains, IsDistinct}
-use Rattle.std.proofs.lemmas.Bool.{cases_Bool, false_from_ne_true}
+use Rattle.std.proofs.lemmas.Bool.{cases_Bool, eqb-true, false_from_ne_true}
 use Rattle.std.proofs.lemmas.Bool.Decides.{nat_tests}
 use Rattle.std.proofs.lemmas.Grind.{common_steps}
 use Rattle.std.proofs.lemmas.List.{append-nil, length-append}
 use Rattle.std.proofs.lemmas.List.Elements.{Contains-append_left, Contains-append_right, Contains-append_cases}
 use Rattle.std.proofs.lemmas.Map.Steps.{length-le_from_distinct_below}
 use Rattle.std.proofs.lemmas.Map.Views.{Contains-from_any}
-use Rattle.std.proofs.lemmas.Bool.{eqb-true}
 use Rattle.vm_base.specs.declared.names.Koid.{Koid}
 use Rattle.vm_base.proofs.EntryLaws.{some_same}
 use Rattle.vm_model.specs.Contents.Content.{Page, views}
@@ -24,7 +23,7 @@ use Rattle.cow_arena.specs.declared.node.NodeId.{NodeId}
 use Rattle.cow_arena.specs.declared.node.Side.{Side}
 use Rattle.cow_arena.specs.declared.node.Side.TheVariants as side
 use Rattle.cow_arena.specs.Nodes.{Nodes, nodes_of, link_to, other_side, IsVisible}
-use Rattle.cow_arena.specs.Walk.{Tree, Found, walk, frame_at, frame_in, frame_found}
+use Rattle.cow_arena.specs.Walk.{Tree, Found, walk, frame_shown, frame_in, frame_found}
 use Rattle.cow_arena.proofs.WalkLaws.{link_same, walk-own}
 use Rattle.cow_arena.proofs.ReachLaws.{walk-ends, reach-hidden, hidden-apart}
 use Rattle.cow_split.specs.declared.answers.Holder.TheVariants as holder
@@ -41,7 +40,7 @@ use Rattle.cow_split.proofs.ViewersLaws.{distinct-append, distinct-one, viewer-v
 use Rattle.cow_fork.proofs.HolderLaws.{held-shown}
 use Rattle.cow_forest.specs.inside.Viewing.{ShowsFrame, AreViewers, IsViewerCount, IsLeastKoidOf, HasLesserOf, HasFrameRow}
 use Rattle.cow_forest.specs.Tables.{node_in}
-use Rattle.cow_forest.specs.Store.{Forest, tree, content_of, page_showing, HasNode, IsStore}
+use Rattle.cow_forest.specs.Store.{Forest, tree, forest_content, page_showing, HasNode, IsStore}
 use Rattle.cow_forest.proofs.ContentLaws.{ShownBy, frame-showing, page-of, one-node, vmo-shows, shown-views, views-shown, vmo-below}
 use Rattle.cow_forest.proofs.CountLaws.{AreNumbered, count_below_numbered}
 
@@ -227,7 +226,7 @@ module _ (t : Tree) (exact : (in_use : ℕ → Bool) × IsExact t all_in_sight i
         (walk-ends t exact.1.forest k p it (found-above (walk t k p) h q from row held)).way in
         subst (λ o. IsSomeAnd o (λ (node : Node). node.koid ≡ None)) (sym above.1) above.2
 
-    pub held-frame : (tag : ℕ) → frame_at t k p ≡ Some tag → HasFrameRow t h.0 q tag
+    pub held-frame : (tag : ℕ) → frame_shown t k p ≡ Some tag → HasFrameRow t h.0 q tag
     held-frame tag shown = record {
       slot = row;
       row = held-row t exact.1.forest k p h q from row held;
@@ -350,7 +349,7 @@ module _ (f : Forest) (s : IsStore f) where
 
 module _ (f : Forest) (s : IsStore f) (tag : ℕ) (list : List ℕ) (are : AreViewers (tree f) tag list) where
   -- the koids of the nodes are those that view the frame
-  viewers-numbered : AreNumbered (λ k. number_in (nodes_of f.arena k)) f.next (views (content_of f) tag) list
+  viewers-numbered : AreNumbered (λ k. number_in (nodes_of f.arena k)) f.next (views (forest_content f) tag) list
   viewers-numbered = record {
     once = are.once;
     apart = λ j k in_j in_k same.
@@ -363,26 +362,26 @@ module _ (f : Forest) (s : IsStore f) (tag : ℕ) (list : List ℕ) (are : AreVi
         let it = vmo-of f s tag k shows in
         let number = sym (number-of f s it.0 k it.1.page.node) in (
           subst (λ v. v < f.next) number (vmo-below f s it.0 k it.1.page.node),
-          subst (λ v. views (content_of f) tag v ≡ true) number (shown-views f s it.0 k shows.p tag it.1),
+          subst (λ v. views (forest_content f) tag v ≡ true) number (shown-views f s it.0 k shows.p tag it.1),
         );
     found = λ v below e.
         let it = (views-shown f s v tag).0 e in
         (it.0, (are.each it.0).1 (record { p = it.1; page = it.2.page.page; frame = it.2.frame }), number-of f s v it.0 it.2.page.node);
   }
 
-  pub viewers-listed : viewers (content_of f) tag ≡ length list
+  pub viewers-listed : viewers (forest_content f) tag ≡ length list
   unfolding viewers
-  viewers-listed = count_below_numbered (λ k. number_in (nodes_of f.arena k)) f.next (views (content_of f) tag) list viewers-numbered
+  viewers-listed = count_below_numbered (λ k. number_in (nodes_of f.arena k)) f.next (views (forest_content f) tag) list viewers-numbered
 
-  pub least-viewer : (koid : Koid) → IsLeastKoid (nodes_of f.arena) list koid → IsLeastViewer (content_of f) tag koid.0
+  pub least-viewer : (koid : Koid) → IsLeastKoid (nodes_of f.arena) list koid → IsLeastViewer (forest_content f) tag koid.0
   least-viewer koid least = record {
     shows =
         let shows = (are.each least.v).0 least.inside in
         let it = vmo-of f s tag least.v shows in
         let number : it.0 ≡ koid.0 = sym (number-of f s it.0 least.v it.1.page.node)
         ∙ (ap number_in least.has.at ∙ ap koid_number least.has.koid_is) in
-        subst (λ v. views (content_of f) tag v ≡ true) number (shown-views f s it.0 least.v shows.p tag it.1);
-    least = λ w below. false_from_ne_true (views (content_of f) tag w) (λ e.
+        subst (λ v. views (forest_content f) tag v ≡ true) number (shown-views f s it.0 least.v shows.p tag it.1);
+    least = λ w below. false_from_ne_true (views (forest_content f) tag w) (λ e.
         let it = (views-shown f s w tag).0 e in
         let its = it.2.page.node in
         let inside = (are.each it.0).1 (record { p = it.1; page = it.2.page.page; frame = it.2.frame }) in
@@ -393,10 +392,10 @@ module _ (f : Forest) (s : IsStore f) (tag : ℕ) (list : List ℕ) (are : AreVi
 
   -- a koid that is less is that of a VMO which views the frame, and without one there is no such VMO
   pub lesser-viewer : (koid : Koid) (answer : Option Koid) → MatchOption answer (IsBelowAll (nodes_of f.arena) list koid) (λ less. HasLesser (nodes_of f.arena) list koid less) →
-      IfSome answer (λ less. (less.0 < koid.0) × (views (content_of f) tag less.0 ≡ true)) × IfNone answer ((w : ℕ) → w < koid.0 → views (content_of f) tag w ≡ false)
+      IfSome answer (λ less. (less.0 < koid.0) × (views (forest_content f) tag less.0 ≡ true)) × IfNone answer ((w : ℕ) → w < koid.0 → views (forest_content f) tag w ≡ false)
   lesser-viewer koid None none = (
     tt,
-    λ w below. false_from_ne_true (views (content_of f) tag w) (λ e.
+    λ w below. false_from_ne_true (views (forest_content f) tag w) (λ e.
         let it = (views-shown f s w tag).0 e in
         let its = it.2.page.node in
         let inside = (are.each it.0).1 (record { p = it.1; page = it.2.page.page; frame = it.2.frame }) in
@@ -408,7 +407,7 @@ module _ (f : Forest) (s : IsStore f) (tag : ℕ) (list : List ℕ) (are : AreVi
       let shows = (are.each found.v).0 found.inside in
       let it = vmo-of f s tag found.v shows in
       let number : it.0 ≡ less.0 = sym (number-of f s it.0 found.v it.1.page.node) ∙ (ap number_in found.has.at ∙ ap koid_number found.has.koid_is) in
-      ((found.below, subst (λ v. views (content_of f) tag v ≡ true) number (shown-views f s it.0 found.v shows.p tag it.1)), tt)
+      ((found.below, subst (λ v. views (forest_content f) tag v ≡ true) number (shown-views f s it.0 found.v shows.p tag it.1)), tt)
 
 module _ (f : Forest) (s : IsStore f) where
   -- a frame that is taken stands in a row, to which its backlink leads: its list is that of a node
@@ -442,13 +441,13 @@ module _ (f : Forest) (s : IsStore f) where
       let it = owned-row tag link taken is in subst (λ k. HasFrameRow (tree f) k link.page tag) (link_same (sym it.1 ∙ owner)) it.2
 
   -- so many VMOs view the frame of a page that is held
-  pub viewers-counted : (v k p count : ℕ) → HasNode f v k → ((tag : ℕ) → frame_at (tree f) k p ≡ Some tag → IsViewerCount (tree f) tag count) →
-      IfSome ((content_of f).page v p) (λ held. count ≡ viewers (content_of f) held.tag)
-  viewers-counted v k p count h counted = with_page ((content_of f).page v p) (sym (page-of f s v k p h))
+  pub viewers-counted : (v k p count : ℕ) → HasNode f v k → ((tag : ℕ) → frame_shown (tree f) k p ≡ Some tag → IsViewerCount (tree f) tag count) →
+      IfSome ((forest_content f).page v p) (λ held. count ≡ viewers (forest_content f) held.tag)
+  viewers-counted v k p count h counted = with_page ((forest_content f).page v p) (sym (page-of f s v k p h))
     where
-      with_page : (o : Option Page) → page_showing f.pool (frame_at (tree f) k p) ≡ o → IfSome o (λ held. count ≡ viewers (content_of f) held.tag)
+      with_page : (o : Option Page) → page_showing f.pool (frame_shown (tree f) k p) ≡ o → IfSome o (λ held. count ≡ viewers (forest_content f) held.tag)
       with_page None is = tt
       with_page (Some held) is =
-          let frame = frame-showing f.pool (frame_at (tree f) k p) held is in
+          let frame = frame-showing f.pool (frame_shown (tree f) k p) held is in
           let it = counted held.tag (frame.1 ∙ ap (λ (page : Page). Some page.tag) frame.2) in
           it.count_is ∙ sym (viewers-listed f s held.tag it.list it.viewers)

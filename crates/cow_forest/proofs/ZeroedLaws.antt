@@ -12,7 +12,7 @@ use Rattle.frame_pool.specs.Pool.{Pool, is_taken, frame_bytes}
 use Rattle.page_list.specs.declared.row.Row.{Row}
 use Rattle.cow_arena.specs.declared.node.NodeId.{NodeId}
 use Rattle.cow_arena.specs.Nodes.{nodes_of, link_to}
-use Rattle.cow_arena.specs.Walk.{frame_at}
+use Rattle.cow_arena.specs.Walk.{frame_shown}
 use Rattle.cow_split.specs.Trees.{tree_of}
 use Rattle.cow_split.specs.Exact.{all_in_sight}
 use Rattle.cow_split.proofs.RowLaws.{frame-in_use}
@@ -20,8 +20,8 @@ use Rattle.cow_merge.specs.Ranges.{AreLinked}
 use Rattle.page_store.specs.Held.{held_from}
 use Rattle.vm_model.proofs.ContentLaws.{same_content}
 use Rattle.cow_forest.specs.Tables.{node_in}
-use Rattle.cow_forest.specs.Store.{Forest, tree, content_of, count_from, page_showing, HasNode, IsStore}
-use Rattle.cow_forest.specs.Ranges.{shown_from, IsReady, HasZeroedSome, AreZero}
+use Rattle.cow_forest.specs.Store.{Forest, tree, forest_content, count_from, page_showing, HasNode, IsStore}
+use Rattle.cow_forest.specs.Ranges.{shown_from, IsReadyToZero, HasZeroedSome, AreZero}
 use Rattle.cow_forest.proofs.ContentLaws.{node-visible, one-vmo, page-of, pages-of}
 use Rattle.cow_forest.proofs.StoreLaws.{with_rows, node-kept, store-kept, page-same}
 
@@ -30,7 +30,7 @@ showing-there pool None = refl
 showing-there pool (Some t) = refl
 
 -- a VMO that has a page count has a node
-pub node-there : (f : Forest) (v n : ℕ) → (content_of f).count v ≡ Some n → (k : ℕ) × (node_in f.nodes v ≡ link_to k)
+pub node-there : (f : Forest) (v n : ℕ) → (forest_content f).count v ≡ Some n → (k : ℕ) × (node_in f.nodes v ≡ link_to k)
 node-there f v n has = go (node_in f.nodes v) refl has
   where
     go : (o : Option NodeId) → node_in f.nodes v ≡ o → count_from (nodes_of f.arena) o ≡ Some n → (k : ℕ) × (node_in f.nodes v ≡ link_to k)
@@ -39,17 +39,17 @@ node-there f v n has = go (node_in f.nodes v) refl has
 
 module _ (f : Forest) (s : IsStore f) (v k : ℕ) (h : HasNode f v k) where
   -- as many pages are held as show a frame
-  pub held-shown : (first n : ℕ) → held_from (content_of f) v first n ≡ shown_from (tree f) k first n
+  pub held-shown : (first n : ℕ) → held_from (forest_content f) v first n ≡ shown_from (tree f) k first n
   unfolding held_from shown_from
-  held-shown first n = count_below_same n (λ j. is_held (content_of f) v (first + j)) (λ j. is_some (frame_at (tree f) k (first + j))) (λ j less.
-      ap (λ (page : Option Page). is_some page) (page-of f s v k (first + j) h) ∙ showing-there f.pool (frame_at (tree f) k (first + j)))
+  held-shown first n = count_below_same n (λ j. is_held (forest_content f) v (first + j)) (λ j. is_some (frame_shown (tree f) k (first + j))) (λ j less.
+      ap (λ (page : Option Page). is_some page) (page-of f s v k (first + j) h) ∙ showing-there f.pool (frame_shown (tree f) k (first + j)))
 
   -- a range of a VMO ends in the bounds of its greatest size
-  pub range-fits : (first n : ℕ) → first + n ≤ pages_of (content_of f) v → first + n ≤ VMO_PAGES
+  pub range-fits : (first n : ℕ) → first + n ≤ pages_of (forest_content f) v → first + n ≤ VMO_PAGES
   range-fits first n range = omega (arith, range, pages-of f s v k h, s.counts v k h.node h.is)
 
-  pub range-ready : (first n : ℕ) → first + n ≤ pages_of (content_of f) v → held_from (content_of f) v first n ≤ f.rows.spare →
-      IsReady f.arena f.rows f.pool k first (first + n)
+  pub range-ready : (first n : ℕ) → first + n ≤ pages_of (forest_content f) v → held_from (forest_content f) v first n ≤ f.rows.spare →
+      IsReadyToZero f.arena f.rows f.pool k first (first + n)
   range-ready first n range room = record {
     exact = s.exact;
     node = h.node;
@@ -75,7 +75,7 @@ module _ (f : Forest) (s : IsStore f) (v k : ℕ) (h : HasNode f v k) where
     store-ranged = store-kept f rows pool s z.exact linked
 
     -- the frames that are shown keep their bytes
-    bytes : (w q t : ℕ) → frame_at (tree_of f.arena rows) w q ≡ Some t → frame_bytes pool t ≡ frame_bytes f.pool t
+    bytes : (w q t : ℕ) → frame_shown (tree_of f.arena rows) w q ≡ Some t → frame_bytes pool t ≡ frame_bytes f.pool t
     bytes w q t shows = elim (z.gives t) [
       | inl same ↦ ap (λ (o : Option (List ℕ)). unwrap_or o []) same
       | inr gone ↦
@@ -85,27 +85,27 @@ module _ (f : Forest) (s : IsStore f) (v k : ℕ) (h : HasNode f v k) where
     ]
 
     -- a page outside the range is as it was
-    outside : (w q : ℕ) → (w ≡ v → (q < first) ⊎ (end ≤ q)) → (content_of (with_rows f rows pool)).page w q ≡ (content_of f).page w q
+    outside : (w q : ℕ) → (w ≡ v → (q < first) ⊎ (end ≤ q)) → (forest_content (with_rows f rows pool)).page w q ≡ (forest_content f).page w q
     outside w q out = page-same f rows pool s store-ranged w q (λ j its page.
-        let same : frame_at (tree_of f.arena rows) j q ≡ frame_at (tree f) j q = z.others j q page (λ here.
+        let same : frame_shown (tree_of f.arena rows) j q ≡ frame_shown (tree f) j q = z.others j q page (λ here.
         elim (out (one-vmo f s w v k (subst (HasNode f w) here.0 its) h)) [
           | inl before ↦ omega (arith, before, here.1)
           | inr past ↦ omega (arith, past, here.2)
         ]) in
         record { frame = same; bytes = λ t e. bytes j q t (same ∙ e) })
 
-    pub content-ranged : AreZero (tree_of f.arena rows) k first end → content_of (with_rows f rows pool) ≡ zeroed (content_of f) v first end
+    pub content-ranged : AreZero (tree_of f.arena rows) k first end → forest_content (with_rows f rows pool) ≡ zeroed (forest_content f) v first end
     unfolding zeroed
     content-ranged zero = same_content _ _ z.frames refl (λ w. refl) (λ w q. elim (cases_zeroed v first end w q) [
       | inl inside ↦
-          ap (λ u. (content_of (with_rows f rows pool)).page u q) inside.0
+          ap (λ u. (forest_content (with_rows f rows pool)).page u q) inside.0
           ∙ (page-of (with_rows f rows pool) store-ranged v k q (node-kept f rows pool v k h) ∙ ap (page_showing pool) (zero q inside.1 inside.2))
-          ∙ sym (page-zeroed_in (content_of f) v first end w q inside.0 inside.1 inside.2)
-      | inr out ↦ outside w q out ∙ sym (page-zeroed_out (content_of f) v first end w q out)
+          ∙ sym (page-zeroed_in (forest_content f) v first end w q inside.0 inside.1 inside.2)
+      | inr out ↦ outside w q out ∙ sym (page-zeroed_out (forest_content f) v first end w q out)
     ])
 
     -- the room that is left
-    pub spare-ranged : (n : ℕ) → end ≡ first + n → first + n ≤ pages_of (content_of f) v → f.rows.spare ≤ rows.spare + held_from (content_of f) v first n
+    pub spare-ranged : (n : ℕ) → end ≡ first + n → first + n ≤ pages_of (forest_content f) v → f.rows.spare ≤ rows.spare + held_from (forest_content f) v first n
     spare-ranged n end_is range =
         let kept = z.spare h.node h.is.at first n (omega arith) (omega arith) (omega (arith, range, pages-of f s v k h)) in
         omega (arith, kept, held-shown first n)

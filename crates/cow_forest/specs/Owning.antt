@@ -9,7 +9,7 @@ use Rattle.page_list.specs.declared.row.Slot.TheVariants as slot
 use Rattle.page_list.specs.Lists.{slots_of}
 use Rattle.cow_arena.specs.declared.node.Node.{Node}
 use Rattle.cow_arena.specs.Nodes.{Arena, nodes_of}
-use Rattle.cow_arena.specs.Walk.{frame_at}
+use Rattle.cow_arena.specs.Walk.{frame_shown}
 use Rattle.cow_arena.specs.Ways.{KeepsBare}
 use Rattle.cow_split.specs.declared.answers.Holder.{Holder}
 use Rattle.cow_split.specs.declared.answers.Holder.TheVariants as holder
@@ -46,11 +46,11 @@ HasOwnRow arena rows v p tag = (node : Node) → nodes_of arena v ≡ Some node 
 pub record HasOwned (arena : Arena) (old new : Rows Row) (before after : Pool) (v p tag : ℕ) : Type 0 where
   pub exact : IsExact (tree_of arena new) all_in_sight (is_taken after)
   pub linked : AreLinked new after
-  pub shows : frame_at (tree_of arena new) v p ≡ Some tag
+  pub shows : frame_shown (tree_of arena new) v p ≡ Some tag
   pub others : OthersShowSame (tree_of arena old) (tree_of arena new) v p
   pub stays : (t : ℕ) → IsSole (tree_of arena old) v p t → (tag ≡ t) × (taken_frames after ≡ taken_frames before)
   pub taken : ((t : ℕ) → IsSole (tree_of arena old) v p t → ⊥) →
-      Takes before after tag (bytes_shown before (frame_at (tree_of arena old) v p))
+      Takes before after tag (bytes_shown before (frame_shown (tree_of arena old) v p))
   pub own : 1 ≤ old.spare → HasOwnRow arena new v p tag
   -- no list but that of v gets a row
   pub rows : (node : Node) → nodes_of arena v ≡ Some node → KeepsBare (slots_of old) (slots_of new) node.list.0

@@ -9,7 +9,7 @@ use Rattle.page_list.specs.Lists.{slots_of}
 use Rattle.cow_arena.specs.declared.node.Node.{Node}
 use Rattle.cow_arena.specs.declared.node.NodeId.{NodeId}
 use Rattle.cow_arena.specs.Nodes.{Arena, nodes_of, IsVisible, link_to}
-use Rattle.cow_arena.specs.Walk.{Slots, Tree, frame_at, frame_in}
+use Rattle.cow_arena.specs.Walk.{Slots, Tree, frame_shown, frame_in}
 use Rattle.cow_arena.specs.Ways.{HadRow}
 use Rattle.cow_split.specs.Trees.{tree_of}
 use Rattle.cow_split.specs.Sight.{IsPage}
@@ -43,11 +43,11 @@ rows_reached t k from end = rows_up t t.lists (link_to k) from end
 
 -- how many of the n pages of node v from page `first` on show a frame
 unfoldable pub shown_from : Tree → (v first n : ℕ) → ℕ
-shown_from t v first n = count_below n (λ k. is_some (frame_at t v (first + k)))
+shown_from t v first n = count_below n (λ k. is_some (frame_shown t v (first + k)))
 
 -- The pages of the visible node v from `first` to below `end` can be made zero one after another, with the room for rows that
 -- there is.
-pub record IsReady (arena : Arena) (rows : Rows Row) (pool : Pool) (v first end : ℕ) : Type 0 where
+pub record IsReadyToZero (arena : Arena) (rows : Rows Row) (pool : Pool) (v first end : ℕ) : Type 0 where
   pub exact : IsExact (tree_of arena rows) all_in_sight (is_taken pool)
   pub node : Node
   pub visible : IsVisible (nodes_of arena) v node
@@ -60,8 +60,8 @@ pub record IsReady (arena : Arena) (rows : Rows Row) (pool : Pool) (v first end 
 pub record HasZeroedSome (arena : Arena) (old new : Rows Row) (before after : Pool) (v first end : ℕ) : Type 0 where
   pub exact : IsExact (tree_of arena new) all_in_sight (is_taken after)
   pub others : (w q : ℕ) → IsPage (tree_of arena old) w q → ((w ≡ v) × (first ≤ q) × (q < end) → ⊥) →
-      frame_at (tree_of arena new) w q ≡ frame_at (tree_of arena old) w q
-  pub part : (w q t : ℕ) → IsPage (tree_of arena old) w q → frame_at (tree_of arena new) w q ≡ Some t → frame_at (tree_of arena old) w q ≡ Some t
+      frame_shown (tree_of arena new) w q ≡ frame_shown (tree_of arena old) w q
+  pub part : (w q t : ℕ) → IsPage (tree_of arena old) w q → frame_shown (tree_of arena new) w q ≡ Some t → frame_shown (tree_of arena old) w q ≡ Some t
   pub gives : (t : ℕ) → (taken_frames after t ≡ taken_frames before t) ⊎ (taken_frames after t ≡ None)
   -- the row of each frame stood where it stands, no backlink changes, and only pages that were made zero got rows
   pub stood : (l q : ℕ) (row : Slot) (t : ℕ) → slots_of new l q ≡ Some row → frame_in row ≡ Some t → HadRow (slots_of old) l q row
@@ -75,10 +75,10 @@ pub record HasZeroedSome (arena : Arena) (old new : Rows Row) (before after : Po
 
 -- no page of node v from `first` to below `end` shows a frame
 abbrev pub AreZero : Tree → (v first end : ℕ) → Type 0
-AreZero t v first end = (p : ℕ) → first ≤ p → p < end → frame_at t v p ≡ None
+AreZero t v first end = (p : ℕ) → first ≤ p → p < end → frame_shown t v p ≡ None
 
 -- A page of node v from `first` on that shows a frame has no row with a frame in this list, where the page of the list that is as
 -- far from `here` as it is from `first` lies below `to`.
 abbrev pub HasNoFrame : Tree → (v first list here to : ℕ) → Type 0
-HasNoFrame t v first list here to = (d tag shown : ℕ) (row : Slot) → here + d < to → frame_at t v (first + d) ≡ Some tag →
+HasNoFrame t v first list here to = (d tag shown : ℕ) (row : Slot) → here + d < to → frame_shown t v (first + d) ≡ Some tag →
     t.slots list (here + d) ≡ Some row → frame_in row ≡ Some shown → ⊥

@@ -10,7 +10,7 @@ use Rattle.cow_arena.specs.declared.node.Node.{Node}
 use Rattle.cow_arena.specs.declared.node.NodeId.{NodeId}
 use Rattle.cow_arena.specs.Nodes.{Arena, Nodes, nodes_of, link_to}
 use Rattle.cow_arena.specs.Counts.{visible_count}
-use Rattle.cow_arena.specs.Walk.{Tree, frame_at}
+use Rattle.cow_arena.specs.Walk.{Tree, frame_shown}
 use Rattle.cow_split.specs.Trees.{tree_of}
 use Rattle.cow_split.specs.Exact.{IsExact, all_in_sight}
 use Rattle.cow_merge.specs.Ranges.{AreLinked}
@@ -42,19 +42,19 @@ count_from nodes (Some at) = pages_in (nodes at.0)
 -- the frame that page p of a node shows, if there is one
 abbrev pub frame_from : Tree → Option NodeId → ℕ → Option ℕ
 frame_from t None p = None
-frame_from t (Some at) p = frame_at t at.0 p
+frame_from t (Some at) p = frame_shown t at.0 p
 
 -- a page with this frame and its bytes
-abbrev pub page_with : Pool → ℕ → Page
-page_with pool t = record { tag = t; bytes = frame_bytes pool t }
+abbrev pub page_with_frame : Pool → ℕ → Page
+page_with_frame pool t = record { tag = t; bytes = frame_bytes pool t }
 
 abbrev pub page_showing : Pool → Option ℕ → Option Page
 page_showing pool None = None
-page_showing pool (Some t) = Some (page_with pool t)
+page_showing pool (Some t) = Some (page_with_frame pool t)
 
 -- A VMO has the pages of its node. A page is held if the walk from there ends at a row with a frame.
-abbrev pub content_of : Forest → Content
-content_of f = record {
+abbrev pub forest_content : Forest → Content
+forest_content f = record {
   frames = f.pool.frames;
   next = f.next;
   count = λ v. count_from (nodes_of f.arena) (node_in f.nodes v);
@@ -89,5 +89,5 @@ pub record IsStore (f : Forest) : Type 0 where
   pub first_koid : 1 ≤ f.next
   pub lists : f.arena.lists + 2 ≤ 2 * f.next
   -- the VMOs are counted
-  pub vmos : f.vmos ≡ vmos_of (content_of f)
+  pub vmos : f.vmos ≡ vmos_of (forest_content f)
   pub visible : visible_count f.arena ≡ f.vmos

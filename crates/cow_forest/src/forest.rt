@@ -15,7 +15,7 @@ ghost use Rattle.cow_split.specs.Cost.{IsMostOfLookUp, depth};
 ghost use Rattle.page_store.specs.Pages.{look_at};
 ghost use Rattle.page_store.specs.Held.{held_from};
 ghost use Rattle.cow_forest.specs.Tables.{node_in};
-ghost use Rattle.cow_forest.specs.Store.{Forest, tree, content_of, IsStore};
+ghost use Rattle.cow_forest.specs.Store.{Forest, tree, forest_content, IsStore};
 ghost use Rattle.cow_forest.specs.Owning.{HasOwnRow};
 ghost use Rattle.cow_forest.specs.Counting.{frame_row_count};
 ghost use Rattle.cow_forest.specs.Ranges.{rows_reached};
@@ -94,7 +94,7 @@ impl CowForest {
     /// Returns how many rows have a frame. They are as many as frames are in use, since the tree is exact over the
     /// frames that are taken.
     pub fn frame_rows(&self) -> u64
-        ensures used { result ≡ used (content_of self.now) }
+        ensures used { result ≡ used (forest_content self.now) }
         ensures rows { result ≡ frame_row_count self.now.rows }
         ensures exact { IsExact (tree self.now) all_in_sight (is_taken self.now.pool) }
     {
@@ -115,10 +115,10 @@ impl CowForest {
     /// VMOs. No way up to a root has more nodes than there are VMOs.
     pub fn hidden(&self) -> u64
         ensures count { result ≡ hidden_count self.now.arena }
-        ensures visible { visible_count self.now.arena ≡ vmos_of (content_of self.now) }
-        ensures fewer { (result < vmos_of (content_of self.now)) ⊎ ((result ≡ 0) × (vmos_of (content_of self.now) ≡ 0)) }
+        ensures visible { visible_count self.now.arena ≡ vmos_of (forest_content self.now) }
+        ensures fewer { (result < vmos_of (forest_content self.now)) ⊎ ((result ≡ 0) × (vmos_of (forest_content self.now) ≡ 0)) }
         ensures deep { (v k : ℕ) → node_in self.now.nodes v ≡ link_to k →
-            depth (nodes_of self.now.arena) self.now.arena.lists k ≤ vmos_of (content_of self.now) }
+            depth (nodes_of self.now.arena) self.now.arena.lists k ≤ vmos_of (forest_content self.now) }
     {
         // The number of each node is below this.
         let _room = self.arena.capacity();
@@ -151,8 +151,8 @@ impl CowForest {
     /// Does what `look` does, and counts the steps of its look-ups on the way from the VMO's node upwards. For each
     /// node up to the root, they are at most those of the longest look-up in the table of rows.
     pub fn look_counted<L: Ledger>(&self, v: Koid, page: PageNo, steps: &mut Steps<L>) -> Look
-        requires page { page < pages_of (content_of self.now) v.0 }
-        ensures look { result ≡ look_at (content_of self.now) v.0 ((content_of self.now).page v.0 page) }
+        requires page { page < pages_of (forest_content self.now) v.0 }
+        ensures look { result ≡ look_at (forest_content self.now) v.0 ((forest_content self.now).page v.0 page) }
         ensures cost { (most k : ℕ) → IsMostOfLookUp (row_count self.now.rows) most → node_in self.now.nodes v.0 ≡ link_to k →
             steps.new ≤ steps.old + depth (nodes_of self.now.arena) self.now.arena.lists k * most }
     {
@@ -180,11 +180,11 @@ impl CowForest {
         count: u64,
         steps: &mut Steps<L>,
     )
-        requires vmo { IsSome ((content_of self.old).count v.0) }
-        requires range { first + count ≤ pages_of (content_of self.old) v.0 }
-        requires room { held_from (content_of self.old) v.0 first count ≤ self.old.rows.spare }
-        ensures content { content_of self.new ≡ zeroed (content_of self.old) v.0 first (first + count) }
-        ensures spare { self.old.rows.spare ≤ self.new.rows.spare + held_from (content_of self.old) v.0 first count }
+        requires vmo { IsSome ((forest_content self.old).count v.0) }
+        requires range { first + count ≤ pages_of (forest_content self.old) v.0 }
+        requires room { held_from (forest_content self.old) v.0 first count ≤ self.old.rows.spare }
+        ensures content { forest_content self.new ≡ zeroed (forest_content self.old) v.0 first (first + count) }
+        ensures spare { self.old.rows.spare ≤ self.new.rows.spare + held_from (forest_content self.old) v.0 first count }
         ensures cost { (k : ℕ) → node_in self.old.nodes v.0 ≡ link_to k →
             steps.new ≤ steps.old + rows_reached (tree self.old) k first (first + count) + depth (nodes_of self.old.arena) self.old.arena.lists k }
     {
@@ -204,7 +204,7 @@ impl CowForest {
 }
 
 impl PageStore for CowForest {
-    ghost content = { content_of };
+    ghost content = { forest_content };
 
     ghost spare = { λ f. f.rows.spare };
 
@@ -216,10 +216,10 @@ impl PageStore for CowForest {
 
     fn create(&mut self, count: PageNo) -> Result<Koid, HostMemory>
         requires count { count ≤ VMO_PAGES }
-        requires next { (content_of self.old).next < KOIDS }
-        ensures koid { IfOk result (λ v. v.0 ≡ (content_of self.old).next) }
-        ensures ok { OnOk result (content_of self.new ≡ created (content_of self.old) count) }
-        ensures err { OnErr result (content_of self.new ≡ content_of self.old) }
+        requires next { (forest_content self.old).next < KOIDS }
+        ensures koid { IfOk result (λ v. v.0 ≡ (forest_content self.old).next) }
+        ensures ok { OnOk result (forest_content self.new ≡ created (forest_content self.old) count) }
+        ensures err { OnErr result (forest_content self.new ≡ forest_content self.old) }
         ensures kept { OnErr result (self.old.rows.spare ≤ self.new.rows.spare) }
         ensures rows { row_count self.new.rows ≡ row_count self.old.rows }
         ensures hidden { hidden_count self.new.arena ≡ hidden_count self.old.arena }
@@ -241,14 +241,14 @@ impl PageStore for CowForest {
         seen: PageNo,
         count: PageNo,
     ) -> Result<Koid, HostMemory>
-        requires vmo { IsSome ((content_of self.old).count of.0) }
+        requires vmo { IsSome ((forest_content self.old).count of.0) }
         requires count { count ≤ VMO_PAGES }
         requires seen { seen ≤ count }
-        requires range { first + seen ≤ pages_of (content_of self.old) of.0 }
-        requires next { (content_of self.old).next < KOIDS }
-        ensures koid { IfOk result (λ v. v.0 ≡ (content_of self.old).next) }
-        ensures ok { OnOk result (content_of self.new ≡ snapshotted (content_of self.old) of.0 first seen count) }
-        ensures err { OnErr result (content_of self.new ≡ content_of self.old) }
+        requires range { first + seen ≤ pages_of (forest_content self.old) of.0 }
+        requires next { (forest_content self.old).next < KOIDS }
+        ensures koid { IfOk result (λ v. v.0 ≡ (forest_content self.old).next) }
+        ensures ok { OnOk result (forest_content self.new ≡ snapshotted (forest_content self.old) of.0 first seen count) }
+        ensures err { OnErr result (forest_content self.new ≡ forest_content self.old) }
         ensures kept { self.old.rows.spare ≤ self.new.rows.spare }
         ensures rows { row_count self.new.rows ≡ row_count self.old.rows }
         ensures hidden { OnOk result (hidden_count self.new.arena ≡ hidden_count self.old.arena + 1) }
@@ -322,10 +322,10 @@ impl PageStore for CowForest {
 
     #[inline(always)]
     fn own(&mut self, v: Koid, page: PageNo) -> Tag
-        requires page { page < pages_of (content_of self.old) v.0 }
-        requires room { (sole (content_of self.old) v.0 page ≡ true)
-            ⊎ ((1 ≤ self.old.rows.spare) × (used (content_of self.old) < (content_of self.old).frames)) }
-        ensures owns { Owns (content_of self.old) (content_of self.new) v.0 page result.0 }
+        requires page { page < pages_of (forest_content self.old) v.0 }
+        requires room { (sole (forest_content self.old) v.0 page ≡ true)
+            ⊎ ((1 ≤ self.old.rows.spare) × (used (forest_content self.old) < (forest_content self.old).frames)) }
+        ensures owns { Owns (forest_content self.old) (forest_content self.new) v.0 page result.0 }
         ensures spare { self.old.rows.spare ≤ self.new.rows.spare + 1 }
         ensures row { (k : ℕ) → 1 ≤ self.old.rows.spare → node_in self.new.nodes v.0 ≡ link_to k →
             HasOwnRow self.new.arena self.new.rows k page result.0 }
@@ -342,11 +342,11 @@ impl PageStore for CowForest {
     }
 
     fn zero(&mut self, v: Koid, page: PageNo)
-        requires page { page < pages_of (content_of self.old) v.0 }
+        requires page { page < pages_of (forest_content self.old) v.0 }
         requires room { 1 ≤ self.old.rows.spare }
-        ensures zero { content_of self.new ≡ zeroed (content_of self.old) v.0 page (page + 1) }
+        ensures zero { forest_content self.new ≡ zeroed (forest_content self.old) v.0 page (page + 1) }
         ensures spare { self.old.rows.spare ≤ self.new.rows.spare + 1 }
-        ensures rows { (content_of self.old).page v.0 page ≡ None → row_count self.new.rows ≡ row_count self.old.rows }
+        ensures rows { (forest_content self.old).page v.0 page ≡ None → row_count self.new.rows ≡ row_count self.old.rows }
     {
         let node = self.nodes.get(v.0);
         zero_by_jumps(
@@ -364,9 +364,9 @@ impl PageStore for CowForest {
     }
 
     fn set_count(&mut self, v: Koid, count: PageNo)
-        requires vmo { IsSome ((content_of self.old).count v.0) }
+        requires vmo { IsSome ((forest_content self.old).count v.0) }
         requires count { count ≤ VMO_PAGES }
-        ensures content { content_of self.new ≡ resized (content_of self.old) v.0 count }
+        ensures content { forest_content self.new ≡ resized (forest_content self.old) v.0 count }
         ensures rows { row_count self.new.rows ≤ row_count self.old.rows }
     {
         let node = self.nodes.get(v.0);
@@ -385,8 +385,8 @@ impl PageStore for CowForest {
     }
 
     fn drop_vmo(&mut self, v: Koid)
-        requires { IsSome ((content_of self.old).count v.0) }
-        ensures content { content_of self.new ≡ without (content_of self.old) v.0 }
+        requires { IsSome ((forest_content self.old).count v.0) }
+        ensures content { forest_content self.new ≡ without (forest_content self.old) v.0 }
         ensures rows { row_count self.new.rows ≤ row_count self.old.rows }
     {
         let node = self.nodes.get(v.0);

@@ -4,14 +4,15 @@ ghost use Rattle.std.specs.Prelude.{◌≡◌, ◌↔◌, ◌+◌, ◌*◌, ◌^
 ghost use Rattle.page_list.specs.Lists.{row_count, slots_of};
 ghost use Rattle.cow_arena.specs.Nodes.{nodes_of};
 ghost use Rattle.cow_arena.specs.Forest.{IsForest};
-ghost use Rattle.cow_arena.specs.Walk.{walk, frame_at};
+ghost use Rattle.cow_arena.specs.Walk.{walk, frame_shown};
 ghost use Rattle.cow_split.specs.Trees.{tree_of, holder_of};
 ghost use Rattle.cow_split.specs.Cost.{IsMostOfLookUp, depth};
 ghost use Rattle.cow_split.specs.Sight.{IsPage};
 ghost use Rattle.cow_split.specs.Exact.{IsExact, all_in_sight};
 ghost use Rattle.cow_jump.specs.Jumps.{AreJumps};
 ghost use Rattle.cow_forest.specs.Store.{frame_from};
-ghost use Rattle.cow_forest.specs.inside.Looking.{look_in, tag_in, IsLook, ShowsFrame, ShowsNoneIn, ShowsNoneFrom, IsNextBelow, nearer_page};
+ghost use Rattle.cow_forest.specs.inside.Looking.{look_in, IsLook, ShowsFrameOrNone, ShowsNoneIn, ShowsNoneFrom, IsNextRowBelow, nearer_page};
+ghost use Rattle.cow_forest.specs.Owning.{tag_in};
 
 use cow_arena::{CowArena, NodeId};
 use cow_jump::{JumpTable, above_by_jumps, holder_by_jumps, holder_by_jumps_counted};
@@ -55,7 +56,7 @@ pub(crate) fn shown_frame(
     requires forest { IsForest (nodes_of arena.now) arena.now.lists }
     requires jumps { (next : ℕ) × AreJumps (tree_of arena.now lists.now) next jumps.now }
     requires node { IsSome (nodes_of arena.now leaf.0) }
-    ensures { ShowsFrame (tree_of arena.now lists.now) leaf.0 page result }
+    ensures { ShowsFrameOrNone (tree_of arena.now lists.now) leaf.0 page result }
 {
     if let Some(slot) = lists.find(arena.look(leaf).list, page) {
         return frame_in(slot);
@@ -108,7 +109,7 @@ fn frame_upwards(
     requires forest { IsForest (nodes_of arena.now) arena.now.lists }
     requires jumps { (next : ℕ) × AreJumps (tree_of arena.now lists.now) next jumps.now }
     requires bare { IsSomeAnd (nodes_of arena.now leaf.0) (λ node. slots_of lists.now node.list.0 page ≡ None) }
-    ensures { ShowsFrame (tree_of arena.now lists.now) leaf.0 page result }
+    ensures { ShowsFrameOrNone (tree_of arena.now lists.now) leaf.0 page result }
 {
     if arena.look(leaf).seen <= page {
         return None;
@@ -206,7 +207,7 @@ pub(crate) fn next_shown(
     requires exact { (in_use : ℕ → Bool) × IsExact (tree_of arena.now lists.now) all_in_sight in_use }
     requires jumps { (next : ℕ) × AreJumps (tree_of arena.now lists.now) next jumps.now }
     requires leaf { IsSomeAnd (nodes_of arena.now leaf.0) (λ node. IsSome node.koid) }
-    ensures some { IfSome result (λ page. (from ≤ page) × IsSome (frame_at (tree_of arena.now lists.now) leaf.0 page)
+    ensures some { IfSome result (λ page. (from ≤ page) × IsSome (frame_shown (tree_of arena.now lists.now) leaf.0 page)
         × ShowsNoneIn (tree_of arena.now lists.now) leaf.0 from page) }
     ensures none { IfNone result (ShowsNoneFrom (tree_of arena.now lists.now) leaf.0 from) }
 {
@@ -230,7 +231,7 @@ fn next_shown_by_rows(
     requires exact { (in_use : ℕ → Bool) × IsExact (tree_of arena.now lists.now) all_in_sight in_use }
     requires jumps { (next : ℕ) × AreJumps (tree_of arena.now lists.now) next jumps.now }
     requires leaf { IsSomeAnd (nodes_of arena.now leaf.0) (λ node. IsSome node.koid) }
-    ensures some { IfSome result (λ page. (from ≤ page) × IsSome (frame_at (tree_of arena.now lists.now) leaf.0 page)
+    ensures some { IfSome result (λ page. (from ≤ page) × IsSome (frame_shown (tree_of arena.now lists.now) leaf.0 page)
         × ShowsNoneIn (tree_of arena.now lists.now) leaf.0 from page) }
     ensures none { IfNone result (ShowsNoneFrom (tree_of arena.now lists.now) leaf.0 from) }
 {
@@ -281,7 +282,7 @@ fn next_row(arena: &CowArena, lists: &PageLists, leaf: NodeId, from: PageNo) -> 
 
 /// Returns the least page of a list from `from` to below `to` that has a row.
 fn next_below(lists: &PageLists, list: ListId, from: PageNo, to: PageNo) -> Option<PageNo>
-    ensures { IsNextBelow (slots_of lists.now list.0) from to result }
+    ensures { IsNextRowBelow (slots_of lists.now list.0) from to result }
 {
     let row = lists.next(list, from)?;
     if row < to { Some(row) } else { None }

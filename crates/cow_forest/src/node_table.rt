@@ -32,11 +32,11 @@ impl Model for NodeTable {
 
     ghost Value = { NodeEntries };
 
-    ghost use Rattle.cow_forest.specs.inside.TableFields.{entries_of, ArePlaced};
+    ghost use Rattle.cow_forest.specs.inside.TableFields.{entries_of, ArePlacedByNumber};
 
     ghost view = { entries_of };
 
-    ghost invariant = { ArePlaced };
+    ghost invariant = { ArePlacedByNumber };
 }
 
 impl NodeTable {

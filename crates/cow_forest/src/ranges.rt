@@ -5,14 +5,14 @@ ghost use Rattle.page_list.specs.Lists.{slots_of};
 ghost use Rattle.frame_pool.specs.Pool.{is_taken};
 ghost use Rattle.cow_arena.specs.declared.node.Node.{Node};
 ghost use Rattle.cow_arena.specs.Nodes.{nodes_of};
-ghost use Rattle.cow_arena.specs.Walk.{frame_at};
+ghost use Rattle.cow_arena.specs.Walk.{frame_shown};
 ghost use Rattle.cow_split.specs.Trees.{tree_of};
 ghost use Rattle.cow_split.specs.Cost.{depth};
 ghost use Rattle.cow_split.specs.Sight.{IsPage};
 ghost use Rattle.cow_split.specs.Exact.{IsExact, all_in_sight};
 ghost use Rattle.cow_jump.specs.Jumps.{AreJumps};
-ghost use Rattle.cow_forest.specs.inside.Looking.{IsNextBelow};
-ghost use Rattle.cow_forest.specs.Ranges.{rows_in, rows_reached, IsReady, HasZeroedSome, AreZero, HasNoFrame};
+ghost use Rattle.cow_forest.specs.inside.Looking.{IsNextRowBelow};
+ghost use Rattle.cow_forest.specs.Ranges.{rows_in, rows_reached, IsReadyToZero, HasZeroedSome, AreZero, HasNoFrame};
 
 use cow_arena::{CowArena, NodeId};
 use cow_fork::zero_by_jumps;
@@ -35,7 +35,7 @@ pub(crate) fn zero_pages<L: Ledger>(
     end: PageNo,
     steps: &mut Steps<L>,
 )
-    requires ready { IsReady arena.now lists.old frames.old leaf.0 first end }
+    requires ready { IsReadyToZero arena.now lists.old frames.old leaf.0 first end }
     requires jumps { (next : ℕ) × AreJumps (tree_of arena.now lists.old) next jumps.now }
     ensures some { HasZeroedSome arena.now lists.old lists.new frames.old frames.new leaf.0 first end }
     ensures zero { AreZero (tree_of arena.now lists.new) leaf.0 first end }
@@ -79,7 +79,7 @@ fn zero_rows<L: Ledger>(
     to: PageNo,
     steps: &mut Steps<L>,
 )
-    requires ready { IsReady arena.now lists.old frames.old leaf.0 first end }
+    requires ready { IsReadyToZero arena.now lists.old frames.old leaf.0 first end }
     requires jumps { (next : ℕ) × AreJumps (tree_of arena.now lists.old) next jumps.now }
     requires order { first ≤ here }
     requires within { (d : ℕ) → here + d < to → first + d < end }
@@ -103,7 +103,7 @@ fn next_counted_below<L: Ledger>(
     to: PageNo,
     steps: &mut Steps<L>,
 ) -> Option<PageNo>
-    ensures next { IsNextBelow (slots_of lists.now list.0) from to result }
+    ensures next { IsNextRowBelow (slots_of lists.now list.0) from to result }
     ensures cost { steps.new ≡ steps.old + 1 }
 {
     let row = lists.next_counted(list, from, steps)?;
@@ -121,10 +121,10 @@ fn zero_shown(
 )
     requires exact { IsExact (tree_of arena.now lists.old) all_in_sight (is_taken frames.old) }
     requires page { IsPage (tree_of arena.now lists.old) leaf.0 page }
-    requires room { frame_at (tree_of arena.now lists.old) leaf.0 page ≢ None → 1 ≤ lists.old.spare }
+    requires room { frame_shown (tree_of arena.now lists.old) leaf.0 page ≢ None → 1 ≤ lists.old.spare }
     requires jumps { (next : ℕ) × AreJumps (tree_of arena.now lists.old) next jumps.now }
     ensures some { HasZeroedSome arena.now lists.old lists.new frames.old frames.new leaf.0 page (page + 1) }
-    ensures zero { frame_at (tree_of arena.now lists.new) leaf.0 page ≡ None }
+    ensures zero { frame_shown (tree_of arena.now lists.new) leaf.0 page ≡ None }
 {
     if holder_by_jumps(arena, lists, jumps, leaf, page)
         .frame()

@@ -3,7 +3,7 @@
 ghost use Rattle.std.specs.Prelude.{◌≡◌, ℕ, Bool, IsSome, IfSome, IsSomeAnd, Some, None};
 ghost use Rattle.cow_arena.specs.Nodes.{nodes_of, other_side};
 ghost use Rattle.cow_arena.specs.Forest.{IsForest};
-ghost use Rattle.cow_arena.specs.Walk.{frame_at};
+ghost use Rattle.cow_arena.specs.Walk.{frame_shown};
 ghost use Rattle.cow_split.specs.Trees.{tree_of};
 ghost use Rattle.cow_split.specs.Sight.{IsPage};
 ghost use Rattle.cow_split.specs.Exact.{IsExact, all_in_sight};
@@ -110,7 +110,7 @@ pub(crate) fn viewer_count_of(
 ) -> u64
     requires exact { (in_use : ℕ → Bool) × IsExact (tree_of arena.now lists.now) all_in_sight in_use }
     requires page { IsPage (tree_of arena.now lists.now) leaf.0 page }
-    ensures { (tag : ℕ) → frame_at (tree_of arena.now lists.now) leaf.0 page ≡ Some tag →
+    ensures { (tag : ℕ) → frame_shown (tree_of arena.now lists.now) leaf.0 page ≡ Some tag →
         IsViewerCount (tree_of arena.now lists.now) tag result }
 {
     match holder(arena, lists, leaf, page) {

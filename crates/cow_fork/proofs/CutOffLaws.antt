@@ -8,7 +8,7 @@ use Rattle.page_list.specs.Lists.{slots_of}
 use Rattle.frame_pool.specs.Pool.{Pool}
 use Rattle.cow_arena.specs.declared.node.Node.{Node}
 use Rattle.cow_arena.specs.Nodes.{Arena, nodes_of}
-use Rattle.cow_arena.specs.Walk.{Slots, Tree, walk, frame_at}
+use Rattle.cow_arena.specs.Walk.{Slots, Tree, walk, frame_shown}
 use Rattle.cow_split.specs.declared.answers.Cut.{Cut}
 use Rattle.cow_split.specs.declared.answers.Cut.TheVariants as cut
 use Rattle.cow_split.specs.declared.answers.Holder.{Holder}
@@ -42,7 +42,7 @@ module _ {arena : Arena} {old mid : Rows Row} {v p : ℕ} {node : Node} {answer 
       IsExact (tree_of arena mid) (leaving_out all_in_sight v p) (without_frame in_use (frame_left answer))
   cut-exact in_use exact = cut-exactly arena old mid v p answer leaf.forest cut-leaf is all_in_sight in_use exact (only-none v)
 
-  cut-none : (answer ≡ cut.NothingThere) ↔ (frame_at (tree_of arena old) v p ≡ None)
+  cut-none : (answer ≡ cut.NothingThere) ↔ (frame_shown (tree_of arena old) v p ≡ None)
   cut-none = cut-found_nothing arena old mid v p answer leaf.forest cut-leaf is
 
   cut-sole : (in_use : ℕ → Bool) → IsExact (tree_of arena old) all_in_sight in_use → (tag : Tag) →
@@ -60,9 +60,9 @@ module _ {arena : Arena} {old mid : Rows Row} {v p : ℕ} {node : Node} {answer 
 
 -- What the answer says of a page that was cut off from the row which held it, where these frames were in use.
 pub record IsCutOff (t : Tree) (v p : ℕ) (in_use : ℕ → Bool) (found : Holder) (answer : Cut) : Type 0 where
-  pub held : frame_held found ≡ frame_at t v p
-  pub used : (tag : ℕ) → frame_at t v p ≡ Some tag → in_use tag ≡ true
-  pub nothing : (answer ≡ cut.NothingThere) ↔ (frame_at t v p ≡ None)
+  pub held : frame_held found ≡ frame_shown t v p
+  pub used : (tag : ℕ) → frame_shown t v p ≡ Some tag → in_use tag ≡ true
+  pub nothing : (answer ≡ cut.NothingThere) ↔ (frame_shown t v p ≡ None)
   pub last : (tag : Tag) → (answer ≡ cut.LastViewer tag) ↔ IsSole t v p tag.0
 
 pub cut_off : {arena : Arena} {old mid : Rows Row} {v p : ℕ} {node : Node} {answer : Cut} (leaf : IsLeaf arena old v p node)

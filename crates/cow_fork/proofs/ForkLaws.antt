@@ -12,7 +12,7 @@ use Rattle.page_list.specs.Lists.{slots_of}
 use Rattle.frame_pool.specs.Pool.{Pool, Takes, taken_frames, is_taken, links_of}
 use Rattle.cow_arena.specs.declared.node.Node.{Node}
 use Rattle.cow_arena.specs.Nodes.{Arena}
-use Rattle.cow_arena.specs.Walk.{Slots, Tree, frame_at, frame_in}
+use Rattle.cow_arena.specs.Walk.{Slots, Tree, frame_shown, frame_in}
 use Rattle.cow_split.specs.declared.answers.Cut.{Cut}
 use Rattle.cow_split.specs.declared.answers.Cut.TheVariants as cut
 use Rattle.cow_split.specs.declared.answers.Holder.{Holder}
@@ -38,7 +38,7 @@ stood-put slots now l p tag put m q row t at frame apart =
 -- ---- over an own zero row
 
 -- a page that shows nothing is not shown alone
-none-sole : (t : Tree) (v p : ℕ) → frame_at t v p ≡ None → (tag : ℕ) → IsSole t v p tag → ⊥
+none-sole : (t : Tree) (v p : ℕ) → frame_shown t v p ≡ None → (tag : ℕ) → IsSole t v p tag → ⊥
 none-sole t v p none tag sole = let shown = sole.shows in absurd (cc)
 
 module _ {arena : Arena} {old : Rows Row} {v p : ℕ} {node : Node} (leaf : IsLeaf arena old v p node)
@@ -120,7 +120,7 @@ module _ {t : Tree} {v p : ℕ} {before after : Pool} {found : Holder} {answer :
       (ap (λ (x : Tag). x.0) moved.0, ap taken_frames moved.1)
 
   -- another is copied
-  frame-copied : ((sole : ℕ) → IsSole t v p sole → ⊥) → Takes before after tag.0 (bytes_shown before (frame_at t v p))
+  frame-copied : ((sole : ℕ) → IsSole t v p sole → ⊥) → Takes before after tag.0 (bytes_shown before (frame_shown t v p))
   frame-copied shared =
       subst (λ shown. Takes before after tag.0 (bytes_shown before shown)) off.held
       (has.taken (λ leaves. shared leaves.tag.0 (leaves-sole off leaves)))

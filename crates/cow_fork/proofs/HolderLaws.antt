@@ -9,7 +9,7 @@ use Rattle.page_list.specs.Lists.{slots_of}
 use Rattle.cow_arena.specs.declared.node.Node.{Node}
 use Rattle.cow_arena.specs.declared.node.Side.{Side}
 use Rattle.cow_arena.specs.Nodes.{Arena, nodes_of}
-use Rattle.cow_arena.specs.Walk.{Tree, Found, walk, frame_in, frame_found, frame_at}
+use Rattle.cow_arena.specs.Walk.{Tree, Found, walk, frame_in, frame_found, frame_shown}
 use Rattle.cow_arena.specs.Ways.{Arrives}
 use Rattle.cow_arena.proofs.WalkLaws.{walk-own}
 use Rattle.cow_arena.proofs.ReachLaws.{walk-ends}
@@ -34,7 +34,7 @@ held-found (Some it) = with_side it.side refl
     with_side None e = ap frame_held (held-own it e)
     with_side (Some side) e = ap frame_held (held-above it side e)
 
-pub held-shown : (t : Tree) (v p : ℕ) (found : Holder) → found ≡ holder_of (walk t v p) → frame_held found ≡ frame_at t v p
+pub held-shown : (t : Tree) (v p : ℕ) (found : Holder) → found ≡ holder_of (walk t v p) → frame_held found ≡ frame_shown t v p
 held-shown t v p found is = ap frame_held is ∙ held-found (walk t v p)
 
 -- a slot without a frame says that the page is zero
@@ -65,7 +65,7 @@ module _ {arena : Arena} {rows : Rows Row} {v p : ℕ} {node : Node} (leaf : IsL
       with_walk (Some it) found = with_side it found it.side refl
 
   -- and shows what it says
-  pub own-shown : (row : Slot) → slots_of rows node.list.0 p ≡ Some row → frame_at (tree_of arena rows) v p ≡ frame_in row
+  pub own-shown : (row : Slot) → slots_of rows node.list.0 p ≡ Some row → frame_shown (tree_of arena rows) v p ≡ frame_in row
   own-shown row own = ap frame_found (walk-own (tree_of arena rows) leaf.forest v p node row leaf.visible.at own)
 
   -- the node has no row of its own where the holder is another's, or none

@@ -7,7 +7,7 @@ use Rattle.vm_base.proofs.EntryLaws.{with_key-same, with_key-other, with_key-cas
 use Rattle.cow_arena.specs.declared.node.Node.{Node}
 use Rattle.cow_arena.specs.declared.node.Side.{Side}
 use Rattle.cow_arena.specs.declared.node.Side.TheVariants as side
-use Rattle.cow_arena.specs.Walk.{Tree, walk, frame_found, frame_at}
+use Rattle.cow_arena.specs.Walk.{Tree, walk, frame_found, frame_shown}
 use Rattle.cow_arena.specs.Forest.{IsForest}
 use Rattle.cow_arena.specs.Changes.{root_node}
 use Rattle.cow_arena.proofs.WalkLaws.{walk-past}
@@ -58,10 +58,10 @@ module _ (t : Tree) (out : ℕ → ℕ → Bool) (in_use : ℕ → Bool) (exact 
   walk_root p = walk-past rooted g k p (root_node koid t.lists count) root_at (bare p) (omega arith)
 
   -- the new node shows nothing, and the others what they showed
-  pub rooted-zero : (p : ℕ) → frame_at rooted k p ≡ None
+  pub rooted-zero : (p : ℕ) → frame_shown rooted k p ≡ None
   rooted-zero p = ap frame_found (walk_root p)
 
-  pub rooted-shows : (w q : ℕ) → IsPage t w q → frame_at rooted w q ≡ frame_at t w q
+  pub rooted-shows : (w q : ℕ) → IsPage t w q → frame_shown rooted w q ≡ frame_shown t w q
   rooted-shows w q page = ap frame_found (walk_same w q page.node page.visible.at)
 
   page_forth : (v p : ℕ) (page : IsPage t v p) → IsPage rooted v p

@@ -8,7 +8,7 @@ use Rattle.page_list.specs.Lists.{slots_of, row_count}
 use Rattle.cow_arena.specs.declared.node.Node.{Node}
 use Rattle.cow_arena.specs.declared.node.Pair.{Pair}
 use Rattle.cow_arena.specs.Nodes.{Arena, Nodes, nodes_of, IsVisible}
-use Rattle.cow_arena.specs.Walk.{Tree, frame_at}
+use Rattle.cow_arena.specs.Walk.{Tree, frame_shown}
 use Rattle.cow_arena.specs.Forest.{IsForest}
 use Rattle.cow_arena.specs.Changes.{paired}
 use Rattle.cow_arena.specs.Counts.{hidden_count, visible_count}
@@ -75,11 +75,11 @@ shared old new rows rows_after v node pair koid first seen pages p in_use exact 
   no_more = λ w now shown not_c. subst (λ (nodes : Nodes). StaysVisible nodes (nodes_of old) w now) (sym p.nodes)
       (snapshot-no_more (tree_of old rows) in_use exact v node p.visible h c koid first seen pages p.new_hidden p.new_child p.apart p.inside p.window forest w now
       (subst (λ (nodes : Nodes). IsVisible nodes w now) p.nodes shown) not_c);
-  shows = λ w q page. ap (λ u. frame_at u w q) is
+  shows = λ w q page. ap (λ u. frame_shown u w q) is
       ∙ snapshot-shows (tree_of old rows) in_use exact v node p.visible h c koid first seen pages p.new_hidden p.new_child p.apart p.inside p.window forest w q page;
-  child = λ q below. ap (λ u. frame_at u c q) is
+  child = λ q below. ap (λ u. frame_shown u c q) is
       ∙ snapshot-child (tree_of old rows) in_use exact v node p.visible h c koid first seen pages p.new_hidden p.new_child p.apart p.inside p.window forest q below;
-  child_past = λ q past. ap (λ u. frame_at u c q) is
+  child_past = λ q past. ap (λ u. frame_shown u c q) is
       ∙ snapshot-child_past (tree_of old rows) in_use exact v node p.visible h c koid first seen pages p.new_hidden p.new_child p.apart p.inside p.window forest q past;
 }
   where

@@ -15,7 +15,7 @@ use Rattle.cow_arena.specs.declared.node.Node.{Node}
 use Rattle.cow_arena.specs.declared.node.Side.{Side}
 use Rattle.cow_arena.specs.declared.node.Side.TheVariants as side
 use Rattle.cow_arena.specs.Nodes.{IsVisible}
-use Rattle.cow_arena.specs.Walk.{Slots, Tree, Found, walk, frame_in, frame_found, frame_at}
+use Rattle.cow_arena.specs.Walk.{Slots, Tree, Found, walk, frame_in, frame_found, frame_shown}
 use Rattle.cow_arena.specs.Forest.{IsForest}
 use Rattle.cow_arena.specs.Changes.{hidden_over, below_hidden, snapshot_node, paired}
 use Rattle.cow_arena.specs.Ways.{Reaches, SameFrames}
@@ -475,24 +475,24 @@ module _ (t : Tree) (in_use : ℕ → Bool) (exact : IsExact t all_in_sight in_u
   -- ---- what is shown
 
   -- each VMO shows what it showed
-  pub snapshot-shows : (w p : ℕ) → IsPage t w p → frame_at after w p ≡ frame_at t w p
+  pub snapshot-shows : (w p : ℕ) → IsPage t w p → frame_shown after w p ≡ frame_shown t w p
   snapshot-shows w p page = frame-alike middle after.slots alike g w p ∙ elim (cases_eq w k) [
     | inr other ↦ ap frame_found (other_walk w p page.node page.visible.at other)
     | inl same ↦
         let one : page.node ≡ leaf = some_same (sym page.visible.at ∙ (ap t.nodes same ∙ visible.at)) in
         let count_is = ap (λ (n : Node). n.count) one in
         let page_below = page.below in
-        ap (λ i. frame_at middle i p) same
+        ap (λ i. frame_shown middle i p) same
         ∙ (pair-frame t exact.forest k leaf visible h c koid first seen count no_h no_c apart g k side.Left 0 leaf.count leaf_views p p (omega arith) (omega arith)
-        ∙ sym (ap (λ i. frame_at t i p) same))
+        ∙ sym (ap (λ i. frame_shown t i p) same))
   ]
 
   -- and the snapshot what the VMO showed in the window
-  pub snapshot-child : (p : ℕ) → p < seen → frame_at after c p ≡ frame_at t k (first + p)
+  pub snapshot-child : (p : ℕ) → p < seen → frame_shown after c p ≡ frame_shown t k (first + p)
   snapshot-child p below =
       frame-alike middle after.slots alike g c p
       ∙ pair-frame t exact.forest k leaf visible h c koid first seen count no_h no_c apart g c side.Right first seen child_views p (first + p) refl below
 
   -- its other pages are zero
-  pub snapshot-child_past : (p : ℕ) → seen ≤ p → frame_at after c p ≡ None
+  pub snapshot-child_past : (p : ℕ) → seen ≤ p → frame_shown after c p ≡ None
   snapshot-child_past p past = frame-alike middle after.slots alike g c p ∙ ap frame_found (past_walk c side.Right first seen child_views p past)

@@ -15,7 +15,7 @@ use Rattle.frame_pool.specs.Pool.{Pool, taken_frames, is_taken, links_of}
 use Rattle.cow_arena.specs.declared.node.Node.{Node}
 use Rattle.cow_arena.specs.declared.node.Side.{Side}
 use Rattle.cow_arena.specs.Nodes.{Arena, IsVisible, nodes_of}
-use Rattle.cow_arena.specs.Walk.{Slots, Tree, walk, frame_at, frame_in}
+use Rattle.cow_arena.specs.Walk.{Slots, Tree, walk, frame_shown, frame_in}
 use Rattle.cow_arena.specs.Ways.{Arrives, IsPartOf}
 use Rattle.cow_arena.proofs.AlikeLaws.{with_pair-other}
 use Rattle.cow_arena.proofs.WalkLaws.{walk-own}
@@ -63,7 +63,7 @@ module _ {arena : Arena} {old : Rows Row} {v p : ℕ} {node : Node} (leaf : IsLe
   own-left : (other : Tag) → (cut.LastViewer tag ≡ cut.LastViewer other) ↔ IsSole (tree_of arena old) v p other.0
   own-left other =
       let t = tree_of arena old in
-      let shows : frame_at t v p ≡ Some tag.0 = own-shown leaf row own ∙ frame in
+      let shows : frame_shown t v p ≡ Some tag.0 = own-shown leaf row own ∙ frame in
       let last = own-last t in_use v p node row tag.0 exact leaf.visible own frame in (
         λ e.
             let same : tag ≡ other = cc in
@@ -104,7 +104,7 @@ let_go-cut {arena} {old} {mid} {v} {p} {node} {answer} leaf none is in_use found
 
 -- a page whose holder has a frame is not zero
 pub shown-frame : (t : Tree) (v p : ℕ) (found : Holder) → found ≡ holder_of (walk t v p) → is_some (frame_held found) ≡ true →
-    frame_at t v p ≡ None → ⊥
+    frame_shown t v p ≡ None → ⊥
 shown-frame t v p found is shown none = let some = ap is_some (held-shown t v p found is ∙ none) in absurd (cc)
 
 -- where one place gets a row, no other gets one
@@ -128,14 +128,14 @@ hidden-marked {arena} {old} {v} {p} {node} leaf new in_use found is shown exact 
           (exact-in_use_alike (with_row t node.list.0 p (Some slot.Zero)) all_in_sight (with_frame in_use None) in_use
           (λ tag. ap (λ (used : ℕ → Bool). used tag) (with_frame-none in_use))
           (exact-own_comes t v p node leaf.visible all_in_sight in_use slot.Zero exact free leaf.below tt (λ tag e. absurd (cc))));
-      zero = ap (λ (u : Tree). frame_at u v p) marked ∙ own_comes-shows t v p node leaf.visible leaf.forest slot.Zero;
+      zero = ap (λ (u : Tree). frame_shown u v p) marked ∙ own_comes-shows t v p node leaf.visible leaf.forest slot.Zero;
       needed = λ n at own none.
           let back : with_row (tree_of arena new) node.list.0 p None ≡ t =
           ap (λ (u : Tree). with_row u node.list.0 p None) marked
           ∙ (with_row-twice t node.list.0 p (Some slot.Zero) None ∙ with_row-there t node.list.0 p None free) in
           shown-frame t v p found is shown
-          (sym (ap (λ (u : Tree). frame_at u v p) back)
-          ∙ subst (λ (m : Node). frame_at (with_row (tree_of arena new) m.list.0 p None) v p ≡ None) (some_same (sym at ∙ leaf.visible.at)) none);
+          (sym (ap (λ (u : Tree). frame_shown u v p) back)
+          ∙ subst (λ (m : Node). frame_shown (with_row (tree_of arena new) m.list.0 p None) v p ≡ None) (some_same (sym at ∙ leaf.visible.at)) none);
       others = put-others leaf new (Some slot.Zero) put;
       stood = λ l q row tag at frame.
           stood-with_pair (slots_of old) node.list.0 p slot.Zero l q row tag (ap (λ (s : Slots). s l q) (sym put) ∙ at) frame (λ e. absurd (cc));
@@ -152,7 +152,7 @@ pub hidden-bare : (arena : Arena) (old : Rows Row) (in_use : ℕ → Bool) (v p 
     IsExact (tree_of arena old) (leaving_out all_in_sight v p) in_use → HasHidden arena old old in_use v p
 hidden-bare arena old in_use v p found is none bare exact =
     let t = tree_of arena old in
-    let zero : frame_at t v p ≡ None = sym (held-shown t v p found is) ∙ none_is (frame_held found) none in
+    let zero : frame_shown t v p ≡ None = sym (held-shown t v p found is) ∙ none_is (frame_held found) none in
     record {
       exact = exact-in_sight t all_in_sight in_use v p (λ page. zero) exact;
       zero = zero;

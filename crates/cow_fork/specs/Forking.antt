@@ -8,7 +8,7 @@ use Rattle.page_list.specs.Lists.{slots_of}
 use Rattle.frame_pool.specs.Pool.{Pool, Takes, taken_frames, is_taken, links_of}
 use Rattle.cow_arena.specs.declared.node.Node.{Node}
 use Rattle.cow_arena.specs.Nodes.{Arena, nodes_of}
-use Rattle.cow_arena.specs.Walk.{frame_at, frame_in}
+use Rattle.cow_arena.specs.Walk.{frame_shown, frame_in}
 use Rattle.cow_arena.specs.Ways.{HadRow, KeepsBare}
 use Rattle.cow_split.specs.Trees.{tree_of}
 use Rattle.cow_split.specs.Sight.{OthersShowSame}
@@ -24,7 +24,7 @@ pub record HasForked (arena : Arena) (old new : Rows Row) (before after : Pool) 
   pub others : OthersShowSame (tree_of arena old) (tree_of arena new) v p
   pub moved : (t : ℕ) → IsSole (tree_of arena old) v p t → (tag ≡ t) × (taken_frames after ≡ taken_frames before)
   pub taken : ((t : ℕ) → IsSole (tree_of arena old) v p t → ⊥) →
-      Takes before after tag (bytes_shown before (frame_at (tree_of arena old) v p))
+      Takes before after tag (bytes_shown before (frame_shown (tree_of arena old) v p))
   -- each row with another frame had this frame there before, and no backlink changes
   pub stood : (l q : ℕ) (row : Slot) (t : ℕ) → slots_of new l q ≡ Some row → frame_in row ≡ Some t → t ≢ tag →
       HadRow (slots_of old) l q row

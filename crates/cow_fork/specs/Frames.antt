@@ -2,7 +2,7 @@
 use Rattle.std.specs.Prelude.{◌≡◌, ℕ, ◌<◌, List, Option, None, Some}
 use Rattle.vm_base.specs.Pages.{zeros}
 use Rattle.frame_pool.specs.Pool.{Pool, frame_bytes, taken_count}
-use Rattle.cow_arena.specs.Walk.{Tree, frame_at}
+use Rattle.cow_arena.specs.Walk.{Tree, frame_shown}
 use Rattle.cow_split.specs.Sight.{IsLastViewer}
 use Rattle.vm_base.specs.declared.names.Tag.{Tag}
 use Rattle.cow_split.specs.declared.answers.Cut.{Cut}
@@ -15,7 +15,7 @@ bytes_shown pool (Some t) = frame_bytes pool t
 
 -- page p of v shows the frame t, and no other visible node does
 pub record IsSole (t : Tree) (v p tag : ℕ) : Type 0 where
-  pub shows : frame_at t v p ≡ Some tag
+  pub shows : frame_shown t v p ≡ Some tag
   pub last : IsLastViewer t v tag
 
 -- page p of v shows a frame alone

@@ -7,7 +7,7 @@ use Rattle.page_list.specs.Lists.{slots_of, row_count}
 use Rattle.cow_arena.specs.declared.node.Node.{Node}
 use Rattle.cow_arena.specs.declared.node.Pair.{Pair}
 use Rattle.cow_arena.specs.Nodes.{Arena, nodes_of, IsVisible}
-use Rattle.cow_arena.specs.Walk.{frame_at}
+use Rattle.cow_arena.specs.Walk.{frame_shown}
 use Rattle.cow_arena.specs.Changes.{paired, snapshot_node}
 use Rattle.cow_arena.specs.Counts.{hidden_count, visible_count}
 use Rattle.cow_split.specs.Trees.{tree_of}
@@ -37,6 +37,6 @@ pub record HasShared (old new : Arena) (rows rows_after : Rows Row) (v : ℕ) (p
   pub comes : nodes_of new pair.child.0 ≡ Some (snapshot_node koid pair.hidden.0 (old.lists + 1) first seen count)
   pub no_more : (w : ℕ) (node : Node) → IsVisible (nodes_of new) w node → w ≢ pair.child.0 → StaysVisible (nodes_of new) (nodes_of old) w node
   -- what the pages show
-  pub shows : (w q : ℕ) → IsPage (tree_of old rows) w q → frame_at (tree_of new rows_after) w q ≡ frame_at (tree_of old rows) w q
-  pub child : (p : ℕ) → p < seen → frame_at (tree_of new rows_after) pair.child.0 p ≡ frame_at (tree_of old rows) v (first + p)
-  pub child_past : (p : ℕ) → seen ≤ p → frame_at (tree_of new rows_after) pair.child.0 p ≡ None
+  pub shows : (w q : ℕ) → IsPage (tree_of old rows) w q → frame_shown (tree_of new rows_after) w q ≡ frame_shown (tree_of old rows) w q
+  pub child : (p : ℕ) → p < seen → frame_shown (tree_of new rows_after) pair.child.0 p ≡ frame_shown (tree_of old rows) v (first + p)
+  pub child_past : (p : ℕ) → seen ≤ p → frame_shown (tree_of new rows_after) pair.child.0 p ≡ None

@@ -9,7 +9,7 @@ use Rattle.vm_base.specs.Entries.{without_key}
 use Rattle.frame_pool.specs.Pool.{Pool, taken_frames, is_taken, links_of}
 use Rattle.cow_arena.specs.declared.node.Node.{Node}
 use Rattle.cow_arena.specs.Nodes.{Arena, nodes_of}
-use Rattle.cow_arena.specs.Walk.{frame_at, frame_in}
+use Rattle.cow_arena.specs.Walk.{frame_shown, frame_in}
 use Rattle.cow_arena.specs.Ways.{HadRow}
 use Rattle.cow_split.specs.Trees.{tree_of, with_row}
 use Rattle.cow_split.specs.Sight.{OthersShowSame}
@@ -19,13 +19,13 @@ use Rattle.cow_fork.specs.Frames.{IsSole}
 -- if page p of v has a row that says zero, then it would show a frame without it
 abbrev pub IsNeeded : (arena : Arena) → Rows Row → (v p : ℕ) → Type 0
 IsNeeded arena rows v p = (node : Node) → nodes_of arena v ≡ Some node → slots_of rows node.list.0 p ≡ Some slot.Zero →
-    frame_at (with_row (tree_of arena rows) node.list.0 p None) v p ≢ None
+    frame_shown (with_row (tree_of arena rows) node.list.0 p None) v p ≢ None
 
 -- Page p of the visible node v is zero. A frame that v alone showed is given back. If the page was zero, nothing
 -- changes.
 pub record HasZeroed (arena : Arena) (old new : Rows Row) (before after : Pool) (v p : ℕ) : Type 0 where
   pub exact : IsExact (tree_of arena new) all_in_sight (is_taken after)
-  pub zero : frame_at (tree_of arena new) v p ≡ None
+  pub zero : frame_shown (tree_of arena new) v p ≡ None
   pub others : OthersShowSame (tree_of arena old) (tree_of arena new) v p
   pub given : (t : ℕ) → IsSole (tree_of arena old) v p t → taken_frames after ≡ without_key (taken_frames before) t
   pub kept : ((t : ℕ) → IsSole (tree_of arena old) v p t → ⊥) → taken_frames after ≡ taken_frames before
@@ -38,8 +38,8 @@ pub record HasZeroed (arena : Arena) (old new : Rows Row) (before after : Pool) 
   pub gives : (t : ℕ) → (taken_frames after t ≡ taken_frames before t) ⊎ (taken_frames after t ≡ None)
   pub places : (node : Node) → nodes_of arena v ≡ Some node → (l q : ℕ) → IsSome (slots_of new l q) →
       IsSome (slots_of old l q) ⊎ ((l ≡ node.list.0) × (q ≡ p))
-  pub slots : frame_at (tree_of arena old) v p ≡ None → slots_of new ≡ slots_of old
-  pub count : frame_at (tree_of arena old) v p ≡ None → row_count new ≡ row_count old
+  pub slots : frame_shown (tree_of arena old) v p ≡ None → slots_of new ≡ slots_of old
+  pub count : frame_shown (tree_of arena old) v p ≡ None → row_count new ≡ row_count old
   pub spare : old.spare ≤ new.spare + 1
   -- a row that says zero stands there only if the page would otherwise show a frame
-  pub needed : frame_at (tree_of arena old) v p ≢ None → IsNeeded arena new v p
+  pub needed : frame_shown (tree_of arena old) v p ≢ None → IsNeeded arena new v p

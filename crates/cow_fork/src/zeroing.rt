@@ -7,7 +7,7 @@ ghost use Rattle.page_list.specs.Lists.{slots_of};
 ghost use Rattle.frame_pool.specs.Pool.{taken_frames, is_taken, links_of};
 ghost use Rattle.cow_arena.specs.declared.node.Node.{Node};
 ghost use Rattle.cow_arena.specs.Nodes.{nodes_of};
-ghost use Rattle.cow_arena.specs.Walk.{walk, frame_at, frame_in};
+ghost use Rattle.cow_arena.specs.Walk.{walk, frame_shown, frame_in};
 ghost use Rattle.cow_arena.specs.Forest.{IsForest};
 ghost use Rattle.cow_split.specs.Trees.{tree_of, holder_of, frame_held};
 ghost use Rattle.cow_split.specs.Sight.{IsPage};
@@ -57,7 +57,7 @@ pub fn zero_by_jumps(
 )
     requires exact { IsExact (tree_of arena.now lists.old) all_in_sight (is_taken frames.old) }
     requires page { IsPage (tree_of arena.now lists.old) leaf.0 page }
-    requires room { frame_at (tree_of arena.now lists.old) leaf.0 page ≢ None → 1 ≤ lists.old.spare }
+    requires room { frame_shown (tree_of arena.now lists.old) leaf.0 page ≢ None → 1 ≤ lists.old.spare }
     requires jumps { (next : ℕ) × AreJumps (tree_of arena.now lists.old) next jumps.now }
     ensures { HasZeroed arena.now lists.old lists.new frames.old frames.new leaf.0 page }
 {
@@ -75,7 +75,7 @@ fn zero_with(
 )
     requires exact { IsExact (tree_of arena.now lists.old) all_in_sight (is_taken frames.old) }
     requires page { IsPage (tree_of arena.now lists.old) leaf.0 page }
-    requires room { frame_at (tree_of arena.now lists.old) leaf.0 page ≢ None → 1 ≤ lists.old.spare }
+    requires room { frame_shown (tree_of arena.now lists.old) leaf.0 page ≢ None → 1 ≤ lists.old.spare }
     requires jumps { MayJump (tree_of arena.now lists.old) (option_copied jumps) }
     ensures { HasZeroed arena.now lists.old lists.new frames.old frames.new leaf.0 page }
 {

@@ -24,8 +24,8 @@ use Rattle.cow_split.proofs.OthersLaws.{reach-joined}
 use Rattle.cow_jump.specs.declared.jumps.Jump.{Jump}
 use Rattle.cow_jump.specs.declared.jumps.Place.{Place}
 use Rattle.cow_jump.specs.declared.jumps.JumpTable.{JumpTable}
-use Rattle.cow_jump.specs.Jumps.{jump_in, serial_in, IsTaken, IsJump, AreJumps}
-use Rattle.cow_jump.specs.inside.Table.{IsNewJump, IsServed, IsGiven}
+use Rattle.cow_jump.specs.Jumps.{jump_in, serial_in, IsCurrentJump, IsJump, AreJumps}
+use Rattle.cow_jump.specs.inside.Table.{IsNewJump, IsServedByJump, IsGiven}
 
 -- what is not clear of two words is not clear of either
 either-clear : (a b i : ℕ) → bit_at (bit_or a b) i ≡ 0 → (bit_at a i ≡ 0) × (bit_at b i ≡ 0)
@@ -113,7 +113,7 @@ module _ (t : Tree) where
   }
 
   -- what the table has of a node serves it
-  pub served-rises : (next : ℕ) (table : JumpTable) → AreJumps t next table → (k p : ℕ) (place : Place) (node : Node) → IsServed table k p place → t.nodes k ≡ Some node →
+  pub served-rises : (next : ℕ) (table : JumpTable) → AreJumps t next table → (k p : ℕ) (place : Place) (node : Node) → IsServedByJump table k p place → t.nodes k ≡ Some node →
       p < node.seen → Rises t k p place.side place.node.0 place.page
   served-rises next table are k p place node served at inside =
       let jump = served.jump in
@@ -239,7 +239,7 @@ module _ (t : Tree) (f : IsForest t.nodes t.lists) where
 -- ---- the table
 
 -- a jump that is to be taken was, where the serial numbers are the same
-taken-same : (old new : JumpTable) (jump : Jump) → ((k : ℕ) → serial_in new k ≡ serial_in old k) → IsTaken new jump → IsTaken old jump
+taken-same : (old new : JumpTable) (jump : Jump) → ((k : ℕ) → serial_in new k ≡ serial_in old k) → IsCurrentJump new jump → IsCurrentJump old jump
 taken-same old new jump serials taken = record { some = taken.some; same = sym (serials jump.to.0) ∙ taken.same }
 
 -- a node gets a jump that is one of its own

@@ -9,7 +9,7 @@ use Rattle.cow_arena.proofs.RisesLaws.{rises-bare}
 use Rattle.cow_split.proofs.PartLaws.{bare-part}
 use Rattle.cow_jump.specs.declared.jumps.Jump.{Jump}
 use Rattle.cow_jump.specs.declared.jumps.JumpTable.{JumpTable}
-use Rattle.cow_jump.specs.Jumps.{serial_in, IsTaken, IsJump, AreJumps, MayJump, ArePairRetired}
+use Rattle.cow_jump.specs.Jumps.{serial_in, IsCurrentJump, IsJump, AreJumps, MayJump, ArePairRetired}
 
 -- the same tree has the same jumps
 pub jumps-alike : (t u : Tree) (next : ℕ) (table : JumpTable) → t ≡ u → AreJumps t next table → AreJumps u next table
@@ -45,7 +45,7 @@ may-jump_part t f slots v leaf visible part = may-jump_bare t f slots v leaf vis
 -- ---- two nodes lose their serial numbers
 
 -- a jump that is to be taken was
-pub taken-retired : (nodes : Nodes) (v : ℕ) (old new : JumpTable) → ArePairRetired nodes old new v → (jump : Jump) → IsTaken new jump → IsTaken old jump
+pub taken-retired : (nodes : Nodes) (v : ℕ) (old new : JumpTable) → ArePairRetired nodes old new v → (jump : Jump) → IsCurrentJump new jump → IsCurrentJump old jump
 taken-retired nodes v old new retired jump taken = elim (retired.others jump.to.0) [
   | inl same ↦ record { some = taken.some; same = sym same ∙ taken.same }
   | inr none ↦ absurd (let some = taken.some in let same = taken.same in omega arith)

@@ -18,7 +18,7 @@ abbrev pub serial_in : JumpTable → ℕ → ℕ
 serial_in table k = slice_index_or table.serials.items k 0
 
 -- the jump is one that is to be taken: the node to which it leads has its serial number still
-pub record IsTaken (table : JumpTable) (jump : Jump) : Type 0 where
+pub record IsCurrentJump (table : JumpTable) (jump : Jump) : Type 0 where
   pub some : 1 ≤ jump.serial
   pub same : serial_in table jump.to.0 ≡ jump.serial
 
@@ -31,7 +31,7 @@ pub record IsJump (t : Tree) (k : ℕ) (jump : Jump) : Type 0 where
 
 -- Every jump of the table that is to be taken is one of its node. The serial numbers are less than this koid.
 pub record AreJumps (t : Tree) (next : ℕ) (table : JumpTable) : Type 0 where
-  pub jumps : (k : ℕ) (jump : Jump) → jump_in table k ≡ Some jump → IsTaken table jump → IsJump t k jump
+  pub jumps : (k : ℕ) (jump : Jump) → jump_in table k ≡ Some jump → IsCurrentJump table jump → IsJump t k jump
   pub made : (k : ℕ) (jump : Jump) → jump_in table k ≡ Some jump → jump.serial < next
   pub serials : (k : ℕ) → serial_in table k < next
 
@@ -42,7 +42,7 @@ MayJump t jumps = IfSome jumps (λ table. (next : ℕ) × AreJumps t next table)
 -- node h has the jump of node v, if that is to be taken, or none, and this serial number, or 0; v and c have no jump, and the others
 -- have theirs
 pub record AreMovedUp (old new : JumpTable) (v h c serial : ℕ) : Type 0 where
-  pub hidden : (jump : Jump) → jump_in new h ≡ Some jump → (jump_in old v ≡ Some jump) × IsTaken old jump
+  pub hidden : (jump : Jump) → jump_in new h ≡ Some jump → (jump_in old v ≡ Some jump) × IsCurrentJump old jump
   pub leaf : jump_in new v ≡ None
   pub child : jump_in new c ≡ None
   pub others : (k : ℕ) → k ≢ v → k ≢ h → k ≢ c → jump_in new k ≡ jump_in old k

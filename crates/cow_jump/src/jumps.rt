@@ -1,8 +1,8 @@
 //! The table of jumps: ways upwards in the clone tree over many nodes at once.
 
 ghost use Rattle.std.specs.Prelude.{◌≡◌, ◌≢◌, ◌⊎◌, ℕ, None, Some, IfSome};
-ghost use Rattle.cow_jump.specs.Jumps.{jump_in, serial_in, IsTaken, AreMovedUp};
-ghost use Rattle.cow_jump.specs.inside.Table.{IsServed, IsGiven, AreRetired};
+ghost use Rattle.cow_jump.specs.Jumps.{jump_in, serial_in, IsCurrentJump, AreMovedUp};
+ghost use Rattle.cow_jump.specs.inside.Table.{IsServedByJump, IsGiven, AreRetired};
 
 use cow_arena::{NodeId, Side};
 use std::alloc::Global;
@@ -74,7 +74,7 @@ impl JumpTable {
     /// Returns the jump of a node, if it has one that is to be taken: the node to which it leads is still there.
     #[inline(always)]
     pub(crate) fn get(&self, at: NodeId) -> Option<Jump>
-        ensures { IfSome result (λ jump. (jump_in self.now at.0 ≡ Some jump) × IsTaken self.now jump) }
+        ensures { IfSome result (λ jump. (jump_in self.now at.0 ≡ Some jump) × IsCurrentJump self.now jump) }
     {
         if self.entries.len() <= at.0 {
             return None;
@@ -89,7 +89,7 @@ impl JumpTable {
     /// Returns where the jump of a node leads from a page, if the node has one that serves the page.
     #[inline(always)]
     pub(crate) fn take(&self, at: NodeId, page: PageNo) -> Option<Place>
-        ensures { IfSome result (λ place. IsServed self.now at.0 page place) }
+        ensures { IfSome result (λ place. IsServedByJump self.now at.0 page place) }
     {
         let jump = self.get(at)?;
         if jump.end <= page || (jump.barred >> (page % 64)) & 1 == 1 {

@@ -17,7 +17,7 @@ use Rattle.cow_arena.specs.declared.node.Side.{Side}
 use Rattle.cow_arena.specs.declared.node.Side.TheVariants as side
 use Rattle.cow_arena.specs.Nodes.{Arena, nodes_of, link_to, other_side, side_of, side_in}
 use Rattle.cow_arena.specs.Forest.{IsForest, IsChild, HasPair}
-use Rattle.cow_arena.specs.Walk.{Tree, walk, frame_at}
+use Rattle.cow_arena.specs.Walk.{Tree, walk, frame_shown}
 use Rattle.cow_arena.specs.Ways.{HasRow, Climbs, Reaches, Arrives}
 use Rattle.cow_arena.proofs.ReachLaws.{reach-apart, child-there, reach-deeper, reach-once, reach-hidden, side-is, arrives-on}
 use Rattle.cow_split.specs.declared.answers.Holder.{Holder}
@@ -32,7 +32,7 @@ use Rattle.cow_split.proofs.PartLaws.{part-none}
 use Rattle.cow_merge.specs.declared.witness.Way.{Way}
 use Rattle.cow_merge.specs.inside.Lifting.{IsFamilyOf}
 use Rattle.cow_merge.specs.Ranges.{no_pages, CameTo, IsSpared, IsPassing, IsOnlyWay, HasPassedRow, HasLeftPageOut, HasKept, IsExactFor, KeepsList, KeepsOthers}
-use Rattle.cow_merge.specs.inside.Witness.{IsWithin, IsEntered, ComesBeside, IsBeside, SeesRowOf, HasLeftPage, IsPageCut}
+use Rattle.cow_merge.specs.inside.Witness.{IsWayWithin, IsEntered, ComesBeside, IsBeside, SeesRowOf, HasLeftPage, IsPageCut}
 use Rattle.cow_arena.proofs.SpliceWalkLaws.{family-parent}
 use Rattle.cow_merge.proofs.LiftedLaws.{family-other}
 use Rattle.cow_merge.proofs.RangeLaws.{gives-same, arrives-part, leaving-more, leaving-again, leaving-kept}
@@ -43,7 +43,7 @@ use Rattle.cow_merge.proofs.PassingLaws.{spared-stays}
 -- pages of the parent that the way's pages come to, where it enters a child
 pub within-entered : (first base to : ℕ) (node : Node) (child : NodeId) (shift from end : ℕ) (way : Way) → to < 2 ^ 64 →
     ((p : ℕ) → from ≤ p → p < end → first + base ≤ p + shift) → ((p : ℕ) → from ≤ p → p < end → p + shift < to) →
-    IsEntered node child shift from end way → IsWithin first base to node way
+    IsEntered node child shift from end way → IsWayWithin first base to node way
 within-entered first base to node child shift from end way fits low high entered = record {
   inside = entered.inside;
   low = λ p start less.
@@ -249,14 +249,14 @@ module _ (arena : Arena) (old mid new : Rows Row) (before between after : Pool) 
         side = was.side;
         within = was.within;
         came = λ q tag start below sight shown.
-            let showed : frame_at (tree_of arena mid) v q ≡ Some tag
-            = ap (λ s. frame_at (record (tree_of arena mid) { slots = s }) v q) (sym kept.rows) ∙ shown in
+            let showed : frame_shown (tree_of arena mid) v q ≡ Some tag
+            = ap (λ s. frame_shown (record (tree_of arena mid) { slots = s }) v q) (sym kept.rows) ∙ shown in
             elim (was.came q tag start below sight showed) [
               | inl held ↦ inl (subst (λ s. IsSpared (nodes_of arena) s spared was.bare.node q) (sym kept.rows) held)
               | inr it ↦ inr (subst
                   (λ r. ComesBeside (record (tree_of arena mid) { slots = r }) v q h above.list.0 base to was.e was.node was.from way (page + 1)) (sym kept.rows)
                   (elim (cases_eq q own) [
-                    | inl same ↦ absurd (not-seen q same it.came (left.shows tag (ap (frame_at (tree_of arena mid) v) (sym same) ∙ showed)))
+                    | inl same ↦ absurd (not-seen q same it.came (left.shows tag (ap (frame_shown (tree_of arena mid) v) (sym same) ∙ showed)))
                     | inr apart ↦ record { came = it.came; beside = it.beside; free = still-free q tag apart it }
                   ]))
             ];
@@ -300,7 +300,7 @@ module _ (arena : Arena) (old : Rows Row) (pool : Pool) (v p h : ℕ) (has : IsE
 
   no-frame : (it : Holder) → it ≡ holder_of (walk (tree_of arena old) v p) →
       ((node : NodeId) (page : ℕ) (side : Side) (slot : Slot) → it ≡ holder.Above node page side slot → ⊥) → (tag : ℕ) →
-      frame_at (tree_of arena old) v p ≡ Some tag → ⊥
+      frame_shown (tree_of arena old) v p ≡ Some tag → ⊥
   no-frame (holder.Above node page side slot) e none tag shown = none node page side slot refl
   no-frame (holder.Own row) e none tag shown =
       let after = own-cut (tree_of arena old) v p row e in

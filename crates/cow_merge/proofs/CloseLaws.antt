@@ -13,7 +13,7 @@ use Rattle.frame_pool.specs.Pool.{Pool, is_taken}
 use Rattle.cow_arena.specs.declared.node.Node.{Node}
 use Rattle.cow_arena.specs.declared.node.NodeId.{NodeId}
 use Rattle.cow_arena.specs.Nodes.{Arena, Nodes, nodes_of, IsVisible, AreFamily, link_to, other_side, side_of, sibling_in}
-use Rattle.cow_arena.specs.Walk.{Slots, Tree, tree_with, frame_at}
+use Rattle.cow_arena.specs.Walk.{Slots, Tree, tree_with, frame_shown}
 use Rattle.cow_arena.specs.Forest.{IsForest, IsChild}
 use Rattle.cow_arena.specs.Changes.{spliced, spliced_over}
 use Rattle.cow_arena.specs.Renamed.{exchanged, renamed_node, renamed, IsExchange}
@@ -62,14 +62,14 @@ record IsGoneFrom (old new : Tree) (in_use : ℕ → Bool) (v : ℕ) : Type 0 wh
   came : (k : ℕ) (node : Node) → new.nodes k ≡ Some node → WasThere old.nodes k node
   parent_gone : (h : ℕ) → IsChild old.nodes h v → new.nodes h ≡ None
   beside : (s : ℕ) → sibling_in old.nodes v ≡ link_to s → IsSome (new.nodes s)
-  shows : (w q : ℕ) → IsPage new w q → frame_at new w q ≡ frame_at old w q
+  shows : (w q : ℕ) → IsPage new w q → frame_shown new w q ≡ frame_shown old w q
 
 gone-by : (arena : Arena) (rows : Rows Row) (slots : Slots) (nodes : Nodes) (in_use : ℕ → Bool) (v : ℕ) →
     IsWithout (tree_with (nodes_of arena) arena.lists slots) (tree_with nodes arena.lists slots) v → nodes v ≡ None →
     ((h : ℕ) → IsChild (nodes_of arena) h v → nodes h ≡ None) → ((s : ℕ) → sibling_in (nodes_of arena) v ≡ link_to s → IsSome (nodes s)) →
     IsExact (tree_with nodes arena.lists slots) all_in_sight in_use →
     ((w q : ℕ) → IsPage (tree_with (nodes_of arena) arena.lists slots) w q → w ≢ v →
-    frame_at (tree_with (nodes_of arena) arena.lists slots) w q ≡ frame_at (tree_of arena rows) w q) →
+    frame_shown (tree_with (nodes_of arena) arena.lists slots) w q ≡ frame_shown (tree_of arena rows) w q) →
     IsGoneFrom (tree_of arena rows) (tree_with nodes arena.lists slots) in_use v
 gone-by arena rows slots nodes in_use v without gone parent_gone beside exact shows =
     let t : Tree = tree_with (nodes_of arena) arena.lists slots in

@@ -10,8 +10,8 @@ use Rattle.page_list.specs.declared.row.Slot.{Slot}
 use Rattle.cow_arena.specs.declared.node.Node.{Node}
 use Rattle.cow_arena.specs.declared.node.Side.{Side}
 use Rattle.cow_arena.specs.Nodes.{IsVisible}
-use Rattle.cow_arena.specs.Walk.{Tree, walk, frame_found, frame_at}
-use Rattle.cow_arena.specs.Forest.{IsForest, AreListed}
+use Rattle.cow_arena.specs.Walk.{Tree, walk, frame_found, frame_shown}
+use Rattle.cow_arena.specs.Forest.{IsForest, HasListedRows}
 use Rattle.cow_arena.proofs.WalkLaws.{walk-past}
 use Rattle.cow_arena.proofs.WindowWalkLaws.{put-listed, walk-leaf-changed, walk-leaf-changed-other}
 use Rattle.cow_split.specs.Sight.{IsPage, IsSeenFrom, CameFrom}
@@ -63,7 +63,7 @@ module _ (t : Tree) (v : ℕ) (leaf new : Node) (visible : IsVisible t.nodes v l
     | inr there ↦ record { node = now; at = there.1; koid = refl; list = refl }
   ]
 
-  changed_listed : AreListed t → AreListed after
+  changed_listed : HasListedRows t → HasListedRows after
   changed_listed = (put-listed t after.nodes t.lists v new refl (λ node at. list ∙ ap (λ (n : Node). n.list) (some_same (sym visible.at ∙ at)))).listed
 
   -- pages of other nodes are pages as before
@@ -198,7 +198,7 @@ module _ (t : Tree) (v count : ℕ) (leaf : Node) (visible : IsVisible t.nodes v
       (changed_was t v leaf (with_count leaf count) visible refl refl w p page (λ same. let inside = left same in omega arith), left)
 
   -- each page that is left shows what it showed
-  pub narrowed-shows : IsForest t.nodes t.lists → (w p : ℕ) → IsPage narrowed w p → frame_at narrowed w p ≡ frame_at t w p
+  pub narrowed-shows : IsForest t.nodes t.lists → (w p : ℕ) → IsPage narrowed w p → frame_shown narrowed w p ≡ frame_shown t w p
   narrowed-shows f w p page = let was = narrowed-page w p page in ap frame_found (walk-narrowed f w p was.0 was.1)
 
   -- Where the pages from the count on were out of sight, and there is no row of them, the tree is exact without them.
@@ -250,7 +250,7 @@ module _ (t : Tree) (v count : ℕ) (leaf : Node) (visible : IsVisible t.nodes v
   ]
 
   -- each page shows what it showed
-  pub grown-shows : IsForest t.nodes t.lists → (w p : ℕ) → IsPage t w p → frame_at grown w p ≡ frame_at t w p
+  pub grown-shows : IsForest t.nodes t.lists → (w p : ℕ) → IsPage t w p → frame_shown grown w p ≡ frame_shown t w p
   grown-shows f w p page = ap frame_found (walk-grown f w p page.node page.visible.at)
 
   module _ (out : ℕ → ℕ → Bool) (in_use : ℕ → Bool) (exact : IsExact t out in_use) where
@@ -263,7 +263,7 @@ module _ (t : Tree) (v count : ℕ) (leaf : Node) (visible : IsVisible t.nodes v
         none (Some row) e = absurd (let inside = exact.below v p leaf row visible e in omega arith)
 
     -- and is zero
-    pub grown-new : (p : ℕ) → leaf.count ≤ p → frame_at grown v p ≡ None
+    pub grown-new : (p : ℕ) → leaf.count ≤ p → frame_shown grown v p ≡ None
     grown-new p past = ap frame_found (walk-grown-new p past)
 
     -- the tree stays exact

@@ -30,10 +30,10 @@ use Rattle.cow_split.proofs.RowLaws.{exact-in_use_alike, with_row-twice}
 use Rattle.frame_pool.specs.declared.frame_pool.Backlink.{Backlink}
 use Rattle.frame_pool.specs.Pool.{Pool, taken_frames, is_taken, links_of}
 use Rattle.cow_merge.specs.Ranges.{bit_on, AreLinked, GivesBack, HasGiven}
-use Rattle.cow_merge.specs.inside.Lifting.{IsLifting, IsBefore, IsFamilyOf, AreLifted, SeesRow, IsMoved, has_frame}
+use Rattle.cow_merge.specs.inside.Lifting.{IsLifting, IsBefore, IsFamilyOf, AreLifted, SeesRow, IsMoved, is_row_of_frame}
 use Rattle.cow_merge.specs.declared.ranges.Pages.{Pages}
 use Rattle.cow_merge.specs.inside.Sharing.{AreShared}
-use Rattle.cow_merge.specs.inside.HandingOver.{frame_there, HasNoRow, HasRowPut, AreSeenFrom, IsHandingOver, IsHandedUpTo, HasHandedOver}
+use Rattle.cow_merge.specs.inside.HandingOver.{frame_there, HasDroppedRow, HasRowPut, AreSeenFrom, IsHandingOver, IsHandedUpTo, HasHandedOver}
 use Rattle.cow_merge.proofs.RangeLaws.{gives-then, gives-same, given-none}
 use Rattle.cow_merge.proofs.LiftedLaws.{has-frame, of-has-frame, link-same, family-lists, row-sees, row-bit, row-bit_below, without-none, lifted-gone, lifted-moved}
 use Rattle.cow_merge.proofs.SharingLaws.{some-left, reached-below, reached-found}
@@ -276,7 +276,7 @@ module _ (arena : Arena) (old new : Rows Row) (before after : Pool) (k h s q : �
             put.links tag ∙ (cond-true _ _ _ on ∙ link-same up m q r (sym here.0) (sym here.1))
         | inr there ↦
             let was_linked = linked.linked m r other tag there.1 frame in
-            elim (cases_Bool (has_frame tag row)) [
+            elim (cases_Bool (is_row_of_frame tag row)) [
               | inr off ↦ put.links tag ∙ (cond-false _ _ _ off ∙ was_linked)
               | inl on ↦
                   let one = linked.linked own q row tag has (of-has-frame tag row on) in
@@ -598,7 +598,7 @@ without-none-there slots l q none = λ i m r. each m r i
     ]
 
 -- there was none
-pub no-row : (rows : Rows Row) (pool : Pool) (l q : ℕ) → slots_of rows l q ≡ None → HasNoRow rows rows pool pool l q
+pub no-row : (rows : Rows Row) (pool : Pool) (l q : ℕ) → slots_of rows l q ≡ None → HasDroppedRow rows rows pool pool l q
 no-row rows pool l q none = record {
   slots = without-none-there (slots_of rows) l q none;
   given = subst (HasGiven pool pool) (sym (ap frame_there none)) (given-none pool);
@@ -609,7 +609,7 @@ no-row rows pool l q none = record {
 -- there was one, which was taken out
 pub no-row-more : (old new : Rows Row) (before after : Pool) (l q : ℕ) (row : Slot) → slots_of old l q ≡ Some row →
     slots_of new ≡ with_pair (slots_of old) l q None → HasGiven before after (frame_in row) → new.spare ≡ old.spare + 1 →
-    row_count new + 1 ≡ row_count old → HasNoRow old new before after l q
+    row_count new + 1 ≡ row_count old → HasDroppedRow old new before after l q
 no-row-more old new before after l q row at slots given spare count = record {
   slots = slots;
   given = subst (HasGiven before after) (sym (ap frame_there at)) given;
@@ -625,29 +625,29 @@ still-used in_use (Some other) tag used apart =
     and_from (not (tag == other)) (in_use tag) (ap not (ne_eqb tag other (λ same. apart (ap Some (sym same))))) used
 
 -- the frame of the row that is put is taken
-pub put-taken : (old mid : Rows Row) (before between : Pool) (l q tag : ℕ) → HasNoRow old mid before between l q → IsSome (taken_frames before tag) →
+pub put-taken : (old mid : Rows Row) (before between : Pool) (l q tag : ℕ) → HasDroppedRow old mid before between l q → IsSome (taken_frames before tag) →
     (frame_there (slots_of old l q) ≡ Some tag → ⊥) → IsSome (taken_frames between tag)
 put-taken old mid before between l q tag gone taken apart =
     gone.given.taken tag ∙ still-used (is_taken before) (frame_there (slots_of old l q)) tag taken apart
 
 -- the page has no row then, so that one can be put
-pub put-free : (old mid : Rows Row) (before between : Pool) (l q : ℕ) → HasNoRow old mid before between l q → slots_of mid l q ≡ None
+pub put-free : (old mid : Rows Row) (before between : Pool) (l q : ℕ) → HasDroppedRow old mid before between l q → slots_of mid l q ≡ None
 put-free old mid before between l q gone = ap (λ (x : Slots). x l q) gone.slots ∙ with_pair-same (slots_of old) l q None
 
 -- of two slots of a page the second stays
 put-twice : (slots : Slots) (l q : ℕ) (first second : Option Slot) → with_pair (with_pair slots l q first) l q second ≡ with_pair slots l q second
 put-twice slots l q first second = ap (λ (u : Tree). u.slots) (with_row-twice (tree_with (λ k. None) 0 slots) l q first second)
 
-pub row-put : (old mid new : Rows Row) (before between after : Pool) (l q : ℕ) (row : Slot) → HasNoRow old mid before between l q →
+pub row-put : (old mid new : Rows Row) (before between after : Pool) (l q : ℕ) (row : Slot) → HasDroppedRow old mid before between l q →
     slots_of new ≡ with_pair (slots_of mid) l q (Some row) → row_count new ≡ row_count mid + 1 → new.spare + 1 ≡ mid.spare →
     taken_frames after ≡ taken_frames between → after.frames ≡ between.frames →
-    ((t : ℕ) → links_of after t ≡ (if has_frame t row then record { list = l; page = q } else links_of between t)) →
+    ((t : ℕ) → links_of after t ≡ (if is_row_of_frame t row then record { list = l; page = q } else links_of between t)) →
     HasRowPut old new before after l q row
 row-put old mid new before between after l q row gone slots count spare taken frames links = record {
   slots = slots ∙ (ap (λ (x : Slots). with_pair x l q (Some row)) gone.slots ∙ put-twice (slots_of old) l q None (Some row));
   taken = λ t. ap (λ f. is_some (f t)) taken ∙ gone.given.taken t;
   gives = gives-then before between after gone.given.gives (record { frames = frames; kept = λ t. inl (ap (λ f. f t) taken) });
-  links = λ t. links t ∙ ap (λ f. if has_frame t row then record { list = l; page = q } else f t) gone.given.links;
+  links = λ t. links t ∙ ap (λ f. if is_row_of_frame t row then record { list = l; page = q } else f t) gone.given.links;
   spare = omega (arith, gone.spare);
   count = omega (arith, gone.count);
 }

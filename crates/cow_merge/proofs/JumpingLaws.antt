@@ -9,10 +9,10 @@ use Rattle.cow_split.specs.Trees.{tree_of}
 use Rattle.cow_jump.specs.declared.jumps.JumpTable.{JumpTable}
 use Rattle.cow_jump.specs.Jumps.{MayJump}
 use Rattle.cow_jump.proofs.JumpRowLaws.{may-jump_part}
-use Rattle.cow_merge.specs.Ranges.{IsBare}
+use Rattle.cow_merge.specs.Ranges.{IsLeftBare}
 use Rattle.cow_merge.specs.inside.Uncovering.{IsUncovering}
 
-pub jumps-left : (arena : Arena) (old new : Rows Row) (before after : Pool) (v first : ℕ) → IsBare arena old new before after v first →
+pub jumps-left : (arena : Arena) (old new : Rows Row) (before after : Pool) (v first : ℕ) → IsLeftBare arena old new before after v first →
     (jumps : Option JumpTable) → MayJump (tree_of arena old) jumps → MayJump (tree_of arena new) jumps
 jumps-left arena old new before after v first bare =
     may-jump_part (tree_of arena old) bare.leaving.exact.forest (slots_of new) v bare.node bare.visible bare.leaving.part

@@ -14,7 +14,7 @@ use Rattle.cow_arena.specs.declared.node.Node.{Node}
 use Rattle.cow_arena.specs.declared.node.Side.{Side}
 use Rattle.cow_arena.specs.declared.node.Side.TheVariants as side
 use Rattle.cow_arena.specs.Nodes.{IsVisible, AreFamily, link_to, leads_to, other_side, side_of, child_on, side_in}
-use Rattle.cow_arena.specs.Walk.{Slots, Tree, Found, walk, frame_in, frame_found, frame_at}
+use Rattle.cow_arena.specs.Walk.{Slots, Tree, Found, walk, frame_in, frame_found, frame_shown}
 use Rattle.cow_arena.specs.Forest.{IsForest}
 use Rattle.cow_arena.specs.Ways.{Climbs, Reaches, Arrives, SameElsewhere}
 use Rattle.cow_arena.proofs.WalkLaws.{link_same}
@@ -413,7 +413,7 @@ module _ (t : Tree) (f : IsForest t.nodes t.lists) (k h s : ℕ) (leaf parent si
         (record { node = sibling; at = family.sibling_at; row = with_pair-same t.slots sibling.list.0 to (Some now) }),
   )
 
-  both-shows : (w p : ℕ) → frame_at both w p ≡ frame_at t w p
+  both-shows : (w p : ℕ) → frame_shown both w p ≡ frame_shown t w p
   both-shows w p = elim (arrives-or-not t f s to w p) [
     | inl by ↦ let it = came-by w p by.0 by.1 in ap frame_found it.1 ∙ (frames ∙ sym (ap frame_found it.0))
     | inr none ↦
@@ -425,7 +425,7 @@ module _ (t : Tree) (f : IsForest t.nodes t.lists) (k h s : ℕ) (leaf parent si
   pub moved-shows : (out : ℕ → ℕ → Bool) → IsAside out k leaf q → ShowsSame t (record t { slots = moved }) out
   moved-shows out aside w p page_of sight =
       let closed = closed-by both f k h s leaf parent sibling family visible q to now (with_pair-same t.slots sibling.list.0 to (Some now)) page in
-      subst (λ (slots : Slots). frame_at (record t { slots = slots }) w p ≡ frame_at t w p)
+      subst (λ (slots : Slots). frame_shown (record t { slots = slots }) w p ≡ frame_shown t w p)
       (rows-swapped t.slots parent.list.0 q sibling.list.0 to (Some now) apart)
       (dropped-shows both f k h s leaf parent sibling family visible q closed out aside w p (page-over t both.slots w p page_of) sight ∙ both-shows w p)
 

@@ -19,7 +19,7 @@ use Rattle.cow_arena.specs.declared.node.NodeId.{NodeId}
 use Rattle.cow_arena.specs.declared.node.Side.{Side}
 use Rattle.cow_arena.specs.declared.node.Side.TheVariants as side
 use Rattle.cow_arena.specs.Nodes.{Arena, nodes_of, IsVisible, AreFamily, link_to, other_side, side_of, side_in, child_on}
-use Rattle.cow_arena.specs.Walk.{Slots, Tree, tree_with, Found, walk, frame_in, frame_at}
+use Rattle.cow_arena.specs.Walk.{Slots, Tree, tree_with, Found, walk, frame_in, frame_shown}
 use Rattle.cow_arena.specs.Forest.{IsForest}
 use Rattle.cow_arena.specs.Ways.{Climbs, Reaches, KeepsBelow}
 use Rattle.cow_arena.proofs.RisesSplicedLaws.{below-same, below-then, below-fewer, below-gone, below-moved}
@@ -41,19 +41,19 @@ use Rattle.cow_split.proofs.CutLaws.{exact-cut, cut-shows}
 use Rattle.frame_pool.specs.declared.frame_pool.Backlink.{Backlink}
 use Rattle.frame_pool.specs.Pool.{Pool, taken_frames, is_taken}
 use Rattle.cow_merge.specs.Ranges.{bit_on, leaving_range, ShowsSame, AreLinked, GivesBack, HasLeftOut, IsHeldBy, IsSparing}
-use Rattle.cow_merge.specs.inside.Lifting.{IsAside, AreLifted, IsLifting, IsBefore, IsFamilyOf, SeesRow, IsMoved, TellsSeen, HasGone, HasMoved, HasSettled, has_frame}
+use Rattle.cow_merge.specs.inside.Lifting.{IsAside, AreLifted, IsLifting, IsBefore, IsFamilyOf, SeesRow, IsMoved, TellsSeen, HasGone, HasLiftedRow, HasSettled, is_row_of_frame}
 use Rattle.cow_merge.proofs.RangeLaws.{gives-then, gives-same}
 use Rattle.cow_merge.proofs.PassingLaws.{linked-part, range-exact, range-shows}
 use Rattle.cow_merge.proofs.SpliceLaws.{family-apart}
 use Rattle.cow_merge.proofs.LiftLaws.{page-over, lists-apart, leaf-step, hidden, not-below, dropped-shows, dropped-exact, moved-shows, moved-exact}
 
 -- a slot that has a frame, by the test
-pub has-frame : (t : ℕ) (row : Slot) → frame_in row ≡ Some t → has_frame t row ≡ true
+pub has-frame : (t : ℕ) (row : Slot) → frame_in row ≡ Some t → is_row_of_frame t row ≡ true
 unfolding passes
 has-frame t slot.Zero e = absurd (cc)
 has-frame t (slot.Frame tag left right) e = eq-eqb t tag.0 (sym (some_same e))
 
-pub of-has-frame : (t : ℕ) (row : Slot) → has_frame t row ≡ true → frame_in row ≡ Some t
+pub of-has-frame : (t : ℕ) (row : Slot) → is_row_of_frame t row ≡ true → frame_in row ≡ Some t
 unfolding passes
 of-has-frame t slot.Zero e = absurd (cc)
 of-has-frame t (slot.Frame tag left right) e = ap Some (sym (eqb_is t tag.0 e))
@@ -296,7 +296,7 @@ module _ (t : Tree) (k h s : ℕ) (leaf parent sibling : Node) (family : AreFami
       aside = still.is_cut.aside;
       more = still.is_cut.more;
       shows = λ w p page sight.
-          sym (ap (λ (x : Slots). frame_at (record t { slots = x }) w p) still.same)
+          sym (ap (λ (x : Slots). frame_shown (record t { slots = x }) w p) still.same)
           ∙ (dropped-shows u f k h s leaf parent sibling family visible q closed still.now still.is_cut.aside w p (page-over t still.slots w p page) sight
           ∙ still.is_cut.shows w p page sight);
     }
@@ -327,7 +327,7 @@ module _ (t : Tree) (k h s : ℕ) (leaf parent sibling : Node) (family : AreFami
       aside = still.is_cut.aside;
       more = still.is_cut.more;
       shows = λ w p page sight.
-          sym (ap (λ (x : Slots). frame_at (record t { slots = with_pair x sibling.list.0 (q - sibling.first) (Some now) }) w p) still.same)
+          sym (ap (λ (x : Slots). frame_shown (record t { slots = with_pair x sibling.list.0 (q - sibling.first) (Some now) }) w p) still.same)
           ∙ (moved-shows u f k h s leaf parent sibling family visible q (q - sibling.first) still.there now still.at free sees.inside to_page frames
           still.now still.is_cut.aside w p (page-over t still.slots w p page) sight
           ∙ still.is_cut.shows w p page sight);
@@ -407,7 +407,7 @@ module _ (t : Tree) (k h s : ℕ) (leaf parent sibling : Node) (family : AreFami
             subst (λ x. leaving_out out k p k x ≡ true) (sym same) (left_out-here out k p);
         more = λ w r sight. (left_out-in_sight out k p w r sight).1;
         shows = λ w r page sight.
-            sym (ap (λ (x : Slots). frame_at (record t { slots = x }) w r) (cut-slots ∙ slots_is))
+            sym (ap (λ (x : Slots). frame_shown (record t { slots = x }) w r) (cut-slots ∙ slots_is))
             ∙ cut-shows t out in_use exact k p only leaf visible (bare p) w r page sight;
       }
 
@@ -588,7 +588,7 @@ module _ (arena : Arena) (old : Rows Row) (slots : Slots) (before after : Pool) 
   abbrev left_tree : Tree
   left_tree = tree_with (nodes_of arena) arena.lists slots
 
-  none-left : (q tag : ℕ) → 0 ≤ q → q < of.node.count → was.out k q ≡ false → frame_at left_tree k q ≡ Some tag → ⊥
+  none-left : (q tag : ℕ) → 0 ≤ q → q < of.node.count → was.out k q ≡ false → frame_shown left_tree k q ≡ Some tag → ⊥
   none-left q tag from below sight shown =
       let held = was.held q tag below sight shown in
       let same : held.above ≡ of.parent = some_same (sym held.at ∙ of.family.parent_at) in
@@ -681,7 +681,7 @@ module _ (arena : Arena) (old : Rows Row) (first : Slots) (before between after 
     bare = λ p. beside of.node.list.0 p three-lists.1 (λ both. three-lists.0 both.0) ∙ was.bare p;
     held = λ p tag below sight shown.
         let page : IsPage first_tree k p = record { node = of.node; visible = of.visible; below = below } in
-        let showed : frame_at first_tree k p ≡ Some tag = sym (is_cut.shows k p page sight) ∙ shown in
+        let showed : frame_shown first_tree k p ≡ Some tag = sym (is_cut.shows k p page sight) ∙ shown in
         let held = was.held p tag below (is_cut.more k p sight) showed in
         let same : held.above ≡ of.parent = some_same (sym held.at ∙ of.family.parent_at) in
         let list = ap (λ (n : Node). n.list.0) same in
@@ -764,7 +764,7 @@ module _ (arena : Arena) (first mid new : Rows Row) (between after : Pool) (k h 
           ∙ linked.linked m r other tag (was-there (slots_of first) above.list.0 q m r other (sym (ap (λ (x : Slots). x m r) gone-slots) ∙ e)).1 frame;
     }
 
-  module _ (moved : HasMoved arena mid new between after s beside_it q row) where
+  module _ (moved : HasLiftedRow arena mid new between after s beside_it q row) where
     abbrev to : ℕ
     to = q - beside_it.first
 
@@ -795,7 +795,7 @@ module _ (arena : Arena) (first mid new : Rows Row) (between after : Pool) (k h 
             moved.links tag ∙ (cond-true _ _ _ on ∙ link-same beside_it.list.0 m to r (sym here.0) (sym here.1))
         | inr there ↦
             let was_linked = linked.linked m r other tag there.1 frame in
-            elim (cases_Bool (has_frame tag moved.now)) [
+            elim (cases_Bool (is_row_of_frame tag moved.now)) [
               | inr off ↦ moved.links tag ∙ (cond-false _ _ _ off ∙ was_linked)
               | inl on ↦
                   let one = linked.linked above.list.0 q row tag has (sym moved.moved.frame ∙ of-has-frame tag moved.now on) in
@@ -876,7 +876,7 @@ module _ (arena : Arena) (old first mid new : Rows Row) (before between after : 
 
   -- ---- the row has moved
 
-  module _ (moved : HasMoved arena mid new between after s sibling q row) where
+  module _ (moved : HasLiftedRow arena mid new between after s sibling q row) where
     moved-next : SeesRow (slots_of first) sibling q →
         ((tag : Tag) (left right : Bool) → row ≡ slot.Frame tag left right → bit_on (other_side (side_of parent k)) left right ≡ false) →
         row_count mid + 1 ≡ row_count first → mid.spare ≡ first.spare + 1 → IsLifting arena old new before after k h s

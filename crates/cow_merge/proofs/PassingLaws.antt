@@ -18,7 +18,7 @@ use Rattle.cow_arena.specs.declared.node.Node.{Node}
 use Rattle.cow_arena.specs.declared.node.NodeId.{NodeId}
 use Rattle.cow_arena.specs.declared.node.Side.{Side}
 use Rattle.cow_arena.specs.Nodes.{Arena, Nodes, nodes_of, IsVisible, link_to}
-use Rattle.cow_arena.specs.Walk.{Slots, Tree, tree_with, Found, walk, frame_in, frame_found, frame_at, from_side}
+use Rattle.cow_arena.specs.Walk.{Slots, Tree, tree_with, Found, walk, frame_in, frame_found, frame_shown, from_side}
 use Rattle.cow_arena.specs.Forest.{IsForest}
 use Rattle.cow_arena.specs.Ways.{Climbs, Reaches, Arrives, IsPartOf}
 use Rattle.cow_arena.proofs.WalkLaws.{walk-past}
@@ -32,7 +32,7 @@ use Rattle.cow_split.proofs.ExactLaws.{exact-seen_alike, seen-carried}
 use Rattle.cow_split.proofs.RowLaws.{left_out-in_sight, frame-shown}
 use Rattle.cow_split.proofs.PartLaws.{part-none}
 use Rattle.cow_merge.specs.declared.ranges.Pages.{Pages}
-use Rattle.cow_merge.specs.Ranges.{leaving_range, AreLinked, HasLeftPageOut, IsBare, CameTo, ShowsSame, IsHeldBy, IsSpared, IsParent, IsOnlyWay, HasKept, HasPassedRow, IsPassing, IsSparing, HasLeftOut, IsExactFor, IsOutside, no_pages, IsNextOutside}
+use Rattle.cow_merge.specs.Ranges.{leaving_range, AreLinked, HasLeftPageOut, IsLeftBare, CameTo, ShowsSame, IsHeldBy, IsSpared, IsParent, IsOnlyWay, HasKept, HasPassedRow, IsPassing, IsSparing, HasLeftOut, IsExactFor, IsOutside, no_pages, IsNextOutside}
 use Rattle.cow_merge.proofs.CountLaws.{in_sight-outside, outside-other, outside-before}
 use Rattle.cow_merge.proofs.RangeLaws.{arrives-part, leaving-again, leaving-kept, leaving-more}
 
@@ -41,10 +41,10 @@ pub frame-from : (side : Option Side) (o : Option Found) → frame_found (from_s
 frame-from side None = refl
 frame-from side (Some it) = refl
 
-module _ (t : Tree) (f : IsForest t.nodes t.lists) (v q : ℕ) (skip : Pages) (h list shift to upto tag : ℕ) (shown : frame_at t v q ≡ Some tag)
+module _ (t : Tree) (f : IsForest t.nodes t.lists) (v q : ℕ) (skip : Pages) (h list shift to upto tag : ℕ) (shown : frame_shown t v q ≡ Some tag)
     (came : CameTo t v q skip h list shift to upto) where
   -- the page to which it comes shows the same frame
-  came-shows : frame_at t h came.page ≡ Some tag
+  came-shows : frame_shown t h came.page ≡ Some tag
   came-shows =
       sym (ap frame_found (walk-from t f v q came.side h came.page came.way) ∙ frame-from came.side (walk t h came.page)) ∙ shown
 
@@ -76,7 +76,7 @@ passing-again arena old new before after v first skip spared above shift to upto
 
 -- what is bare shows a frame through its window alone
 pub bare-inside : (arena : Arena) (rows : Rows Row) (f : IsForest (nodes_of arena) arena.lists) (v p tag : ℕ) (node : Node) → nodes_of arena v ≡ Some node →
-    slots_of rows node.list.0 p ≡ None → frame_at (tree_of arena rows) v p ≡ Some tag → p < node.seen
+    slots_of rows node.list.0 p ≡ None → frame_shown (tree_of arena rows) v p ≡ Some tag → p < node.seen
 bare-inside arena rows f v p tag node at free shown = elim (cases_lt p node.seen) [
   | inl less ↦ less
   | inr past ↦ let nothing = ap frame_found (walk-past (tree_of arena rows) f v p node at free past) in absurd (cc)
@@ -84,7 +84,7 @@ bare-inside arena rows f v p tag node at free shown = elim (cases_lt p node.seen
 
 -- it begins at the node itself
 pub passing-start : (arena : Arena) (old new : Rows Row) (before after : Pool) (v first : ℕ) (node : Node) →
-    IsBare arena old new before after v first → nodes_of arena v ≡ Some node →
+    IsLeftBare arena old new before after v first → nodes_of arena v ≡ Some node →
     IsPassing arena old new before after v first no_pages None node 0 node.seen node.seen
 passing-start arena old new before after v first node was at = record {
   bare = was;
@@ -107,7 +107,7 @@ passing-start arena old new before after v first node was at = record {
 
 -- it begins at the parent, which is spared
 pub passing-above : (arena : Arena) (old new : Rows Row) (before after : Pool) (v : ℕ) (node : Node) (hidden : NodeId) (above : Node) →
-    IsBare arena old new before after v 0 → nodes_of arena v ≡ Some node → node.parent ≡ Some hidden → nodes_of arena hidden.0 ≡ Some above →
+    IsLeftBare arena old new before after v 0 → nodes_of arena v ≡ Some node → node.parent ≡ Some hidden → nodes_of arena hidden.0 ≡ Some above →
     IsPassing arena old new before after v 0 no_pages (Some hidden) above node.first (node.first + node.seen) (node.first + node.seen)
 passing-above arena old new before after v node hidden above was at up above_at = record {
   bare = was;
@@ -178,7 +178,7 @@ module _ (arena : Arena) (old new : Rows Row) (before after : Pool) (v first : �
 
 -- it goes on at the parent of the node itself
 pub passing-parent : (arena : Arena) (old new : Rows Row) (before after : Pool) (v first : ℕ) (node : Node) (hidden : NodeId) (above : Node) →
-    IsBare arena old new before after v first → nodes_of arena v ≡ Some node → node.parent ≡ Some hidden → nodes_of arena hidden.0 ≡ Some above →
+    IsLeftBare arena old new before after v first → nodes_of arena v ≡ Some node → node.parent ≡ Some hidden → nodes_of arena hidden.0 ≡ Some above →
     IsPassing arena old new before after v first no_pages None above node.first (node.first + node.seen) (first + node.first)
 passing-parent arena old new before after v first node hidden above was at up above_at =
     subst (λ x. IsPassing arena old new before after v first no_pages None above node.first x (first + node.first)) (omega arith)
@@ -189,8 +189,8 @@ passing-parent arena old new before after v first node hidden above was at up ab
 -- A page that was held stays so, where rows went and it shows the frame that it showed.
 module _ (arena : Arena) (old new : Rows Row) (v : ℕ) (node : Node) (visible : IsVisible (nodes_of arena) v node) (out : ℕ → ℕ → Bool)
     (in_use : ℕ → Bool) (exact : IsExact (tree_of arena old) out in_use) (part : IsPartOf (slots_of old) (slots_of new)) where
-  held-stays : (h : NodeId) (p tag : ℕ) → node.parent ≡ Some h → slots_of old node.list.0 p ≡ None → frame_at (tree_of arena old) v p ≡ Some tag →
-      frame_at (tree_of arena new) v p ≡ Some tag → IsHeldBy (nodes_of arena) (slots_of old) h.0 node p → IsHeldBy (nodes_of arena) (slots_of new) h.0 node p
+  held-stays : (h : NodeId) (p tag : ℕ) → node.parent ≡ Some h → slots_of old node.list.0 p ≡ None → frame_shown (tree_of arena old) v p ≡ Some tag →
+      frame_shown (tree_of arena new) v p ≡ Some tag → IsHeldBy (nodes_of arena) (slots_of old) h.0 node p → IsHeldBy (nodes_of arena) (slots_of new) h.0 node p
   held-stays h p tag up free showed shows held = by_row (slots_of old held.above.list.0 (node.first + p)) refl
     where
       by_row : (o : Option Slot) → slots_of old held.above.list.0 (node.first + p) ≡ o → IsHeldBy (nodes_of arena) (slots_of new) h.0 node p
@@ -215,7 +215,7 @@ module _ (arena : Arena) (old new : Rows Row) (v : ℕ) (node : Node) (visible :
           }
 
   pub spared-stays : (spared : Option NodeId) (p tag : ℕ) → IsParent spared node → slots_of old node.list.0 p ≡ None →
-      frame_at (tree_of arena old) v p ≡ Some tag → frame_at (tree_of arena new) v p ≡ Some tag →
+      frame_shown (tree_of arena old) v p ≡ Some tag → frame_shown (tree_of arena new) v p ≡ Some tag →
       IsSpared (nodes_of arena) (slots_of old) spared node p → IsSpared (nodes_of arena) (slots_of new) spared node p
   spared-stays None p tag up free showed shows held = absurd held
   spared-stays (Some h) p tag up free showed shows held = held-stays h p tag (up h refl) free showed shows held
@@ -329,8 +329,8 @@ module _ (arena : Arena) (old mid new : Rows Row) (before between after : Pool) 
     h = was.h;
     at = was.at;
     came = λ q tag start below sight shown.
-        let showed : frame_at (tree_of arena mid) v q ≡ Some tag
-        = ap (λ s. frame_at (record (tree_of arena mid) { slots = s }) v q) (sym kept.rows) ∙ shown in
+        let showed : frame_shown (tree_of arena mid) v q ≡ Some tag
+        = ap (λ s. frame_shown (record (tree_of arena mid) { slots = s }) v q) (sym kept.rows) ∙ shown in
         elim (was.came q tag start below sight showed) [
           | inl held ↦ inl (subst (λ s. IsSpared (nodes_of arena) s spared was.bare.node q) (sym kept.rows) held)
           | inr came ↦ inr (subst (λ s. CameTo (record (tree_of arena mid) { slots = s }) v q skip was.h above.list.0 shift to (row + 1)) (sym kept.rows) (record {
@@ -407,7 +407,7 @@ module _ (arena : Arena) (old new : Rows Row) (before after : Pool) (v first : �
 
 -- exact where the pages that show a frame are out of sight as before
 exact-shown_alike : (t : Tree) (out now : ℕ → ℕ → Bool) (in_use : ℕ → Bool) → IsExact t out in_use →
-    ((w q tag : ℕ) → IsPage t w q → frame_at t w q ≡ Some tag → out w q ≡ now w q) → IsExact t now in_use
+    ((w q tag : ℕ) → IsPage t w q → frame_shown t w q ≡ Some tag → out w q ≡ now w q) → IsExact t now in_use
 exact-shown_alike t out now in_use exact alike = exact-seen_alike t out now in_use exact
     (λ k r node tag left right at hidden row side. (
       seen-carried t t out now side k r refl (λ w q sees in_sight. (refl, sym (seen k r node tag left right at row w q side sees) ∙ in_sight)),
@@ -446,14 +446,14 @@ module _ (arena : Arena) (old : Rows Row) (slots : Slots) (before after : Pool) 
     (exact : IsExact (tree_with (nodes_of arena) arena.lists slots) out (is_taken after)) (only : IsOnlyOf out v) (within : (q : ℕ) → out v q ≡ true → first ≤ q)
     (shows : ShowsSame (tree_of arena old) (tree_with (nodes_of arena) arena.lists slots) out)
     (none : (q tag : ℕ) → first ≤ q → q < node.count → out v q ≡ false →
-    frame_at (tree_with (nodes_of arena) arena.lists slots) v q ≡ Some tag → ⊥) where
+    frame_shown (tree_with (nodes_of arena) arena.lists slots) v q ≡ Some tag → ⊥) where
   abbrev t : Tree
   t = tree_with (nodes_of arena) arena.lists slots
 
   below-count : (q : ℕ) → IsPage t v q → q < node.count
   below-count q page = subst (λ (n : Node). q < n.count) (some_same (sym page.visible.at ∙ at)) page.below
 
-  out-mine : (q tag : ℕ) → IsPage t v q → frame_at t v q ≡ Some tag → out v q ≡ leaving_range all_in_sight v first node.count v q
+  out-mine : (q tag : ℕ) → IsPage t v q → frame_shown t v q ≡ Some tag → out v q ≡ leaving_range all_in_sight v first node.count v q
   out-mine q tag page shown = elim (cases_lt q first) [
     | inl before ↦ elim (cases_Bool (out v q)) [
       | inl hidden ↦ let from = within q hidden in absurd (omega arith)
@@ -465,11 +465,11 @@ module _ (arena : Arena) (old : Rows Row) (slots : Slots) (before after : Pool) 
     ]
   ]
 
-  out-same : (w q tag : ℕ) → IsPage t w q → frame_at t w q ≡ Some tag → out w q ≡ leaving_range all_in_sight v first node.count w q
+  out-same : (w q tag : ℕ) → IsPage t w q → frame_shown t w q ≡ Some tag → out w q ≡ leaving_range all_in_sight v first node.count w q
   out-same w q tag page shown = elim (cases_eq w v) [
     | inl same ↦
         subst (λ k. out k q ≡ leaving_range all_in_sight v first node.count k q) (sym same)
-        (out-mine q tag (subst (λ k. IsPage t k q) same page) (ap (λ k. frame_at t k q) (sym same) ∙ shown))
+        (out-mine q tag (subst (λ k. IsPage t k q) same page) (ap (λ k. frame_shown t k q) (sym same) ∙ shown))
     | inr apart ↦ elim (cases_Bool (out w q)) [
       | inl hidden ↦ absurd (apart (only w q hidden))
       | inr seen ↦ seen ∙ sym (outside-other v first node.count w q apart)
@@ -496,7 +496,7 @@ module _ (arena : Arena) (old new : Rows Row) (before after : Pool) (v first : �
     (was : IsPassing arena old new before after v first skip spared above shift to to)
     (top : (parent : NodeId) → above.parent ≡ Some parent → (q : ℕ) → first ≤ q → q + shift < to → q + shift < above.seen → IsOutside skip q → ⊥) where
   -- a page that came to the last node shows nothing
-  shows-none : (q tag : ℕ) → first ≤ q → frame_at (tree_of arena new) v q ≡ Some tag → CameTo (tree_of arena new) v q skip was.h above.list.0 shift to to → ⊥
+  shows-none : (q tag : ℕ) → first ≤ q → frame_shown (tree_of arena new) v q ≡ Some tag → CameTo (tree_of arena new) v q skip was.h above.list.0 shift to to → ⊥
   shows-none q tag from shown came =
       let f = was.bare.leaving.exact.forest in
       let inside = came-inside (tree_of arena new) f v q skip was.h above.list.0 shift to to tag shown came above was.at (came.free came.below) in
@@ -523,7 +523,7 @@ pub sparing-none : (arena : Arena) (old new : Rows Row) (before after : Pool) (v
 sparing-none arena old new before after v first node at was =
     let leaving = was.bare.leaving in
     let same : was.bare.node ≡ node = some_same (sym was.bare.visible.at ∙ at) in
-    let none : (q tag : ℕ) → first ≤ q → q < node.count → was.bare.out v q ≡ false → frame_at (tree_of arena new) v q ≡ Some tag → ⊥ =
+    let none : (q tag : ℕ) → first ≤ q → q < node.count → was.bare.out v q ≡ false → frame_shown (tree_of arena new) v q ≡ Some tag → ⊥ =
     λ q tag from below. was.spares q tag from (subst (λ (n : Node). q < n.count) (sym same) below) in
     record {
       exact = range-exact arena old (slots_of new) before after v first node at was.bare.out leaving.exact leaving.only leaving.within leaving.shows none;

@@ -16,7 +16,7 @@ use Rattle.frame_pool.specs.Pool.{Pool, taken_frames, links_of, is_taken}
 use Rattle.cow_arena.specs.declared.node.Node.{Node}
 use Rattle.cow_arena.specs.declared.node.Side.{Side}
 use Rattle.cow_arena.specs.Nodes.{Arena, nodes_of, IsVisible}
-use Rattle.cow_arena.specs.Walk.{Slots, Tree, frame_in, frame_at}
+use Rattle.cow_arena.specs.Walk.{Slots, Tree, frame_in, frame_shown}
 use Rattle.cow_arena.specs.Forest.{IsForest}
 use Rattle.cow_arena.specs.Ways.{Climbs, Reaches, Arrives, IsPartOf}
 use Rattle.cow_arena.proofs.ReachLaws.{reach-one, reach-more, reach-each}
@@ -29,7 +29,7 @@ use Rattle.cow_split.specs.Cutting.{cut_slots, frame_left, HasCut}
 use Rattle.cow_split.proofs.RowLaws.{left_out-in_sight, left_out-other, only-more, only-none, exact-in_use_alike, exact-own_gone, own-shows, frame-in_use}
 use Rattle.cow_split.proofs.CutLaws.{exact-cut, cut-last, cut-shows}
 use Rattle.cow_split.proofs.PartLaws.{part-same, part-with_pair, part-then, part-none, part-cut}
-use Rattle.cow_merge.specs.Ranges.{GivesBack, HasGiven, HasLeftPageOut, IsLeaving, IsDropping, IsBare, HasKept}
+use Rattle.cow_merge.specs.Ranges.{GivesBack, HasGiven, HasLeftPageOut, IsLeaving, IsDropping, IsLeftBare, HasKept}
 
 -- a way stays where rows go
 module _ (t : Tree) (slots : Slots) (part : IsPartOf t.slots slots) where
@@ -130,7 +130,7 @@ module _ (arena : Arena) (old new : Rows Row) (v p : ℕ) (node : Node) (visible
         (sym has.answers)
         (exact-cut (tree_of arena old) out (is_taken before) exact v p only node visible none)));
     shows = λ out exact only w q page in_sight.
-        ap (λ s. frame_at (record (tree_of arena old) { slots = s }) w q) has.slots
+        ap (λ s. frame_shown (record (tree_of arena old) { slots = s }) w q) has.slots
         ∙ cut-shows (tree_of arena old) out (is_taken before) exact v p only node visible none w q page in_sight;
     part = part-cut arena old new v p answer forest node visible none has;
     links = given.links;
@@ -151,7 +151,7 @@ module _ (arena : Arena) (old new : Rows Row) (v p : ℕ) (node : Node) (visible
         (sym slots)
         (exact-own_gone (tree_of arena old) v p node visible out (is_taken before) row exact at));
     shows = λ out exact only w q page in_sight.
-        ap (λ s. frame_at (record (tree_of arena old) { slots = s }) w q) slots
+        ap (λ s. frame_shown (record (tree_of arena old) { slots = s }) w q) slots
         ∙ own-shows (tree_of arena old) v p node visible forest None w q page (left_out-in_sight out v p w q in_sight).0;
     part = subst (λ s. IsPartOf (slots_of old) s) (sym slots)
         (part-with_pair (slots_of old) node.list.0 p None (λ row e. absurd (cc)));
@@ -225,7 +225,7 @@ leaving-kept arena old mid new before between after v first out leaving kept = r
       (subst (λ s. IsExact (record (tree_of arena mid) { slots = s }) out (is_taken between)) (sym kept.rows) leaving.exact);
   only = leaving.only;
   within = leaving.within;
-  shows = λ w q page e. ap (λ s. frame_at (record (tree_of arena mid) { slots = s }) w q) kept.rows ∙ leaving.shows w q page e;
+  shows = λ w q page e. ap (λ s. frame_shown (record (tree_of arena mid) { slots = s }) w q) kept.rows ∙ leaving.shows w q page e;
   part = subst (λ s. IsPartOf (slots_of old) s) (sym kept.rows) leaving.part;
   links = kept.links ∙ leaving.links;
   gives = gives-then before between after leaving.gives kept.gives;
@@ -275,7 +275,7 @@ module _ (arena : Arena) (old mid new : Rows Row) (before between after : Pool) 
 
 pub dropping-end : (arena : Arena) (old new : Rows Row) (before after : Pool) (v : ℕ) (node : Node) (first end : ℕ) →
     IsDropping arena old new before after v node first end → first ≤ end → IsNext (slots_of new node.list.0) end None →
-    IsBare arena old new before after v first
+    IsLeftBare arena old new before after v first
 dropping-end arena old new before after v node first end was from next = record {
   out = was.out;
   leaving = was.leaving;

@@ -12,7 +12,7 @@ use Rattle.frame_pool.specs.Pool.{Pool, is_taken}
 use Rattle.cow_arena.specs.declared.node.Node.{Node}
 use Rattle.cow_arena.specs.declared.node.NodeId.{NodeId}
 use Rattle.cow_arena.specs.Nodes.{Arena, Nodes, nodes_of, node_above, IsVisible}
-use Rattle.cow_arena.specs.Walk.{Tree, frame_at}
+use Rattle.cow_arena.specs.Walk.{Tree, frame_shown}
 use Rattle.cow_arena.specs.Forest.{IsForest}
 use Rattle.cow_arena.specs.Changes.{window_first, with_window}
 use Rattle.cow_arena.specs.Counts.{hidden_count, visible_count}
@@ -151,7 +151,7 @@ module _ (arena between new : Arena) (v count : ℕ) (node : Node) (visible : Is
         lists = same_lists;
         hidden = hidden ∙ narrowed.hidden;
         visible = shown ∙ narrowed.visible;
-        shows = subst (λ (u : Tree). (w q : ℕ) → IsPage u w q → frame_at u w q ≡ frame_at (tree_of arena rows) w q) (sym now)
+        shows = subst (λ (u : Tree). (w q : ℕ) → IsPage u w q → frame_shown u w q ≡ frame_shown (tree_of arena rows) w q) (sym now)
             (λ w q page.
             let was = narrowed-page t v count node visible few g w q page in
             narrowed-shows t v count node visible few g left.exact.forest w q page ∙ left.shows w q (rows-page w q was.0) (sight w q was.1));

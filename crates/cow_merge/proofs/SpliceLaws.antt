@@ -10,8 +10,8 @@ use Rattle.page_list.specs.declared.row.Slot.{Slot}
 use Rattle.cow_arena.specs.declared.node.Node.{Node}
 use Rattle.cow_arena.specs.declared.node.Side.{Side}
 use Rattle.cow_arena.specs.Nodes.{Nodes, IsVisible, AreFamily}
-use Rattle.cow_arena.specs.Walk.{Tree, walk, frame_found, frame_at}
-use Rattle.cow_arena.specs.Forest.{IsForest, AreListed}
+use Rattle.cow_arena.specs.Walk.{Tree, walk, frame_found, frame_shown}
+use Rattle.cow_arena.specs.Forest.{IsForest, HasListedRows}
 use Rattle.cow_arena.specs.Changes.{lifted, spliced}
 use Rattle.cow_arena.proofs.ReachLaws.{hidden-apart}
 use Rattle.cow_arena.proofs.RelinkLaws.{relinked-stays, relinked-was}
@@ -129,10 +129,10 @@ module _ (old new : Tree) (k : ℕ) (without : IsWithout old new k) where
       let there = kept-page new old w p page back in
       (was.2, there, without.walks w p there.node there.visible was.2)
 
-  pub without-shows : (w p : ℕ) → IsPage old w p → w ≢ k → frame_at new w p ≡ frame_at old w p
+  pub without-shows : (w p : ℕ) → IsPage old w p → w ≢ k → frame_shown new w p ≡ frame_shown old w p
   without-shows w p page apart = ap frame_found (without.walks w p page.node page.visible apart)
 
-  pub without-showed : (w p : ℕ) → IsPage new w p → frame_at new w p ≡ frame_at old w p
+  pub without-showed : (w p : ℕ) → IsPage new w p → frame_shown new w p ≡ frame_shown old w p
   without-showed w p page = ap frame_found (without-page w p page).2
 
   -- whoever is left stays visible, and no other node is
@@ -167,7 +167,7 @@ module _ (old new : Tree) (k : ℕ) (without : IsWithout old new k) where
 
 -- the tree stays exact
 pub exact-without : (t : Tree) (nodes : Nodes) (k : ℕ) → IsWithout t (record t { nodes = nodes }) k → (out : ℕ → ℕ → Bool) (in_use : ℕ → Bool) →
-    IsExact t out in_use → IsForest nodes t.lists → AreListed (record t { nodes = nodes }) → IsOnlyOf out k → IsAllOut t out k →
+    IsExact t out in_use → IsForest nodes t.lists → HasListedRows (record t { nodes = nodes }) → IsOnlyOf out k → IsAllOut t out k →
     IsExact (record t { nodes = nodes }) all_in_sight in_use
 exact-without t nodes k without out in_use exact g listed only all = exact-moved t nodes out all_in_sight in_use exact g listed came below
     (without-seen t (record t { nodes = nodes }) k without out only all)
@@ -213,7 +213,7 @@ module _ (t : Tree) (f : IsForest t.nodes t.lists) (k h s : ℕ) (leaf parent si
       (spliced-listed t f k h s leaf parent sibling family visible empty g bare exact.listed) only all
 
   -- each page of another VMO shows what it showed
-  pub spliced-shows : (w p : ℕ) → IsPage t w p → w ≢ k → frame_at (record t { nodes = spliced t.nodes k h s parent sibling }) w p ≡ frame_at t w p
+  pub spliced-shows : (w p : ℕ) → IsPage t w p → w ≢ k → frame_shown (record t { nodes = spliced t.nodes k h s parent sibling }) w p ≡ frame_shown t w p
   spliced-shows = without-shows t (record t { nodes = spliced t.nodes k h s parent sibling }) k spliced-without
 
 -- ---- a root goes
@@ -238,5 +238,5 @@ module _ (t : Tree) (f : IsForest t.nodes t.lists) (k : ℕ) (leaf : Node) (visi
       (removed-listed t f k leaf visible g bare exact.listed) only all
 
   -- each page of another VMO shows what it showed
-  pub removed_root-shows : (w p : ℕ) → IsPage t w p → w ≢ k → frame_at (record t { nodes = without_key t.nodes k }) w p ≡ frame_at t w p
+  pub removed_root-shows : (w p : ℕ) → IsPage t w p → w ≢ k → frame_shown (record t { nodes = without_key t.nodes k }) w p ≡ frame_shown t w p
   removed_root-shows = without-shows t (record t { nodes = without_key t.nodes k }) k removed_root-without

@@ -17,7 +17,7 @@ use Rattle.cow_arena.specs.declared.node.NodeId.{NodeId}
 use Rattle.cow_arena.specs.declared.node.Side.{Side}
 use Rattle.cow_arena.specs.declared.node.Side.TheVariants as side
 use Rattle.cow_arena.specs.Nodes.{Arena, nodes_of, IsVisible, link_to, child_on, other_side, side_of}
-use Rattle.cow_arena.specs.Walk.{Slots, Tree, Found, walk, frame_in, frame_at}
+use Rattle.cow_arena.specs.Walk.{Slots, Tree, Found, walk, frame_in, frame_shown}
 use Rattle.cow_arena.specs.Forest.{IsForest}
 use Rattle.cow_arena.specs.Ways.{Climbs, SameFrames, IsPartOf}
 use Rattle.cow_arena.proofs.AlikeLaws.{with_pair-same, with_pair-other, frames-back, found-alike, frame-alike}
@@ -229,7 +229,7 @@ module _ (t : Tree) (in_use : ℕ → Bool) (exact : IsExact t all_in_sight in_u
       })
       (λ none. bits-now row refl)
 
-  pub uncovered-shows : (w x : ℕ) → w ≢ k → IsPage t w x → frame_at last w x ≡ frame_at t w x
+  pub uncovered-shows : (w x : ℕ) → w ≢ k → IsPage t w x → frame_shown last w x ≡ frame_shown t w x
   uncovered-shows w x differs page = frame-alike mid last.slots alike f w x ∙ own-shows t k p leaf visible f None w x page (λ both. differs both.0)
 
   pub uncovered-part : IsPartOf t.slots last.slots
@@ -352,7 +352,7 @@ module _ (arena : Arena) (old first new : Rows Row) (before between after : Pool
           (λ x. sym (it.given.taken x))
           (uncovered-exact t_first (is_taken between) was.exact k h p q leaf parent shown link parent_at inside refl it.own it.row it.own_at it.row_at));
       shows = λ w x differs page.
-          ap (λ (s : Slots). frame_at (record t_first { slots = s }) w x) it.slots
+          ap (λ (s : Slots). frame_shown (record t_first { slots = s }) w x) it.slots
           ∙ (uncovered-shows t_first (is_taken between) was.exact k h p q leaf parent shown link parent_at inside refl it.own it.row it.own_at it.row_at w x differs
           (record { node = page.node; visible = page.visible; below = page.below })
           ∙ was.shows w x differs page);

@@ -17,7 +17,7 @@ use Rattle.cow_arena.specs.declared.node.Side.{Side}
 use Rattle.cow_arena.specs.declared.node.Side.TheVariants as side
 use Rattle.cow_arena.specs.Nodes.{Arena, nodes_of, link_to, other_side, side_of}
 use Rattle.cow_arena.specs.Forest.{IsForest}
-use Rattle.cow_arena.specs.Walk.{Tree, frame_at, frame_found, frame_in}
+use Rattle.cow_arena.specs.Walk.{Tree, frame_shown, frame_found, frame_in}
 use Rattle.cow_arena.specs.Ways.{Climbs, Reaches}
 use Rattle.cow_arena.proofs.ReachLaws.{reach-one, reach-apart, side-is, walk-ends, found-of-reach}
 use Rattle.cow_arena.proofs.WalkLaws.{link_same}
@@ -99,7 +99,7 @@ module _ (arena : Arena) (old new : Rows Row) (before after : Pool) (v first : �
   now = shared was.bare.out v (is_shared from end page_at)
 
   -- a page that goes out of sight, and what comes there from the witness
-  climbs-there : (x tag : ℕ) → first ≤ x → frame_at t v x ≡ Some tag → Climbs t v x h (x + base)
+  climbs-there : (x tag : ℕ) → first ≤ x → frame_shown t v x ≡ Some tag → Climbs t v x h (x + base)
   climbs-there x tag start shown = record {
     node = was.bare.node;
     at = was.bare.visible.at;
@@ -121,7 +121,7 @@ module _ (arena : Arena) (old new : Rows Row) (before after : Pool) (v first : �
       absurd (cc)
 
   -- the witness is another VMO's node
-  witness-apart : (x p tag : ℕ) → first ≤ x → frame_at t v x ≡ Some tag → Reaches t way.at.0 p s h (x + base) → way.at.0 ≢ v
+  witness-apart : (x p tag : ℕ) → first ≤ x → frame_shown t v x ≡ Some tag → Reaches t way.at.0 p s h (x + base) → way.at.0 ≢ v
   witness-apart x p tag start shown there same =
       let own = side-is (nodes_of arena) arena.lists f h v above was.bare.node was.at was.bare.visible.at up in
       let mine = reach-one t v x (side_of above v) h (x + base) (climbs-there x tag start shown) own in
@@ -138,7 +138,7 @@ module _ (arena : Arena) (old new : Rows Row) (before after : Pool) (v first : �
       let ends = walk-ends t f v x _ sees.found in
       let one : ends.row.node ≡ node = some_same (sym ends.row.at ∙ at) in
       let slot_is : sees.slot ≡ slot.Frame tag left right = some_same (sym (subst (λ (n : Node). slots_of new n.list.0 r ≡ Some sees.slot) one ends.row.row) ∙ row) in
-      let shown : frame_at t v x ≡ Some tag.0 = ap frame_found sees.found ∙ ap frame_in slot_is in
+      let shown : frame_shown t v x ≡ Some tag.0 = ap frame_found sees.found ∙ ap frame_in slot_is in
       let count : x < was.bare.node.count = subst (λ (n : Node). x < n.count) (some_same (sym sees.page.visible.at ∙ was.bare.visible.at)) sees.page.below in
       elim (was.came x tag.0 start count sight shown) [
         | inl held ↦ absurd (not-spared spared was.parent x parts.2 held)

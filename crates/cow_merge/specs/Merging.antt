@@ -10,7 +10,7 @@ use Rattle.cow_arena.specs.Nodes.{Arena, Nodes, nodes_of, IsVisible, link_to, si
 use Rattle.cow_arena.specs.Forest.{IsChild}
 use Rattle.cow_arena.specs.Changes.{with_window}
 use Rattle.cow_arena.specs.Counts.{hidden_count, visible_count}
-use Rattle.cow_arena.specs.Walk.{frame_at}
+use Rattle.cow_arena.specs.Walk.{frame_shown}
 use Rattle.cow_arena.specs.Ways.{IsPartOf}
 use Rattle.cow_split.specs.Trees.{tree_of}
 use Rattle.cow_split.specs.Sight.{IsPage, StaysVisible}
@@ -37,7 +37,7 @@ pub record HasShrunk (old new : Arena) (rows rows_after : Rows Row) (before afte
   pub hidden : hidden_count new ≡ hidden_count old
   pub visible : visible_count new ≡ visible_count old
   pub shows : (w q : ℕ) → IsPage (tree_of new rows_after) w q →
-      frame_at (tree_of new rows_after) w q ≡ frame_at (tree_of old rows) w q
+      frame_shown (tree_of new rows_after) w q ≡ frame_shown (tree_of old rows) w q
   pub pool : GivesBack before after
   pub linked : AreLinked rows before → AreLinked rows_after after
   pub spare : rows.spare ≤ rows_after.spare
@@ -74,7 +74,7 @@ pub record HasClosed (old new : Arena) (rows rows_after : Rows Row) (before afte
   pub lists : new.lists ≡ old.lists
   pub visible : suc (visible_count new) ≡ visible_count old
   pub shows : (w q : ℕ) → IsPage (tree_of new rows_after) w q →
-      frame_at (tree_of new rows_after) w q ≡ frame_at (tree_of old rows) w q
+      frame_shown (tree_of new rows_after) w q ≡ frame_shown (tree_of old rows) w q
   pub pool : GivesBack before after
   pub linked : AreLinked rows before → AreLinked rows_after after
   pub spare : rows.spare ≤ rows_after.spare

@@ -11,7 +11,7 @@ use Rattle.cow_arena.specs.declared.node.Side.{Side}
 use Rattle.cow_arena.specs.declared.node.Side.TheVariants as side
 use Rattle.cow_arena.specs.declared.node.NodeId.{NodeId}
 use Rattle.cow_arena.specs.Nodes.{Arena, Nodes, nodes_of, IsVisible}
-use Rattle.cow_arena.specs.Walk.{Slots, Tree, tree_with, frame_at, frame_in}
+use Rattle.cow_arena.specs.Walk.{Slots, Tree, tree_with, frame_shown, frame_in}
 use Rattle.cow_arena.specs.Ways.{Reaches, Arrives, IsPartOf}
 use Rattle.cow_split.specs.Trees.{tree_of}
 use Rattle.cow_split.specs.Sight.{IsPage}
@@ -34,7 +34,7 @@ pub record GivesBack (before after : Pool) : Type 0 where
 
 -- Each visible node shows what it showed, at the pages that are in sight.
 abbrev pub ShowsSame : (old new : Tree) → (out : ℕ → ℕ → Bool) → Type 0
-ShowsSame old new out = (w q : ℕ) → IsPage old w q → out w q ≡ false → frame_at new w q ≡ frame_at old w q
+ShowsSame old new out = (w q : ℕ) → IsPage old w q → out w q ≡ false → frame_shown new w q ≡ frame_shown old w q
 
 -- each page of v is left out
 abbrev pub IsAllOut : Tree → (ℕ → ℕ → Bool) → ℕ → Type 0
@@ -80,7 +80,7 @@ pub record IsDropping (arena : Arena) (old new : Rows Row) (before after : Pool)
   pub bare : (p : ℕ) → first ≤ p → p < end → slots_of new node.list.0 p ≡ None
 
 -- some pages of the visible node v, all from `first` on, are left out, and v has no rows from there on
-pub record IsBare (arena : Arena) (old new : Rows Row) (before after : Pool) (v first : ℕ) : Type 0 where
+pub record IsLeftBare (arena : Arena) (old new : Rows Row) (before after : Pool) (v first : ℕ) : Type 0 where
   pub out : ℕ → ℕ → Bool
   pub leaving : IsLeaving arena old new before after v first out
   pub node : Node
@@ -133,21 +133,21 @@ IsParent spared node = (h : NodeId) → spared ≡ Some h → node.parent ≡ So
 -- a page of h below `to`, is not passed over, and comes to no row of h below `upto`.
 pub record IsPassing (arena : Arena) (old new : Rows Row) (before after : Pool) (v first : ℕ) (skip : Pages) (spared : Option NodeId)
     (above : Node) (shift to upto : ℕ) : Type 0 where
-  pub bare : IsBare arena old new before after v first
+  pub bare : IsLeftBare arena old new before after v first
   pub parent : IsParent spared bare.node
   pub h : ℕ
   pub at : nodes_of arena h ≡ Some above
-  pub came : (q tag : ℕ) → first ≤ q → q < bare.node.count → bare.out v q ≡ false → frame_at (tree_of arena new) v q ≡ Some tag →
+  pub came : (q tag : ℕ) → first ≤ q → q < bare.node.count → bare.out v q ≡ false → frame_shown (tree_of arena new) v q ≡ Some tag →
       IsSpared (nodes_of arena) (slots_of new) spared bare.node q ⊎ CameTo (tree_of arena new) v q skip h above.list.0 shift to upto
 
 -- Each page of v from `first` on that still shows a frame is held by the node that is spared.
 pub record IsSparing (arena : Arena) (old new : Rows Row) (before after : Pool) (v first : ℕ) (spared : Option NodeId) : Type 0 where
-  pub bare : IsBare arena old new before after v first
-  pub spares : (q tag : ℕ) → first ≤ q → q < bare.node.count → bare.out v q ≡ false → frame_at (tree_of arena new) v q ≡ Some tag →
+  pub bare : IsLeftBare arena old new before after v first
+  pub spares : (q tag : ℕ) → first ≤ q → q < bare.node.count → bare.out v q ≡ false → frame_shown (tree_of arena new) v q ≡ Some tag →
       IsSpared (nodes_of arena) (slots_of new) spared bare.node q
 
 -- a range of pages of v is on its way up, and some parent may be spared
-pub record IsUnderWay (arena : Arena) (rows : Rows Row) (pool : Pool) (v first : ℕ) (skip : Pages) (above : Node) (shift to upto : ℕ) : Type 0 where
+pub record IsOnItsWayUp (arena : Arena) (rows : Rows Row) (pool : Pool) (v first : ℕ) (skip : Pages) (above : Node) (shift to upto : ℕ) : Type 0 where
   pub spared : Option NodeId
   pub passing : IsPassing arena rows rows pool pool v first skip spared above shift to upto
 

@@ -9,7 +9,7 @@ ghost use Rattle.cow_arena.specs.Nodes.{nodes_of};
 ghost use Rattle.cow_arena.specs.Walk.{frame_in};
 ghost use Rattle.frame_pool.specs.Pool.{Pool, taken_frames};
 ghost use Rattle.cow_merge.specs.inside.Lifting.{IsLifting};
-ghost use Rattle.cow_merge.specs.inside.HandingOver.{frame_there, HasNoRow, HasRowPut, AreSeenFrom, IsHandingOver, HasHandedOver};
+ghost use Rattle.cow_merge.specs.inside.HandingOver.{frame_there, HasDroppedRow, HasRowPut, AreSeenFrom, IsHandingOver, HasHandedOver};
 
 use crate::lifting::{lift_rows, note_place};
 use crate::ranges::give_back_frame;
@@ -119,7 +119,7 @@ fn put_row(lists: &mut PageLists, frames: &mut FramePool, list: ListId, page: Pa
 /// Removes the row of a page of a list, if it has one, and gives its frame back.
 fn clear_page(lists: &mut PageLists, frames: &mut FramePool, list: ListId, page: PageNo)
     requires { (tag : ℕ) → frame_there (slots_of lists.old list.0 page) ≡ Some tag → IsSome (taken_frames frames.old tag) }
-    ensures { HasNoRow lists.old lists.new frames.old frames.new list.0 page }
+    ensures { HasDroppedRow lists.old lists.new frames.old frames.new list.0 page }
 {
     let Some(slot) = lists.find(list, page) else {
         return;

@@ -14,7 +14,7 @@ ghost use Rattle.cow_arena.specs.Walk.{frame_in};
 ghost use Rattle.cow_split.specs.Trees.{tree_of};
 ghost use Rattle.frame_pool.specs.Pool.{Pool, taken_frames, links_of};
 ghost use Rattle.cow_merge.specs.Ranges.{bit_on};
-ghost use Rattle.cow_merge.specs.inside.Lifting.{IsLifting, IsBefore, HasSettled, SeesRow, IsMoved, has_frame};
+ghost use Rattle.cow_merge.specs.inside.Lifting.{IsLifting, IsBefore, HasSettled, SeesRow, IsMoved, is_row_of_frame};
 
 use crate::ranges::give_back_frame;
 use cow_arena::{CowArena, Node, NodeId, Side};
@@ -183,7 +183,7 @@ pub(crate) fn note_place(frames: &mut FramePool, slot: Slot, list: ListId, page:
     ensures taken { taken_frames frames.new ≡ taken_frames frames.old }
     ensures frames { frames.new.frames ≡ frames.old.frames }
     ensures links { (t : ℕ) → links_of frames.new t ≡
-        (if has_frame t slot then record { list = list.0; page = page } else links_of frames.old t) }
+        (if is_row_of_frame t slot then record { list = list.0; page = page } else links_of frames.old t) }
 {
     if let Slot::Frame { tag, .. } = slot {
         frames.set_backlink(tag, Backlink { list: list.0, page });

@@ -19,7 +19,7 @@ ghost use Rattle.cow_split.specs.declared.answers.Cut.TheVariants as cut;
 ghost use Rattle.balanced_tree.specs.Pairs.{IsNext};
 ghost use Rattle.cow_jump.specs.Jumps.{MayJump};
 ghost use Rattle.cow_merge.specs.inside.Lifting.{IsFamilyOf};
-ghost use Rattle.cow_merge.specs.Ranges.{IsOutside, no_pages, IsNextOutside, bare_of, is_split, HasGiven, IsBare, IsPassing, IsUnderWay, IsSparing, IsOnlyWay, HasPassedRow, KeepsList, KeepsOthers, HasLeftOut, IsExactFor};
+ghost use Rattle.cow_merge.specs.Ranges.{IsOutside, no_pages, IsNextOutside, bare_of, is_split, HasGiven, IsLeftBare, IsPassing, IsOnItsWayUp, IsSparing, IsOnlyWay, HasPassedRow, KeepsList, KeepsOthers, HasLeftOut, IsExactFor};
 
 use crate::witness::leave_out_beside;
 use cow_arena::{CowArena, Node, NodeId, Side};
@@ -121,7 +121,7 @@ fn leave_out_further(
     to: PageNo,
 )
     requires passing { (above : Node) → nodes_of arena.now hidden.0 ≡ Some above →
-        IsUnderWay arena.now lists.old frames.old leaf.0 first no_pages above shift to to }
+        IsOnItsWayUp arena.now lists.old frames.old leaf.0 first no_pages above shift to to }
     requires family { IsFamilyOf arena.now leaf.0 hidden.0 sibling.0 }
     requires base { (node : Node) → nodes_of arena.now leaf.0 ≡ Some node → shift ≡ node.first }
     requires end { (node : Node) → nodes_of arena.now leaf.0 ≡ Some node → to ≤ shift + node.seen }
@@ -157,7 +157,7 @@ fn cut_upwards(
     shift: PageNo,
     to: PageNo,
 )
-    requires passing { IsUnderWay arena.now lists.old frames.old leaf.0 first skip node shift to to }
+    requires passing { IsOnItsWayUp arena.now lists.old frames.old leaf.0 first skip node shift to to }
     requires start { nodes_of arena.now start.0 ≡ Some node }
     requires way { first + shift < to → ComesTo (bare_of arena.now) leaf.0 first start.0 (first + shift) }
     requires range { first + shift < 2 ^ 64 }
@@ -213,7 +213,7 @@ fn drop_rows(
 )
     requires exact { IsExact (tree_of arena.now lists.old) all_in_sight (is_taken frames.old) }
     requires leaf { IsSomeAnd (nodes_of arena.now leaf.0) (λ node. IsSome node.koid) }
-    ensures bare { IsBare arena.now lists.old lists.new frames.old frames.new leaf.0 first }
+    ensures bare { IsLeftBare arena.now lists.old lists.new frames.old frames.new leaf.0 first }
     ensures others { (node : Node) → nodes_of arena.now leaf.0 ≡ Some node → KeepsOthers lists.old lists.new node.list.0 }
 {
     let node = arena.node(leaf);
@@ -250,7 +250,7 @@ fn cut_rows(
     shift: PageNo,
     to: PageNo,
 )
-    requires passing { IsUnderWay arena.now lists.old frames.old leaf.0 first skip above shift to (first + shift) }
+    requires passing { IsOnItsWayUp arena.now lists.old frames.old leaf.0 first skip above shift to (first + shift) }
     requires node { nodes_of arena.now node.0 ≡ Some above }
     requires way { Reaches (bare_of arena.now) leaf.0 first side node.0 (first + shift) }
     requires range { first + shift < to }

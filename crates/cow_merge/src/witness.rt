@@ -13,7 +13,7 @@ ghost use Rattle.cow_arena.specs.Forest.{IsForest, IsChild};
 ghost use Rattle.cow_split.specs.Trees.{tree_of};
 ghost use Rattle.cow_jump.specs.Jumps.{MayJump};
 ghost use Rattle.cow_merge.specs.inside.Lifting.{IsFamilyOf};
-ghost use Rattle.cow_merge.specs.Ranges.{no_pages, IsPassing, IsUnderWay, IsExactFor, KeepsList};
+ghost use Rattle.cow_merge.specs.Ranges.{no_pages, IsPassing, IsOnItsWayUp, IsExactFor, KeepsList};
 ghost use Rattle.cow_merge.specs.inside.Witness.{IsGoingDown, IsBeside, IsEntered, IsPageCut};
 
 use crate::ranges::{Pages, cut_off, next_below};
@@ -59,7 +59,7 @@ pub(crate) fn leave_out_beside(
     to: PageNo,
 ) -> Pages
     requires passing { (above : Node) → nodes_of arena.now hidden.0 ≡ Some above →
-        IsUnderWay arena.now lists.old frames.old leaf.0 first no_pages above shift to to }
+        IsOnItsWayUp arena.now lists.old frames.old leaf.0 first no_pages above shift to to }
     requires family { IsFamilyOf arena.now leaf.0 hidden.0 sibling.0 }
     requires base { (node : Node) → nodes_of arena.now leaf.0 ≡ Some node → shift ≡ node.first }
     requires range { first + shift < 2 ^ 64 }

@@ -3,7 +3,7 @@ use Rattle.std.proofs.Common.{◌≡◌, ℕ, zero, suc, ◌+◌, ◌<◌, ◌�
 use Rattle.std.specs.Prelude.{IsSome}
 use Rattle.cow_arena.specs.declared.node.NodeId.{NodeId}
 use Rattle.cow_arena.specs.declared.node.Node.{Node}
-use Rattle.cow_arena.specs.Nodes.{Nodes, link_to, parent_in}
+use Rattle.cow_arena.specs.Nodes.{Nodes, link_to, parent_node_in}
 use Rattle.cow_arena.specs.Forest.{IsForest}
 use Rattle.cow_split.specs.Cost.{nodes_up, depth}
 use Rattle.cow_split.specs.Searching.{sum_up}
@@ -13,13 +13,13 @@ up-sum : (nodes : Nodes) (n : ℕ) (at : Option NodeId) → nodes_up nodes n at 
 unfolding nodes_up sum_up
 up-sum nodes zero at = refl
 up-sum nodes (suc n) None = refl
-up-sum nodes (suc n) (Some at) = let further = up-sum nodes n (parent_in (nodes at.0)) in omega arith
+up-sum nodes (suc n) (Some at) = let further = up-sum nodes n (parent_node_in (nodes at.0)) in omega arith
 
 up-few : (nodes : Nodes) (n : ℕ) (at : Option NodeId) → nodes_up nodes n at ≤ n
 unfolding nodes_up
 up-few nodes zero at = omega arith
 up-few nodes (suc n) None = omega arith
-up-few nodes (suc n) (Some at) = let further = up-few nodes n (parent_in (nodes at.0)) in omega arith
+up-few nodes (suc n) (Some at) = let further = up-few nodes n (parent_node_in (nodes at.0)) in omega arith
 
 module _ (nodes : Nodes) (weight : ℕ → ℕ) where
   sum-none : (n : ℕ) → sum_up nodes weight n None ≡ 0
@@ -27,7 +27,7 @@ module _ (nodes : Nodes) (weight : ℕ → ℕ) where
   sum-none zero = refl
   sum-none (suc n) = refl
 
-  sum-some : (n k : ℕ) → sum_up nodes weight (suc n) (link_to k) ≡ weight k + sum_up nodes weight n (parent_in (nodes k))
+  sum-some : (n k : ℕ) → sum_up nodes weight (suc n) (link_to k) ≡ weight k + sum_up nodes weight n (parent_node_in (nodes k))
   unfolding sum_up
   sum-some n k = refl
 
@@ -48,7 +48,7 @@ module _ (nodes : Nodes) (lists : ℕ) (f : IsForest nodes lists) (weight : ℕ 
       with_parent further node at None e = sum-none nodes weight n ∙ sym (sum-none nodes weight m)
       with_parent further node at (Some parent) e = further parent.0 (f.by.below parent.0 k node at e).deeper
 
-      with_node : ((j : ℕ) → f.rank j < f.rank k → Same n m (link_to j)) → (o : Option Node) → nodes k ≡ o → Same n m (parent_in o)
+      with_node : ((j : ℕ) → f.rank j < f.rank k → Same n m (link_to j)) → (o : Option Node) → nodes k ≡ o → Same n m (parent_node_in o)
       with_node further None e = sum-none nodes weight n ∙ sym (sum-none nodes weight m)
       with_node further (Some node) e = with_parent further node e node.parent refl
 
@@ -61,7 +61,7 @@ module _ (nodes : Nodes) (lists : ℕ) (f : IsForest nodes lists) (weight : ℕ 
       go zero below = absurd (omega arith)
       go (suc n) below =
           let deeper = (f.by.below h k node at parent).deeper in
-          let parent_is : parent_in (nodes k) ≡ link_to h = ap parent_in at ∙ parent in
+          let parent_is : parent_node_in (nodes k) ≡ link_to h = ap parent_node_in at ∙ parent in
           sum-some nodes weight n k
           ∙ (ap (λ o. weight k + sum_up nodes weight n o) parent_is
           ∙ ap (λ s. weight k + s) (sum-enough n (suc n) h (omega arith) (omega arith)))

@@ -15,8 +15,8 @@ use Rattle.cow_arena.specs.declared.node.Node.{Node}
 use Rattle.cow_arena.specs.declared.node.Side.{Side}
 use Rattle.cow_arena.specs.declared.node.Side.TheVariants as side
 use Rattle.cow_arena.specs.Nodes.{IsVisible, link_to, leads_to, other_side}
-use Rattle.cow_arena.specs.Walk.{Slots, Tree, Found, walk, frame_in, frame_found, frame_at}
-use Rattle.cow_arena.specs.Forest.{IsForest, AreListed}
+use Rattle.cow_arena.specs.Walk.{Slots, Tree, Found, walk, frame_in, frame_found, frame_shown}
+use Rattle.cow_arena.specs.Forest.{IsForest, HasListedRows}
 use Rattle.cow_arena.specs.Ways.{HasRow, Arrives, SameFrames}
 use Rattle.cow_arena.proofs.WalkLaws.{walk-past}
 use Rattle.cow_arena.proofs.ReachLaws.{reach-once, reach-hidden, walk-ends, walk-arrives}
@@ -43,7 +43,7 @@ pub record SeesFrame (t : Tree) (v p : ℕ) (side : Side) (h q : ℕ) (node : No
 -- The rows after a cut of page p of v, and what is answered, in each case. Where no other node on the leaf's side sees the
 -- frame, the row is split.
 pub data CutBy (t : Tree) (v p : ℕ) : Slots → Cut → Type 0 where
-  sees_nothing : frame_at t v p ≡ None → CutBy t v p t.slots cut.NothingThere
+  sees_nothing : frame_shown t v p ≡ None → CutBy t v p t.slots cut.NothingThere
   sees_shared : (side : Side) (h q : ℕ) (node : Node) (tag : Tag) (left right : Bool) → SeesFrame t v p side h q node tag left right →
       reached_from t (link_to v) side h q ≡ true → CutBy t v p t.slots cut.StillSeen
   sees_alone : (side : Side) (h q : ℕ) (node : Node) (tag : Tag) (left right : Bool) → SeesFrame t v p side h q node tag left right →
@@ -193,7 +193,7 @@ module _ (t : Tree) (forest : IsForest t.nodes t.lists) where
     ]
 
     -- v sees the frame, and whoever else sees the row shows it
-    shows : (w r : ℕ) (from : Option Side) → Sees t w r from h q → frame_at t w r ≡ Some tag.0
+    shows : (w r : ℕ) (from : Option Side) → Sees t w r from h q → frame_shown t w r ≡ Some tag.0
     shows w r from sees = ap frame_found (sees-row w r h q from node _ sees it.at it.row)
 
     -- where v is the last viewer, nobody sees the row from the other side, nor another node from its own
@@ -386,15 +386,15 @@ module _ (t : Tree) (out : ℕ → ℕ → Bool) (in_use : ℕ → Bool) (exact 
   record Keeps (slots : Slots) (answer : Cut) : Type 0 where
     others : OthersAlike t slots v p
     exactly : IsExact (record t { slots = slots }) (leaving_out out v p) (without_frame in_use (frame_left answer))
-    last : (tag : Tag) → answer ≡ cut.LastViewer tag → (frame_at t v p ≡ Some tag.0) × IsLastViewer t v tag.0
-    is_last : (tag : Tag) → frame_at t v p ≡ Some tag.0 → IsLastViewer t v tag.0 → answer ≡ cut.LastViewer tag
+    last : (tag : Tag) → answer ≡ cut.LastViewer tag → (frame_shown t v p ≡ Some tag.0) × IsLastViewer t v tag.0
+    is_last : (tag : Tag) → frame_shown t v p ≡ Some tag.0 → IsLastViewer t v tag.0 → answer ≡ cut.LastViewer tag
 
   module _ (side : Side) (h q : ℕ) (node : Node) (tag : Tag) (left right : Bool) (it : SeesFrame t v p side h q node tag left right) where
-    same-tag : (other : Tag) → frame_at t v p ≡ Some other.0 → tag ≡ other
+    same-tag : (other : Tag) → frame_shown t v p ≡ Some other.0 → tag ≡ other
     same-tag other shown =
         let e : tag.0 ≡ other.0 = some_same (sym (ap frame_found it.found) ∙ shown) in λ i. record { 0 = e i }
 
-    last-tag : (other : Tag) → frame_at t v p ≡ Some other.0 → IsLastViewer t v other.0 → IsLastViewer t v tag.0
+    last-tag : (other : Tag) → frame_shown t v p ≡ Some other.0 → IsLastViewer t v other.0 → IsLastViewer t v tag.0
     last-tag other shown last = subst (λ (x : Tag). IsLastViewer t v x.0) (sym (same-tag other shown)) last
 
     keeps-shared : reached_from t (link_to v) side h q ≡ true → Keeps t.slots cut.StillSeen
@@ -418,7 +418,7 @@ module _ (t : Tree) (out : ℕ → ℕ → Bool) (in_use : ℕ → Bool) (exact 
           exactly = exact-gone side h q node tag left right it alone none;
           last = λ other e.
               let same : tag ≡ other = cc in
-              subst (λ (x : Tag). (frame_at t v p ≡ Some x.0) × IsLastViewer t v x.0) same
+              subst (λ (x : Tag). (frame_shown t v p ≡ Some x.0) × IsLastViewer t v x.0) same
               (ap frame_found it.found, is-last side h q node tag left right it alone none);
           is_last = λ other shown last. ap cut.LastViewer (same-tag other shown);
         }
@@ -505,8 +505,8 @@ own-by t forest v p slots answer (sees_shared side h q node tag left right it is
 own-by t forest v p slots answer (sees_alone side h q node tag left right it is) w r own visible =
     with_pair-other t.slots node.list.0 q _ own.list.0 r (λ list page. row-apart t forest w h own node visible it.at it.hidden list)
 
-listed-by : (t : Tree) → AreListed t → (v p : ℕ) (slots : Slots) (answer : Cut) → CutBy t v p slots answer →
-    AreListed (record t { slots = slots })
+listed-by : (t : Tree) → HasListedRows t → (v p : ℕ) (slots : Slots) (answer : Cut) → CutBy t v p slots answer →
+    HasListedRows (record t { slots = slots })
 listed-by t listed v p slots answer (sees_nothing none) = listed
 listed-by t listed v p slots answer (sees_shared side h q node tag left right it is) = listed
 listed-by t listed v p slots answer (sees_alone side h q node tag left right it is) = record {
@@ -523,7 +523,7 @@ something side.Right tag true right e = cc
 something side.Right tag false right e = cc
 
 nothing-by : (t : Tree) (v p : ℕ) (slots : Slots) (answer : Cut) → CutBy t v p slots answer →
-    (answer ≡ cut.NothingThere) ↔ (frame_at t v p ≡ None)
+    (answer ≡ cut.NothingThere) ↔ (frame_shown t v p ≡ None)
 nothing-by t v p slots answer (sees_nothing none) = (λ e. none, λ e. refl)
 nothing-by t v p slots answer (sees_shared side h q node tag left right it is) =
     (λ e. absurd (cc), λ e. let shown = ap frame_found it.found in absurd (cc))
@@ -534,14 +534,14 @@ nothing-by t v p slots answer (sees_alone side h q node tag left right it is) =
 module _ (t : Tree) (forest : IsForest t.nodes t.lists) (v p : ℕ) (node : Node) (visible : IsVisible t.nodes v node)
     (none : t.slots node.list.0 p ≡ None) where
   -- it answers that nothing was there exactly where the page showed no frame
-  pub cut-nothing : (cut_answer t v p ≡ cut.NothingThere) ↔ (frame_at t v p ≡ None)
+  pub cut-nothing : (cut_answer t v p ≡ cut.NothingThere) ↔ (frame_shown t v p ≡ None)
   cut-nothing = nothing-by t v p _ _ (cut-by t forest v p node visible none)
 
   -- the rows of visible nodes stay, and rows stand in lists of nodes alone
   pub cut-own : (w r : ℕ) (own : Node) → IsVisible t.nodes w own → cut_slots t v p own.list.0 r ≡ t.slots own.list.0 r
   cut-own = own-by t forest v p _ _ (cut-by t forest v p node visible none)
 
-  pub cut-listed : AreListed t → AreListed (record t { slots = cut_slots t v p })
+  pub cut-listed : HasListedRows t → HasListedRows (record t { slots = cut_slots t v p })
   cut-listed listed = listed-by t listed v p _ _ (cut-by t forest v p node visible none)
 
 -- What it does in an exact tree, where pages of v alone are out of sight.
@@ -555,7 +555,7 @@ module _ (t : Tree) (out : ℕ → ℕ → Bool) (in_use : ℕ → Bool) (exact 
   exact-cut = cut-keeps.exactly
 
   -- it answers that v was the last viewer exactly where v was, and with the frame that it saw
-  pub cut-last : (tag : Tag) → (cut_answer t v p ≡ cut.LastViewer tag) ↔ ((frame_at t v p ≡ Some tag.0) × IsLastViewer t v tag.0)
+  pub cut-last : (tag : Tag) → (cut_answer t v p ≡ cut.LastViewer tag) ↔ ((frame_shown t v p ≡ Some tag.0) × IsLastViewer t v tag.0)
   cut-last tag = (cut-keeps.last tag, λ both. cut-keeps.is_last tag both.0 both.1)
 
   -- each other page of a visible node shows what it showed
@@ -563,5 +563,5 @@ module _ (t : Tree) (out : ℕ → ℕ → Bool) (in_use : ℕ → Bool) (exact 
   cut-others = cut-keeps.others.frames
 
   pub cut-shows : (w r : ℕ) → IsPage t w r → leaving_out out v p w r ≡ false →
-      frame_at (record t { slots = cut_slots t v p }) w r ≡ frame_at t w r
+      frame_shown (record t { slots = cut_slots t v p }) w r ≡ frame_shown t w r
   cut-shows w r page sight = cut-others w r page (left_out-in_sight out v p w r sight).0

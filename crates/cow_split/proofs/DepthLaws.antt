@@ -8,7 +8,7 @@ use Rattle.vm_base.proofs.SearchLaws.{eqb_same, eqb_apart, eqb_is, count_below_l
 use Rattle.vm_base.proofs.EntryLaws.{passes-some}
 use Rattle.cow_arena.specs.declared.node.NodeId.{NodeId}
 use Rattle.cow_arena.specs.declared.node.Node.{Node}
-use Rattle.cow_arena.specs.Nodes.{Arena, Nodes, nodes_of, link_to, parent_in}
+use Rattle.cow_arena.specs.Nodes.{Arena, Nodes, nodes_of, link_to, parent_node_in}
 use Rattle.cow_arena.specs.Forest.{IsForest, IsForestBy}
 use Rattle.cow_arena.specs.Counts.{hidden_count}
 use Rattle.cow_arena.proofs.CountLaws.{is_hidden}
@@ -59,7 +59,7 @@ module _ (nodes : Nodes) (lists : ℕ) (rank : ℕ → ℕ) (f : IsForestBy node
   up-over zero k node at = omega arith
   up-over (suc n) k node at =
       let further = by_parent (up-over n) node.parent refl in
-      let parent_is : nodes_up nodes n (parent_in (nodes k)) ≡ nodes_up nodes n node.parent = ap (λ o. nodes_up nodes n (parent_in o)) at in
+      let parent_is : nodes_up nodes n (parent_node_in (nodes k)) ≡ nodes_up nodes n node.parent = ap (λ o. nodes_up nodes n (parent_node_in o)) at in
       omega arith
     where
       by_parent : ((h : ℕ) (above : Node) → nodes h ≡ Some above → nodes_up nodes n (link_to h) ≤ over_count (rank h) + 1) →

@@ -16,7 +16,7 @@ use Rattle.cow_arena.specs.Walk.{Tree, walk, frame_in}
 use Rattle.cow_arena.proofs.AlikeLaws.{with_pair-same, with_pair-other}
 use Rattle.cow_split.specs.Trees.{with_row}
 use Rattle.cow_split.specs.Sight.{Sees, IsSeenFrom}
-use Rattle.cow_split.specs.Exact.{IsExact, AreSplitBits, Denies, Stands, with_frame, without_frame}
+use Rattle.cow_split.specs.Exact.{IsExact, AreSplitBits, Denies, StandsInRow, with_frame, without_frame}
 
 -- the frame of a row, where there is one
 abbrev pub frame_of : Option Slot → Option ℕ
@@ -114,7 +114,7 @@ module _ (old new : Tree) (l q : ℕ) (before after : Option Slot) (changes : Ch
       | inr unused ↦ both_ways (in_use tag) unused (exact.used m r row tag e frame)
     ]
 
-    stands-now : (tag : ℕ) → in_use_now tag ≡ true → Stands new tag
+    stands-now : (tag : ℕ) → in_use_now tag ≡ true → StandsInRow new tag
     stands-now tag e = elim (follow.came tag e) [
       | inl has ↦
           let row = is_frame after tag has in

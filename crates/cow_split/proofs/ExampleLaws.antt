@@ -13,8 +13,8 @@ use Rattle.cow_arena.specs.declared.node.Node.{Node}
 use Rattle.cow_arena.specs.declared.node.Side.{Side}
 use Rattle.cow_arena.specs.declared.node.Side.TheVariants as side
 use Rattle.cow_arena.specs.Nodes.{Nodes, IsVisible, link_to}
-use Rattle.cow_arena.specs.Forest.{IsBelow, HasPair, IsForest, IsListed}
-use Rattle.cow_arena.specs.Walk.{Slots, Tree, walk_over, walk, frame_at, frame_in}
+use Rattle.cow_arena.specs.Forest.{HasAsChild, HasPair, IsForest, IsListed}
+use Rattle.cow_arena.specs.Walk.{Slots, Tree, walk_over, walk, frame_shown, frame_in}
 use Rattle.cow_arena.proofs.WalkLaws.{link_same}
 use Rattle.cow_split.specs.Sight.{IsSeenFrom}
 use Rattle.cow_split.specs.Exact.{AreSplitBits, IsExact, all_in_sight}
@@ -64,8 +64,8 @@ rank zero = 0
 rank (suc k) = 1
 
 is_below : (k : ℕ) → (hidden.left ≡ link_to k) ⊎ (hidden.right ≡ link_to k) → 0 < rank k → (h : ℕ) → link_to 0 ≡ link_to h →
-    IsBelow nodes rank h k (leaf k)
-is_below k side deeper h e = subst (λ h. IsBelow nodes rank h k (leaf k)) (link_same e)
+    HasAsChild nodes rank h k (leaf k)
+is_below k side deeper h e = subst (λ h. HasAsChild nodes rank h k (leaf k)) (link_same e)
     (record { above = hidden; at = refl; hidden = refl; side = side; window = omega arith; deeper = deeper })
 
 is_forest : IsForest nodes 3
@@ -85,7 +85,7 @@ is_forest = record {
           right_child = record { node = leaf 2; at = refl; parent = refl };
         })
         (λ e. absurd (cc)) (λ e. absurd (cc));
-    below = λ h k node at. each_node (λ k node. node.parent ≡ link_to h → IsBelow nodes rank h k node)
+    below = λ h k node at. each_node (λ k node. node.parent ≡ link_to h → HasAsChild nodes rank h k node)
         (λ e. absurd (cc)) (is_below 1 (inl refl) (omega arith) h) (is_below 2 (inr refl) (omega arith) h) k node at;
     own = λ j k a b at there same. sym (list_is j a at) ∙ (same ∙ list_is k b there);
     given = each_node (λ k node. node.list.0 < 3) (omega arith) (omega arith) (omega arith);
@@ -169,6 +169,6 @@ module _ (tag : ℕ) where
         bits_of h q (slot.Frame other left right) it.2 (sym (list_is h node at) ∙ it.0) it.1 other left right refl;
   }
 
-  pub example-shows : (frame_at example_tree 1 0 ≡ Some tag) × (frame_at example_tree 2 0 ≡ Some tag)
+  pub example-shows : (frame_shown example_tree 1 0 ≡ Some tag) × (frame_shown example_tree 2 0 ≡ Some tag)
   unfolding walk_over passes
   example-shows = (refl, refl)

@@ -13,7 +13,7 @@ use Rattle.cow_arena.specs.Walk.{Tree}
 use Rattle.cow_arena.specs.Forest.{IsForest}
 use Rattle.cow_arena.proofs.ReachLaws.{hidden-of-child, child-there}
 use Rattle.cow_split.specs.Search.{viewers_from, has_some}
-use Rattle.cow_split.specs.Searching.{viewers_at, Below, IsOnward, at_start, IsPassed, GoesOn, IsAhead}
+use Rattle.cow_split.specs.Searching.{viewers_at, FoundBelow, IsOnward, at_start, IsPassed, GoesOn, IsAhead}
 use Rattle.cow_split.specs.inside.Existing.{hidden_at, IsOnwardBelow}
 use Rattle.cow_split.specs.declared.viewers.Cursor.{Cursor}
 use Rattle.cow_split.proofs.WayLaws.{found-through}
@@ -126,7 +126,7 @@ module _ (t : Tree) (f : IsForest t.nodes t.lists) (except : Option NodeId) wher
       viewers_from t except side h q ≡ viewers_at t except (link_to c.0) q
   from-child side h q above c at child = rw (at, child) refl
 
-module _ (t : Tree) (below : Below) (start k q : ℕ) (ahead : List ℕ) (here : GoesOn t below start k q ahead) where
+module _ (t : Tree) (below : FoundBelow) (start k q : ℕ) (ahead : List ℕ) (here : GoesOn t below start k q ahead) where
   -- someone is found at and below the node
   pub goes-first : has_some (below (link_to k) q) ≡ true → has_some ahead ≡ true
   goes-first some = ap has_some here.ahead_is ∙ some-left (below (link_to k) q) here.after some

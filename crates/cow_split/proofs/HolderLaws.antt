@@ -11,7 +11,7 @@ use Rattle.cow_arena.specs.declared.node.Node.{Node}
 use Rattle.cow_arena.specs.declared.node.NodeId.{NodeId}
 use Rattle.cow_arena.specs.declared.node.Side.{Side}
 use Rattle.cow_arena.specs.Nodes.{Arena, nodes_of, IsVisible}
-use Rattle.cow_arena.specs.Walk.{Slots, Tree, Found, walk, frame_at}
+use Rattle.cow_arena.specs.Walk.{Slots, Tree, Found, walk, frame_shown}
 use Rattle.cow_arena.specs.Forest.{IsForest}
 use Rattle.cow_arena.specs.Ways.{HasRow, Reaches}
 use Rattle.cow_arena.proofs.ReachLaws.{reach-cases, walk-ends}
@@ -127,15 +127,15 @@ module _ (arena : Arena) (old new : Rows Row) (v p : ℕ) (answer : Cut) (forest
       (subst (λ a. IsExact (record (tree_of arena old) { slots = cut_slots (tree_of arena old) v p }) (leaving_out out v p) (without_frame in_use (frame_left a))) (sym has.answers)
       (exact-cut (tree_of arena old) out in_use exact v p only it.node it.visible it.none))
 
-  pub cut-found_nothing : (answer ≡ cut.NothingThere) ↔ (frame_at (tree_of arena old) v p ≡ None)
+  pub cut-found_nothing : (answer ≡ cut.NothingThere) ↔ (frame_shown (tree_of arena old) v p ≡ None)
   cut-found_nothing =
       let it = bare arena old v p leaf in
-      subst (λ a. (a ≡ cut.NothingThere) ↔ (frame_at (tree_of arena old) v p ≡ None)) (sym has.answers)
+      subst (λ a. (a ≡ cut.NothingThere) ↔ (frame_shown (tree_of arena old) v p ≡ None)) (sym has.answers)
       (cut-nothing (tree_of arena old) forest v p it.node it.visible it.none)
 
   pub cut-last_viewer : (out : ℕ → ℕ → Bool) (in_use : ℕ → Bool) → IsExact (tree_of arena old) out in_use → IsOnlyOf out v → (tag : Tag) →
-      (answer ≡ cut.LastViewer tag) ↔ ((frame_at (tree_of arena old) v p ≡ Some tag.0) × IsLastViewer (tree_of arena old) v tag.0)
+      (answer ≡ cut.LastViewer tag) ↔ ((frame_shown (tree_of arena old) v p ≡ Some tag.0) × IsLastViewer (tree_of arena old) v tag.0)
   cut-last_viewer out in_use exact only tag =
       let it = bare arena old v p leaf in
-      subst (λ a. (a ≡ cut.LastViewer tag) ↔ ((frame_at (tree_of arena old) v p ≡ Some tag.0) × IsLastViewer (tree_of arena old) v tag.0)) (sym has.answers)
+      subst (λ a. (a ≡ cut.LastViewer tag) ↔ ((frame_shown (tree_of arena old) v p ≡ Some tag.0) × IsLastViewer (tree_of arena old) v tag.0)) (sym has.answers)
       (cut-last (tree_of arena old) out in_use exact v p only it.node it.visible it.none tag)

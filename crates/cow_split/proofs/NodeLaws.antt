@@ -9,7 +9,7 @@ use Rattle.cow_arena.specs.declared.node.Side.{Side}
 use Rattle.cow_arena.specs.declared.node.Side.TheVariants as side
 use Rattle.cow_arena.specs.Nodes.{Nodes, IsVisible}
 use Rattle.cow_arena.specs.Walk.{Tree, walk}
-use Rattle.cow_arena.specs.Forest.{IsForest, AreListed}
+use Rattle.cow_arena.specs.Forest.{IsForest, HasListedRows}
 use Rattle.cow_split.specs.Sight.{IsPage, Sees, IsSeenFrom, StaysVisible, CameFrom}
 use Rattle.cow_split.specs.Exact.{IsExact}
 use Rattle.cow_split.proofs.ExactLaws.{denies-alike}
@@ -50,7 +50,7 @@ seen-moved old new out out_now side h q carry seen =
 -- Each node was there with its koid and its list, the rows of visible ones fit their counts, and each row is seen from each
 -- side exactly where it was. Then the tree stays exact.
 pub exact-moved : (t : Tree) (nodes : Nodes) (out out_now : ℕ → ℕ → Bool) (in_use : ℕ → Bool) → IsExact t out in_use →
-    IsForest nodes t.lists → AreListed (record t { nodes = nodes }) →
+    IsForest nodes t.lists → HasListedRows (record t { nodes = nodes }) →
     ((j : ℕ) (now : Node) → nodes j ≡ Some now → CameFrom t.nodes j now) →
     ((v p : ℕ) (now : Node) (row : Slot) → IsVisible nodes v now → t.slots now.list.0 p ≡ Some row → p < now.count) →
     ((side : Side) (h q : ℕ) → IsSeenFrom t out side h q ↔ IsSeenFrom (record t { nodes = nodes }) out_now side h q) →

@@ -14,7 +14,7 @@ use Rattle.cow_arena.specs.declared.node.Node.{Node}
 use Rattle.cow_arena.specs.declared.node.Side.{Side}
 use Rattle.cow_arena.specs.Nodes.{IsVisible}
 use Rattle.cow_arena.specs.Forest.{IsForest}
-use Rattle.cow_arena.specs.Walk.{Tree, Found, walk, frame_in, frame_found, frame_at}
+use Rattle.cow_arena.specs.Walk.{Tree, Found, walk, frame_in, frame_found, frame_shown}
 use Rattle.cow_arena.proofs.WalkLaws.{walk-own}
 use Rattle.cow_arena.proofs.ReachLaws.{walk-ends}
 use Rattle.cow_arena.proofs.AlikeLaws.{with_pair-same, walk-beside}
@@ -89,7 +89,7 @@ with_frame-none in_use = refl
 
 -- page p of v shows no frame, or is no page
 abbrev pub ShowsNothing : Tree → (v p : ℕ) → Type 0
-ShowsNothing t v p = IsPage t v p → frame_at t v p ≡ None
+ShowsNothing t v p = IsPage t v p → frame_shown t v p ≡ None
 
 -- exact where the same pages are out of sight, and the same frames in use
 pub exact-out_alike : (t : Tree) (out out_now : ℕ → ℕ → Bool) (in_use : ℕ → Bool) → ((v p : ℕ) → out v p ≡ out_now v p) →
@@ -138,8 +138,8 @@ module _ (t : Tree) (out : ℕ → ℕ → Bool) (in_use : ℕ → Bool) (v p : 
       let ends = walk-ends t forest w q _ sees.found in
       let same : ends.row.node ≡ node = some_same (sym ends.row.at ∙ at) in
       let slot_is : sees.slot ≡ slot.Frame tag left right = some_same (sym ends.row.row ∙ (ap (λ (n : Node). t.slots n.list.0 r) same ∙ row)) in
-      let shows : frame_at t w q ≡ Some tag.0 = ap frame_found sees.found ∙ ap frame_in slot_is in
-      let none : frame_at t w q ≡ None = subst (λ i. frame_at t i q ≡ None) (sym both.0) (subst (λ i. frame_at t v i ≡ None) (sym both.1)
+      let shows : frame_shown t w q ≡ Some tag.0 = ap frame_found sees.found ∙ ap frame_in slot_is in
+      let none : frame_shown t w q ≡ None = subst (λ i. frame_shown t i q ≡ None) (sym both.0) (subst (λ i. frame_shown t v i ≡ None) (sym both.1)
       (nothing (subst (IsPage t v) both.1 (subst (λ i. IsPage t i q) both.0 sees.page)))) in
       absurd (cc)
 
@@ -225,7 +225,7 @@ module _ (t : Tree) (v p : ℕ) (node : Node) (visible : IsVisible t.nodes v nod
   own-showed forest row w q page differs = sym (ap frame_found (own-walks forest row w q differs))
 
   -- the page shows its own row
-  pub own_comes-shows : IsForest t.nodes t.lists → (row : Slot) → frame_at (with_row t node.list.0 p (Some row)) v p ≡ frame_in row
+  pub own_comes-shows : IsForest t.nodes t.lists → (row : Slot) → frame_shown (with_row t node.list.0 p (Some row)) v p ≡ frame_in row
   own_comes-shows forest row = ap frame_found
       (walk-own (with_row t node.list.0 p (Some row)) forest v p node row visible.at (with_pair-same t.slots node.list.0 p (Some row)))
 
@@ -302,7 +302,7 @@ pub record IsShown (t : Tree) (v p tag : ℕ) : Type 0 where
   pub found : walk t v p ≡ Some it
   pub frame : frame_in it.slot ≡ Some tag
 
-pub frame-shown : (t : Tree) (v p tag : ℕ) → frame_at t v p ≡ Some tag → IsShown t v p tag
+pub frame-shown : (t : Tree) (v p tag : ℕ) → frame_shown t v p ≡ Some tag → IsShown t v p tag
 frame-shown t v p tag = shown (walk t v p) refl
   where
     shown : (o : Option Found) → walk t v p ≡ o → frame_found o ≡ Some tag → IsShown t v p tag
@@ -311,7 +311,7 @@ frame-shown t v p tag = shown (walk t v p) refl
 
 module _ (t : Tree) (out : ℕ → ℕ → Bool) (in_use : ℕ → Bool) (exact : IsExact t out in_use) where
   -- a frame that is shown is in use
-  pub frame-in_use : (v p tag : ℕ) → frame_at t v p ≡ Some tag → in_use tag ≡ true
+  pub frame-in_use : (v p tag : ℕ) → frame_shown t v p ≡ Some tag → in_use tag ≡ true
   frame-in_use v p tag e =
       let shown = frame-shown t v p tag e in
       let row = (walk-ends t exact.forest v p shown.it shown.found).row in

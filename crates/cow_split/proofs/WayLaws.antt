@@ -17,7 +17,7 @@ use Rattle.cow_arena.proofs.WalkLaws.{link_same}
 use Rattle.cow_arena.proofs.ReachLaws.{hidden-of-child, child-there, side-of-child}
 use Rattle.cow_split.specs.Search.{viewers_from}
 use Rattle.cow_split.specs.declared.viewers.Cursor.{Cursor}
-use Rattle.cow_split.specs.Searching.{viewers_at, IsThrough, IsOnward, OnWay, at_start, to_left, to_right, Below, IsPassed, GoesOn, IsAhead, IsMet, viewer_met}
+use Rattle.cow_split.specs.Searching.{viewers_at, IsThrough, IsOnward, OnWay, at_start, to_left, to_right, FoundBelow, IsPassed, GoesOn, IsAhead, IsMet, viewer_met}
 use Rattle.cow_split.proofs.SearchLaws.{IsOpen, viewed, further_down, enters-of-found, found-within, met-viewed, met-excepted, met-through, none-in, down-none, deeper-child}
 
 module _ (t : Tree) (f : IsForest t.nodes t.lists) (except : Option NodeId) where
@@ -91,7 +91,7 @@ module _ (t : Tree) (f : IsForest t.nodes t.lists) (except : Option NodeId) wher
         ahead_is = rw (at, child) (sym (append-nil (viewers_at t except (link_to c.0) q)));
       }
 
-module _ (t : Tree) (f : IsForest t.nodes t.lists) (below : Below) where
+module _ (t : Tree) (f : IsForest t.nodes t.lists) (below : FoundBelow) where
   module _ (start : ℕ) where
     module _ (whole : ℕ) where
       abbrev Way : ℕ → ℕ → List ℕ → Type 0

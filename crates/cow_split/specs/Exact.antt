@@ -7,7 +7,7 @@ use Rattle.cow_arena.specs.declared.node.Node.{Node}
 use Rattle.cow_arena.specs.declared.node.Side.TheVariants as side
 use Rattle.cow_arena.specs.Nodes.{IsVisible}
 use Rattle.cow_arena.specs.Walk.{Tree, frame_in}
-use Rattle.cow_arena.specs.Forest.{IsForest, AreListed}
+use Rattle.cow_arena.specs.Forest.{IsForest, HasListedRows}
 use Rattle.cow_split.specs.Sight.{IsSeenFrom}
 
 -- the bit is true if and only if P does not hold
@@ -23,7 +23,7 @@ pub record AreSplitBits (t : Tree) (out : ℕ → ℕ → Bool) (h q : ℕ) (lef
   pub is_seen : (left && right) ≡ false
 
 -- the frame stands in some row
-pub record Stands (t : Tree) (tag : ℕ) : Type 0 where
+pub record StandsInRow (t : Tree) (tag : ℕ) : Type 0 where
   pub l : ℕ
   pub q : ℕ
   pub row : Slot
@@ -33,13 +33,13 @@ pub record Stands (t : Tree) (tag : ℕ) : Type 0 where
 -- The tree is exact over the frames that are in use, with these pages of visible nodes left out of sight.
 pub record IsExact (t : Tree) (out : ℕ → ℕ → Bool) (in_use : ℕ → Bool) : Type 0 where
   pub forest : IsForest t.nodes t.lists
-  pub listed : AreListed t
+  pub listed : HasListedRows t
   -- the rows of a visible node lie below its count, and their bits are false
   pub below : (v p : ℕ) (node : Node) (row : Slot) → IsVisible t.nodes v node → t.slots node.list.0 p ≡ Some row → p < node.count
   pub plain : (v p : ℕ) (node : Node) (tag : Tag) (left right : Bool) → IsVisible t.nodes v node →
       t.slots node.list.0 p ≡ Some (slot.Frame tag left right) → (left ≡ false) × (right ≡ false)
   -- each frame in use stands in exactly one row, and each row's frame is in use
-  pub stands : (tag : ℕ) → in_use tag ≡ true → Stands t tag
+  pub stands : (tag : ℕ) → in_use tag ≡ true → StandsInRow t tag
   pub used : (l q : ℕ) (row : Slot) (tag : ℕ) → t.slots l q ≡ Some row → frame_in row ≡ Some tag → in_use tag ≡ true
   pub once : (l q m r tag : ℕ) (row other : Slot) → t.slots l q ≡ Some row → t.slots m r ≡ Some other →
       frame_in row ≡ Some tag → frame_in other ≡ Some tag → (l ≡ m) × (q ≡ r)

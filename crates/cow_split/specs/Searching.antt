@@ -5,7 +5,7 @@ use Rattle.cow_arena.specs.declared.node.NodeId.{NodeId}
 use Rattle.cow_arena.specs.declared.node.Node.{Node}
 use Rattle.cow_arena.specs.declared.node.Side.{Side}
 use Rattle.cow_arena.specs.declared.node.Side.TheVariants as side
-use Rattle.cow_arena.specs.Nodes.{Nodes, link_to, child_on, parent_in, side_in, IsVisible}
+use Rattle.cow_arena.specs.Nodes.{Nodes, link_to, child_on, parent_node_in, side_in, IsVisible}
 use Rattle.cow_arena.specs.Walk.{Tree, Slots, tree_with}
 use Rattle.cow_arena.specs.Ways.{Arrives}
 use Rattle.cow_split.specs.Cost.{depth}
@@ -22,8 +22,8 @@ abbrev pub viewers_at : Tree → (except child : Option NodeId) → (q : ℕ) �
 viewers_at t except child q = viewers_over t.nodes t.slots except t.lists child q
 
 -- the visible nodes that a search finds at and below a child, at a page of the child's parent
-abbrev pub Below : Type 0
-Below = Option NodeId → ℕ → List ℕ
+abbrev pub FoundBelow : Type 0
+FoundBelow = Option NodeId → ℕ → List ℕ
 
 -- page p of the hidden node k is a page of its parent, and the node has no row there: a search goes on below it
 pub record IsThrough (t : Tree) (k p : ℕ) (node : Node) : Type 0 where
@@ -42,7 +42,7 @@ pub record IsOnward (t : Tree) (k q l p : ℕ) : Type 0 where
 -- A search from left to right began at node `start`, with page `whole` of its parent, and may come to node k with page
 -- q of the parent of k. After all that is at and below k it finds `after`: what is below the right child of each node
 -- at which the way down to k goes to the left.
-pub data OnWay (t : Tree) (below : Below) (start whole : ℕ) : ℕ → ℕ → List ℕ → Type 0 where
+pub data OnWay (t : Tree) (below : FoundBelow) (start whole : ℕ) : ℕ → ℕ → List ℕ → Type 0 where
   at_start : (k q : ℕ) (after : List ℕ) (node : Node) → t.nodes k ≡ Some node → k ≡ start → q ≡ whole → after ≡ [] →
       OnWay t below start whole k q after
   to_left : (l p : ℕ) (after : List ℕ) (k : ℕ) (node : Node) (rest : List ℕ) → OnWay t below start whole k (p + node.first) rest →
@@ -51,7 +51,7 @@ pub data OnWay (t : Tree) (below : Below) (start whole : ℕ) : ℕ → ℕ → 
       node.right ≡ link_to r → OnWay t below start whole r p after
 
 -- a search has come to node k, and finds `after` once it is done with all that is at and below k
-pub record IsPassed (t : Tree) (below : Below) (start k q : ℕ) (after : List ℕ) : Type 0 where
+pub record IsPassed (t : Tree) (below : FoundBelow) (start k q : ℕ) (after : List ℕ) : Type 0 where
   pub whole : ℕ
   pub fits : whole < 2 ^ 64
   pub way : OnWay t below start whole k q after
@@ -59,18 +59,18 @@ pub record IsPassed (t : Tree) (below : Below) (start k q : ℕ) (after : List �
 -- some search has come to node k
 pub record IsPassedBySome (nodes : Nodes) (lists start k q : ℕ) : Type 0 where
   pub slots : Slots
-  pub below : Below
+  pub below : FoundBelow
   pub after : List ℕ
   pub passed : IsPassed (tree_with nodes lists slots) below start k q after
 
 -- a search goes on at node k, with page q of its parent, and finds `ahead`, at and below k and after it
-pub record GoesOn (t : Tree) (below : Below) (start k q : ℕ) (ahead : List ℕ) : Type 0 where
+pub record GoesOn (t : Tree) (below : FoundBelow) (start k q : ℕ) (ahead : List ℕ) : Type 0 where
   pub after : List ℕ
   pub passed : IsPassed t below start k q after
   pub ahead_is : ahead ≡ below (link_to k) q ++ after
 
 -- these are ahead of a search. If the search goes on nowhere, nobody is
-abbrev pub IsAhead : Tree → (below : Below) → Option Cursor → (ahead : List ℕ) → Type 0
+abbrev pub IsAhead : Tree → (below : FoundBelow) → Option Cursor → (ahead : List ℕ) → Type 0
 IsAhead t below None ahead = ahead ≡ []
 IsAhead t below (Some from) ahead = GoesOn t below from.start.0 from.at.0 from.page ahead
 
@@ -128,7 +128,7 @@ viewer_met false = met.Viewer
 unfoldable pub sum_up : Nodes → (ℕ → ℕ) → ℕ → Option NodeId → ℕ
 sum_up nodes weight zero at = 0
 sum_up nodes weight (suc n) None = 0
-sum_up nodes weight (suc n) (Some at) = weight at.0 + sum_up nodes weight n (parent_in (nodes at.0))
+sum_up nodes weight (suc n) (Some at) = weight at.0 + sum_up nodes weight n (parent_node_in (nodes at.0))
 
 -- the weight of a node: three times that of a child, and so more than that of all that is below the node
 abbrev pub weight : Nodes → (lists k : ℕ) → ℕ

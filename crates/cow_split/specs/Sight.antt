@@ -4,7 +4,7 @@ use Rattle.page_list.specs.declared.row.Slot.{Slot}
 use Rattle.cow_arena.specs.declared.node.Node.{Node}
 use Rattle.cow_arena.specs.declared.node.Side.{Side}
 use Rattle.cow_arena.specs.Nodes.{Nodes, IsVisible}
-use Rattle.cow_arena.specs.Walk.{Tree, walk, frame_at}
+use Rattle.cow_arena.specs.Walk.{Tree, walk, frame_shown}
 
 -- p is a page of the visible node v
 pub record IsPage (t : Tree) (v p : ℕ) : Type 0 where
@@ -34,11 +34,11 @@ pub record IsSeenFrom (t : Tree) (out : ℕ → ℕ → Bool) (side : Side) (h q
 
 -- no visible node but v shows the frame
 abbrev pub IsLastViewer : Tree → (v tag : ℕ) → Type 0
-IsLastViewer t v tag = (w p : ℕ) → IsPage t w p → frame_at t w p ≡ Some tag → w ≡ v
+IsLastViewer t v tag = (w p : ℕ) → IsPage t w p → frame_shown t w p ≡ Some tag → w ≡ v
 
 -- each page of a visible node but page p of v shows the frame that it showed before, or is zero as before
 abbrev pub OthersShowSame : (old new : Tree) → (v p : ℕ) → Type 0
-OthersShowSame old new v p = (w q : ℕ) → IsPage old w q → ((w ≡ v) × (q ≡ p) → ⊥) → frame_at new w q ≡ frame_at old w q
+OthersShowSame old new v p = (w q : ℕ) → IsPage old w q → ((w ≡ v) × (q ≡ p) → ⊥) → frame_shown new w q ≡ frame_shown old w q
 
 -- node w is visible as before, with its koid and its count
 pub record StaysVisible (old new : Nodes) (w : ℕ) (node : Node) : Type 0 where

@@ -6,7 +6,7 @@ ghost use Rattle.page_list.specs.Lists.{slots_of, row_count};
 ghost use Rattle.balanced_tree.specs.Pairs.{with_pair};
 ghost use Rattle.cow_arena.specs.declared.node.Node.{Node};
 ghost use Rattle.cow_arena.specs.Nodes.{nodes_of};
-ghost use Rattle.cow_arena.specs.Walk.{walk, frame_at};
+ghost use Rattle.cow_arena.specs.Walk.{walk, frame_shown};
 ghost use Rattle.cow_arena.specs.Forest.{IsForest};
 ghost use Rattle.cow_arena.specs.Ways.{HasRow, Reaches};
 ghost use Rattle.cow_split.specs.Trees.{tree_of, holder_of};
@@ -37,10 +37,10 @@ pub fn cut(arena: &CowArena, lists: &mut PageLists, leaf: NodeId, page: PageNo) 
     ensures exact { (out : ℕ → ℕ → Bool) (in_use : ℕ → Bool) → IsExact (tree_of arena.now lists.old) out in_use →
         IsOnlyOf out leaf.0 → IsExact (tree_of arena.now lists.new) (leaving_out out leaf.0 page)
         (without_frame in_use (frame_left result)) }
-    ensures nothing { (result ≡ cut.NothingThere) ↔ (frame_at (tree_of arena.now lists.old) leaf.0 page ≡ None) }
+    ensures nothing { (result ≡ cut.NothingThere) ↔ (frame_shown (tree_of arena.now lists.old) leaf.0 page ≡ None) }
     ensures last { (out : ℕ → ℕ → Bool) (in_use : ℕ → Bool) → IsExact (tree_of arena.now lists.old) out in_use →
         IsOnlyOf out leaf.0 → (tag : Tag) → (result ≡ cut.LastViewer tag) ↔
-        ((frame_at (tree_of arena.now lists.old) leaf.0 page ≡ Some tag.0)
+        ((frame_shown (tree_of arena.now lists.old) leaf.0 page ≡ Some tag.0)
         × IsLastViewer (tree_of arena.now lists.old) leaf.0 tag.0) }
 {
     let found = holder_above(arena, lists, leaf, page);

@@ -8,7 +8,7 @@ ghost use Rattle.cow_arena.specs.Walk.{Slots, tree_with};
 ghost use Rattle.cow_arena.specs.Forest.{IsForest};
 ghost use Rattle.cow_split.specs.Trees.{tree_of};
 ghost use Rattle.cow_split.specs.Search.{viewers_from};
-ghost use Rattle.cow_split.specs.Searching.{Below, viewer_met, IsAhead, IsPassed, IsPassedBySome, Finds, FindsFirst, IsSearch, IsMet, weight_ahead, weight_from};
+ghost use Rattle.cow_split.specs.Searching.{FoundBelow, viewer_met, IsAhead, IsPassed, IsPassedBySome, Finds, FindsFirst, IsSearch, IsMet, weight_ahead, weight_from};
 ghost use Rattle.cow_split.specs.Viewers.{HasLesser, IsBelowAll, IsLeastKoid, lesser_of};
 
 use cow_arena::{CowArena, NodeId, Side};
@@ -224,7 +224,7 @@ fn viewer(except: Option<NodeId>, at: NodeId) -> Met
 pub(crate) fn next_after(arena: &CowArena, passed: Cursor) -> Option<Cursor>
     requires forest { IsForest (nodes_of arena.now) arena.now.lists }
     requires passed { IsPassedBySome (nodes_of arena.now) arena.now.lists passed.start.0 passed.at.0 passed.page }
-    ensures next { (slots : Slots) (below : Below) (after : List ℕ) →
+    ensures next { (slots : Slots) (below : FoundBelow) (after : List ℕ) →
         IsPassed (tree_with (nodes_of arena.now) arena.now.lists slots) below passed.start.0 passed.at.0 passed.page after →
         IsAhead (tree_with (nodes_of arena.now) arena.now.lists slots) below result after }
     ensures less { weight_from (nodes_of arena.now) arena.now.lists result

@@ -23,8 +23,8 @@ use Rattle.vm_model.proofs.ContentLaws.{pages_of-at}
 use Rattle.vm_model.proofs.RangeLaws.{touched-nil}
 use Rattle.vm_model.proofs.StepLaws.{AllOff-from_none}
 use Rattle.vm_model.proofs.TouchedLaws.{touched-one, touched-two}
-use Rattle.eager_access.specs.Accesses.{IsAllowed, state_with}
-use Rattle.eager_access.specs.inside.Pages.{IsShown, ShowsPage}
+use Rattle.eager_access.specs.Accesses.{IsAllowed, state_with_table}
+use Rattle.eager_access.specs.inside.Pages.{IsMappedInside, ShowsPage}
 
 -- ---- a test on one page or two
 
@@ -131,14 +131,14 @@ two_free c entries addr len free few none two are =
 module _ (c : Content) (table : ℕ → ℕ → Option Entry) (region : RegionName) (addr : ℕ) where
   pub may_read : (len : ℕ) → IsAllowed c table (MemRead region addr len) → access_refusal c reading (table region.0) (touched addr len) ≡ None
   may_read len may =
-      let off = AllOff-from_none (refusals (state_with may.rest c table) (MemRead region addr len)) may.free in
+      let off = AllOff-from_none (refusals (state_with_table may.rest c table) (MemRead region addr len)) may.free in
       none_is _ off.1.1.1.0
 
   pub may_write : (bytes : List ℕ) → IsAllowed c table (MemWrite region addr bytes)
       → (access_refusal c writing (table region.0) (touched addr (length bytes)) ≡ None)
       × (used c + need_each c (pages_shown (table region.0) (touched addr (length bytes))) ≤ c.frames)
   may_write bytes may =
-      let off = AllOff-from_none (refusals (state_with may.rest c table) (MemWrite region addr bytes)) may.free in
+      let off = AllOff-from_none (refusals (state_with_table may.rest c table) (MemWrite region addr bytes)) may.free in
       (none_is _ off.1.1.1.0, ltb-false _ _ off.1.1.1.1.0)
 
 -- its first page shows a page that lies in its VMO, and so do the others
@@ -150,7 +150,7 @@ shows_first c right table root p ps free =
 
 -- which is the one of its entry
 pub shows_entry : (c : Content) (table : ℕ → ℕ → Option Entry) (root p : ℕ) (entry : Entry) → ShowsPage c table root p → table root p ≡ Some entry
-    → IsShown c table root p entry
+    → IsMappedInside c table root p entry
 shows_entry c table root p entry shows is = record {
   is = is;
   below = subst (λ (e : Entry). e.page < pages_of c e.koid.0) (some_same (sym shows.shows.is ∙ is)) shows.shows.below;

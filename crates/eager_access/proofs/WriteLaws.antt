@@ -18,9 +18,9 @@ use Rattle.vm_model.proofs.AccessLaws.{frame_at-other}
 use Rattle.vm_model.proofs.RangeLaws.{touched-nil}
 use Rattle.vm_model.proofs.WritingLaws.{Written, Written-from_WritesPiece}
 use Rattle.pages.proofs.NeedLaws.{first-free, second-free}
-use Rattle.ready_map.specs.Notes.{Rows, ready_of, ChangesRange, AreTrue}
-use Rattle.eager_access.specs.Accesses.{DoesAccess}
-use Rattle.eager_access.specs.inside.Pages.{IsShown, ShowsPage, MayWrite, IsNoted, WritesPart, memory_with}
+use Rattle.ready_map.specs.Notes.{ReadyRows, ready_in, ChangesRange, NotesAreTrue}
+use Rattle.eager_access.specs.Accesses.{HasAccessEffect}
+use Rattle.eager_access.specs.inside.Pages.{IsMappedInside, ShowsPage, MayWrite, IsNotedReady, WritesPart, memory_with}
 use Rattle.eager_access.proofs.AskLaws.{shows_first, shows_rest}
 use Rattle.eager_access.proofs.NeedLaws.{may_own}
 use Rattle.eager_access.proofs.NoteLaws.{ready-noted, true-noted}
@@ -34,10 +34,10 @@ ChangesRange-written c d v p written = record {
   below = λ w q apart low. omega (arith, low, written.kept.pages w);
 }
 
-module _ (c d : Content) (table : ℕ → ℕ → Option Entry) (rows later : Rows) (root p at : ℕ) (part : List ℕ) (entry : Entry) where
-  pub WritesPart-noted : IsGood c → AreTrue c table rows → IsShown c table root p entry → at + length part ≤ PAGE
+module _ (c d : Content) (table : ℕ → ℕ → Option Entry) (rows later : ReadyRows) (root p at : ℕ) (part : List ℕ) (entry : Entry) where
+  pub WritesPart-noted : IsGood c → NotesAreTrue c table rows → IsMappedInside c table root p entry → at + length part ≤ PAGE
       → WritesPiece c (record { koid = entry.koid.0; page = entry.page; at = at; bytes = part }) d
-      → IsNoted Write d root p entry rows later → WritesPart table root p at part c rows d later
+      → IsNotedReady Write d root p entry rows later → WritesPart table root p at part c rows d later
   WritesPart-noted good are shows fits writes noted =
       let written : Written c entry.koid.0 entry.page d = Written-from_WritesPiece c (record { koid = entry.koid.0; page = entry.page; at = at; bytes = part }) d good shows.below fits writes in
       let below : entry.page < pages_of d entry.koid.0 = omega (arith, shows.below, written.kept.pages entry.koid.0) in
@@ -104,7 +104,7 @@ module _ (c : Content) (table : ℕ → ℕ → Option Entry) (root p : ℕ) whe
     }
 
     -- and the second, once the first was written
-    module _ (at : ℕ) (part : List ℕ) (rows later : Rows) (d : Content) (fits : at + length part ≤ PAGE) (wrote : WritesPart table root p at part c rows d later) where
+    module _ (at : ℕ) (part : List ℕ) (rows later : ReadyRows) (d : Content) (fits : at + length part ≤ PAGE) (wrote : WritesPart table root p at part c rows d later) where
       written : Written c first.entry.koid.0 first.entry.page d
       written = Written-from_WritesPiece c (record { koid = first.entry.koid.0; page = first.entry.page; at = at; bytes = part }) d good first.shows.below fits
           (wrote.piece first.entry first.shows.is)
@@ -122,24 +122,24 @@ module _ (c : Content) (table : ℕ → ℕ → Option Entry) (root p : ℕ) whe
 
 -- ---- the effect
 
-module _ (table : ℕ → ℕ → Option Entry) (c : Content) (rows : Rows) (region : RegionName) (addr : ℕ) (bytes : List ℕ) where
+module _ (table : ℕ → ℕ → Option Entry) (c : Content) (rows : ReadyRows) (region : RegionName) (addr : ℕ) (bytes : List ℕ) where
   -- no bytes
-  pub DoesAccess-none : length bytes ≡ 0 → DoesAccess table c rows (MemWrite region addr bytes) (Faults 0) c rows
-  DoesAccess-none none =
+  pub HasAccessEffect-none : length bytes ≡ 0 → HasAccessEffect table c rows (MemWrite region addr bytes) (Faults 0) c rows
+  HasAccessEffect-none none =
       let empty : touched addr (length bytes) ≡ [] = rw none (touched-nil addr) in
       λ s. (0, refl, refl, rw empty (refl, refl))
 
-  module _ (p at : ℕ) (part : List ℕ) (faults : ℕ) (d : Content) (mid : Rows) (wrote : WritesPart table region.0 p at part c rows d mid)
-      (count : faults ≡ write_fault (ready_of rows region.0 p)) (place : at ≡ part_at addr p) (same : part ≡ part_bytes addr bytes p) where
+  module _ (p at : ℕ) (part : List ℕ) (faults : ℕ) (d : Content) (mid : ReadyRows) (wrote : WritesPart table region.0 p at part c rows d mid)
+      (count : faults ≡ write_fault (ready_in rows region.0 p)) (place : at ≡ part_at addr p) (same : part ≡ part_bytes addr bytes p) where
     -- one page
-    pub DoesAccess-one : touched addr (length bytes) ≡ p ∷ [] → DoesAccess table c rows (MemWrite region addr bytes) (Faults faults) d mid
-    DoesAccess-one one = λ s. (faults, refl, refl, rw one (memory_with d mid, 0, wrote.writes addr bytes place same, (refl, refl), omega (arith, count)))
+    pub HasAccessEffect-one : touched addr (length bytes) ≡ p ∷ [] → HasAccessEffect table c rows (MemWrite region addr bytes) (Faults faults) d mid
+    HasAccessEffect-one one = λ s. (faults, refl, refl, rw one (memory_with d mid, 0, wrote.writes addr bytes place same, (refl, refl), omega (arith, count)))
 
     -- two pages
-    pub DoesAccess-two : (then_at : ℕ) (then_part : List ℕ) (more : ℕ) (e : Content) (later : Rows) → WritesPart table region.0 (p + 1) then_at then_part d mid e later
-        → more ≡ write_fault (ready_of mid region.0 (p + 1)) → then_at ≡ part_at addr (p + 1) → then_part ≡ part_bytes addr bytes (p + 1)
-        → touched addr (length bytes) ≡ p ∷ (p + 1) ∷ [] → DoesAccess table c rows (MemWrite region addr bytes) (Faults (faults + more)) e later
-    DoesAccess-two then_at then_part more e later then_wrote then_count then_place then_same two = λ s. (
+    pub HasAccessEffect-two : (then_at : ℕ) (then_part : List ℕ) (more : ℕ) (e : Content) (later : ReadyRows) → WritesPart table region.0 (p + 1) then_at then_part d mid e later
+        → more ≡ write_fault (ready_in mid region.0 (p + 1)) → then_at ≡ part_at addr (p + 1) → then_part ≡ part_bytes addr bytes (p + 1)
+        → touched addr (length bytes) ≡ p ∷ (p + 1) ∷ [] → HasAccessEffect table c rows (MemWrite region addr bytes) (Faults (faults + more)) e later
+    HasAccessEffect-two then_at then_part more e later then_wrote then_count then_place then_same two = λ s. (
       faults + more,
       refl,
       refl,
@@ -153,8 +153,8 @@ module _ (table : ℕ → ℕ → Option Entry) (c : Content) (rows : Rows) (reg
     )
 
 -- the effect from an equal state
-pub DoesAccess-from : (table : ℕ → ℕ → Option Entry) (c d : Content) (rows other : Rows) (command : Command) (reply : Reply) (new : Content) (later : Rows)
-    → c ≡ d → rows ≡ other → DoesAccess table c rows command reply new later → DoesAccess table d other command reply new later
-DoesAccess-from table c d rows other command reply new later content same does =
-    subst (λ (x : Content). DoesAccess table x other command reply new later) content
-    (subst (λ (r : Rows). DoesAccess table c r command reply new later) same does)
+pub HasAccessEffect-from : (table : ℕ → ℕ → Option Entry) (c d : Content) (rows other : ReadyRows) (command : Command) (reply : Reply) (new : Content) (later : ReadyRows)
+    → c ≡ d → rows ≡ other → HasAccessEffect table c rows command reply new later → HasAccessEffect table d other command reply new later
+HasAccessEffect-from table c d rows other command reply new later content same does =
+    subst (λ (x : Content). HasAccessEffect table x other command reply new later) content
+    (subst (λ (r : ReadyRows). HasAccessEffect table c r command reply new later) same does)

@@ -10,26 +10,26 @@ use Rattle.vm_model.specs.Machine.State.{State}
 use Rattle.vm_model.specs.Machine.Machine.{Machine}
 use Rattle.vm_model.specs.Machine.MachineStep.{MachineEffect}
 use Rattle.vm_model.specs.Machine.Refusals.{refusals, first_of}
-use Rattle.ready_map.specs.Notes.{Rows, ready_of}
+use Rattle.ready_map.specs.Notes.{ReadyRows, ready_in}
 
 -- a state with this content and this table, whatever else it has
-abbrev pub state_with : State → Content → (ℕ → ℕ → Option Entry) → State
-state_with s c table = record s { content = c; spaces = record s.spaces { table = table } }
+abbrev pub state_with_table : State → Content → (ℕ → ℕ → Option Entry) → State
+state_with_table s c table = record s { content = c; spaces = record s.spaces { table = table } }
 
 -- such a machine, in which this is ready
-abbrev pub machine_with : State → Content → (ℕ → ℕ → Option Entry) → Rows → Machine
-machine_with s c table rows = record { state = state_with s c table; ready = ready_of rows }
+abbrev pub machine_with : State → Content → (ℕ → ℕ → Option Entry) → ReadyRows → Machine
+machine_with s c table rows = record { state = state_with_table s c table; ready = ready_in rows }
 
 -- this is what refuses the command in a state with this content and these address spaces, whatever else it has
-abbrev pub IsRefusalOf : Content → Spaces → Command → Option Refusal → Type 0
-IsRefusalOf c spaces command answer = (s : State) → answer ≡ first_of (refusals (record s { content = c; spaces = spaces }) command)
+abbrev pub IsAccessRefusal : Content → Spaces → Command → Option Refusal → Type 0
+IsAccessRefusal c spaces command answer = (s : State) → answer ≡ first_of (refusals (record s { content = c; spaces = spaces }) command)
 
 -- Nothing refuses the command in a state with this content and this table.
 pub record IsAllowed (c : Content) (table : ℕ → ℕ → Option Entry) (command : Command) : Type 0 where
   pub rest : State
-  pub free : first_of (refusals (state_with rest c table) command) ≡ None
+  pub free : first_of (refusals (state_with_table rest c table) command) ≡ None
 
 -- the command does this, and no more, whatever else the machine has
-abbrev pub DoesAccess : (ℕ → ℕ → Option Entry) → (old : Content) → Rows → Command → Reply → (new : Content) → Rows → Type 0
-DoesAccess table old rows command reply new later =
+abbrev pub HasAccessEffect : (ℕ → ℕ → Option Entry) → (old : Content) → ReadyRows → Command → Reply → (new : Content) → ReadyRows → Type 0
+HasAccessEffect table old rows command reply new later =
     (s : State) → MachineEffect (machine_with s old table rows) command reply (machine_with s new table later)

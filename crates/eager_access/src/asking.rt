@@ -13,10 +13,10 @@ ghost use Rattle.vm_model.specs.Machine.State.{State};
 ghost use Rattle.mapping_set.specs.Tables.{table_of};
 ghost use Rattle.mapping_set.specs.Backed.{AreBacked};
 ghost use Rattle.region_tree.specs.Tree.{regions_of, spaces_of};
-ghost use Rattle.eager_pages.specs.Eager.{content_of};
-ghost use Rattle.ready_map.specs.Notes.{rows_of, ready_of};
-ghost use Rattle.eager_access.specs.Accesses.{IsRefusalOf};
-ghost use Rattle.eager_access.specs.inside.Pages.{lacks};
+ghost use Rattle.eager_pages.specs.Eager.{eager_content};
+ghost use Rattle.ready_map.specs.Notes.{rows_of, ready_in};
+ghost use Rattle.eager_access.specs.Accesses.{IsAccessRefusal};
+ghost use Rattle.eager_access.specs.inside.Pages.{is_unready};
 
 use crate::needing::frames_to_write;
 use bitflags::Flags;
@@ -43,8 +43,8 @@ pub fn refusal_to_read(
     addr: u64,
     len: u64,
 ) -> Option<Refusal>
-    requires { AreBacked (content_of pages.now) (table_of maps.now) }
-    ensures { IsRefusalOf (content_of pages.now) (spaces_of (regions_of regions.now) (table_of maps.now))
+    requires { AreBacked (eager_content pages.now) (table_of maps.now) }
+    ensures { IsAccessRefusal (eager_content pages.now) (spaces_of (regions_of regions.now) (table_of maps.now))
         (Command.MemRead region addr len) result }
 {
     let Some(root) = regions.get(region) else {
@@ -77,9 +77,9 @@ pub fn refusal_to_write(
     addr: u64,
     bytes: &[u8],
 ) -> Option<Refusal>
-    requires backed { AreBacked (content_of pages.now) (table_of maps.now) }
+    requires backed { AreBacked (eager_content pages.now) (table_of maps.now) }
     requires len { length bytes.now ≤ DATA_BYTES }
-    ensures { IsRefusalOf (content_of pages.now) (spaces_of (regions_of regions.now) (table_of maps.now))
+    ensures { IsAccessRefusal (eager_content pages.now) (spaces_of (regions_of regions.now) (table_of maps.now))
         (Command.MemWrite region addr bytes.now) result }
 {
     let Some(root) = regions.get(region) else {
@@ -98,7 +98,7 @@ pub fn refusal_to_write(
 /// not ready.
 pub fn wants_memory_to_read(ready: &ReadyMap, region: RegionName, addr: u64, len: u64) -> bool
     requires { len ≤ DATA_BYTES }
-    ensures { (s : State) → result ≡ may_want_memory (record { state = s; ready = ready_of (rows_of ready.now) })
+    ensures { (s : State) → result ≡ may_want_memory (record { state = s; ready = ready_in (rows_of ready.now) })
         (Command.MemRead region addr len) }
 {
     wants_memory(ready, region, addr, len, Readiness::Read)
@@ -108,7 +108,7 @@ pub fn wants_memory_to_read(ready: &ReadyMap, region: RegionName, addr: u64, len
 /// ready for writing.
 pub fn wants_memory_to_write(ready: &ReadyMap, region: RegionName, addr: u64, bytes: &[u8]) -> bool
     requires { length bytes.now ≤ DATA_BYTES }
-    ensures { (s : State) → result ≡ may_want_memory (record { state = s; ready = ready_of (rows_of ready.now) })
+    ensures { (s : State) → result ≡ may_want_memory (record { state = s; ready = ready_in (rows_of ready.now) })
         (Command.MemWrite region addr bytes.now) }
 {
     wants_memory(ready, region, addr, bytes.len() as u64, Readiness::Write)
@@ -116,7 +116,7 @@ pub fn wants_memory_to_write(ready: &ReadyMap, region: RegionName, addr: u64, by
 
 /// Returns whether a page of an address space is not ready for this. An access then takes a page fault there.
 pub(crate) fn lacks(ready: &ReadyMap, root: RegionName, page: PageNo, wanted: Readiness) -> bool
-    ensures { result ≡ lacks wanted (ready_of (rows_of ready.now) root.0 page) }
+    ensures { result ≡ is_unready wanted (ready_in (rows_of ready.now) root.0 page) }
 {
     match ready.at(root, page) {
         Some(row) => match (wanted, row.readiness) {
@@ -136,7 +136,7 @@ fn wants_memory(
     wanted: Readiness,
 ) -> bool
     requires { len ≤ DATA_BYTES }
-    ensures { result ≡ list_any (λ p. lacks wanted (ready_of (rows_of ready.now) region.0 p)) (touched addr len) }
+    ensures { result ≡ list_any (λ p. is_unready wanted (ready_in (rows_of ready.now) region.0 p)) (touched addr len) }
 {
     if len == 0 {
         return false;
@@ -159,9 +159,9 @@ fn denied_read(
     addr: u64,
     len: u64,
 ) -> Option<Refusal>
-    requires backed { AreBacked (content_of pages.now) (table_of maps.now) }
+    requires backed { AreBacked (eager_content pages.now) (table_of maps.now) }
     requires len { len ≤ DATA_BYTES }
-    ensures { result ≡ first_of (read_refusals (content_of pages.now) (table_of maps.now region.0) (touched addr len)) }
+    ensures { result ≡ first_of (read_refusals (eager_content pages.now) (table_of maps.now region.0) (touched addr len)) }
 {
     denied_access(pages, maps, region, addr, len, Perm::READ)
 }
@@ -175,9 +175,9 @@ fn denied_write(
     addr: u64,
     len: u64,
 ) -> Option<Refusal>
-    requires backed { AreBacked (content_of pages.now) (table_of maps.now) }
+    requires backed { AreBacked (eager_content pages.now) (table_of maps.now) }
     requires len { len ≤ DATA_BYTES }
-    ensures { result ≡ first_of (write_refusals (content_of pages.now) (table_of maps.now region.0) (touched addr len)) }
+    ensures { result ≡ first_of (write_refusals (eager_content pages.now) (table_of maps.now region.0) (touched addr len)) }
 {
     if let Some(refusal) = denied_access(pages, maps, region, addr, len, Perm::WRITE) {
         return Some(refusal);
@@ -201,9 +201,9 @@ fn denied_access(
     len: u64,
     right: Perm,
 ) -> Option<Refusal>
-    requires backed { AreBacked (content_of pages.now) (table_of maps.now) }
+    requires backed { AreBacked (eager_content pages.now) (table_of maps.now) }
     requires len { len ≤ DATA_BYTES }
-    ensures { result ≡ access_refusal (content_of pages.now) right.0 (table_of maps.now region.0) (touched addr len) }
+    ensures { result ≡ access_refusal (eager_content pages.now) right.0 (table_of maps.now region.0) (touched addr len) }
 {
     if len == 0 {
         return None;
@@ -227,8 +227,8 @@ fn denied_page(
     page: PageNo,
     right: Perm,
 ) -> Option<Refusal>
-    requires { AreBacked (content_of pages.now) (table_of maps.now) }
-    ensures { result ≡ refusal_at (content_of pages.now) right.0 (table_of maps.now region.0 page) }
+    requires { AreBacked (eager_content pages.now) (table_of maps.now) }
+    ensures { result ≡ refusal_at (eager_content pages.now) right.0 (table_of maps.now region.0 page) }
 {
     let Some(entry) = maps.at(region, page) else {
         return Some(Refusal::NotFound);

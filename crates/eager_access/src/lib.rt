@@ -6,7 +6,7 @@
 //! With the machine that is judged it shares the tables (`MappingSet`, `Regions`). It calls no code of a store of pages or of
 //! page faults. An access has at most `DATA_BYTES` bytes, so it touches no page, one or two, and costs a few look-ups for each.
 //! The layer above has the machine's good state: each entry shows a VMO (`AreBacked`), and what was noted of ready pages is true
-//! (`AreTrue`).
+//! (`NotesAreTrue`).
 #![tactic(auto)]
 
 mod asking;

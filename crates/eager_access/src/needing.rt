@@ -9,7 +9,7 @@ ghost use Rattle.vm_model.specs.Machine.Access.{access_refusal, page_shown, page
 ghost use Rattle.vm_model.specs.Space.Readiness.{frame_at};
 ghost use Rattle.vm_model.specs.Space.Rights.{writing};
 ghost use Rattle.mapping_set.specs.Tables.{table_of};
-ghost use Rattle.eager_pages.specs.Eager.{content_of};
+ghost use Rattle.eager_pages.specs.Eager.{eager_content};
 ghost use Rattle.eager_access.specs.inside.Pages.{LiesInVmo, need_after, HaveOneFrame};
 
 use eager_pages::EagerPages;
@@ -26,10 +26,10 @@ pub(crate) fn frames_to_write(
     addr: u64,
     len: u64,
 ) -> u64
-    requires good { IsGood (content_of pages.now) }
+    requires good { IsGood (eager_content pages.now) }
     requires len { len ≤ DATA_BYTES }
-    requires may { access_refusal (content_of pages.now) writing (table_of maps.now region.0) (touched addr len) ≡ None }
-    ensures { result ≡ need_each (content_of pages.now) (pages_shown (table_of maps.now region.0) (touched addr len)) }
+    requires may { access_refusal (eager_content pages.now) writing (table_of maps.now region.0) (touched addr len) ≡ None }
+    ensures { result ≡ need_each (eager_content pages.now) (pages_shown (table_of maps.now region.0) (touched addr len)) }
 {
     if len == 0 {
         return 0;
@@ -59,7 +59,7 @@ pub(crate) fn entry_of(maps: &MappingSet, root: RegionName, page: PageNo) -> Ent
 // How many frames it takes to own a page: one, if the page is not sole.
 fn frames_for_one(pages: &EagerPages, entry: Entry) -> u64
     ensures few { result ≤ 1 }
-    ensures need { result ≡ need_each (content_of pages.now) (page_shown entry ∷ []) }
+    ensures need { result ≡ need_each (eager_content pages.now) (page_shown entry ∷ []) }
 {
     if pages.is_sole(entry.koid, entry.page) {
         0
@@ -70,10 +70,10 @@ fn frames_for_one(pages: &EagerPages, entry: Entry) -> u64
 
 // How many frames it takes to own two pages, one after another.
 fn frames_for_two(pages: &EagerPages, first: Entry, second: Entry) -> u64
-    requires good { IsGood (content_of pages.now) }
-    requires first { LiesInVmo (content_of pages.now) first }
-    requires second { LiesInVmo (content_of pages.now) second }
-    ensures { result ≡ need_each (content_of pages.now) (page_shown first ∷ page_shown second ∷ []) }
+    requires good { IsGood (eager_content pages.now) }
+    requires first { LiesInVmo (eager_content pages.now) first }
+    requires second { LiesInVmo (eager_content pages.now) second }
+    ensures { result ≡ need_each (eager_content pages.now) (page_shown first ∷ page_shown second ∷ []) }
 {
     if pages.is_sole(first.koid, first.page) {
         frames_for_one(pages, second)
@@ -85,12 +85,12 @@ fn frames_for_two(pages: &EagerPages, first: Entry, second: Entry) -> u64
 // How many frames it takes to own a page once another was owned that is not sole. If both are one page, it takes none. If
 // they have one frame, it takes one only if a third VMO shows that frame too.
 fn frames_after(pages: &EagerPages, first: Entry, second: Entry) -> u64
-    requires good { IsGood (content_of pages.now) }
-    requires first { LiesInVmo (content_of pages.now) first }
-    requires second { LiesInVmo (content_of pages.now) second }
-    requires shared { sole (content_of pages.now) first.koid.0 first.page ≡ false }
+    requires good { IsGood (eager_content pages.now) }
+    requires first { LiesInVmo (eager_content pages.now) first }
+    requires second { LiesInVmo (eager_content pages.now) second }
+    requires shared { sole (eager_content pages.now) first.koid.0 first.page ≡ false }
     ensures few { result ≤ 1 }
-    ensures need { result ≡ need_after (content_of pages.now) (page_shown first) (page_shown second) }
+    ensures need { result ≡ need_after (eager_content pages.now) (page_shown first) (page_shown second) }
 {
     if show_same_page(first, second) {
         return 0;
@@ -114,8 +114,8 @@ fn show_same_page(first: Entry, second: Entry) -> bool
 
 // Whether two pages are held, with one frame.
 fn have_one_frame(pages: &EagerPages, first: Entry, second: Entry) -> bool
-    ensures one { result ≡ true → HaveOneFrame (content_of pages.now) (page_shown first) (page_shown second) }
-    ensures two { result ≡ false → HaveOneFrame (content_of pages.now) (page_shown first) (page_shown second) → ⊥ }
+    ensures one { result ≡ true → HaveOneFrame (eager_content pages.now) (page_shown first) (page_shown second) }
+    ensures two { result ≡ false → HaveOneFrame (eager_content pages.now) (page_shown first) (page_shown second) → ⊥ }
 {
     let Some(tag) = pages.frame(first.koid, first.page) else {
         return false;

@@ -8,10 +8,10 @@ ghost use Rattle.vm_model.specs.declared.space.Entry.{Entry};
 ghost use Rattle.vm_model.specs.Contents.Content.{shown};
 ghost use Rattle.mapping_set.specs.Tables.{table_of};
 ghost use Rattle.mapping_set.specs.Backed.{AreBacked};
-ghost use Rattle.eager_pages.specs.Eager.{content_of};
-ghost use Rattle.ready_map.specs.Notes.{rows_of, ready_of, spare_of, AreTrue};
-ghost use Rattle.eager_access.specs.Accesses.{IsAllowed, DoesAccess};
-ghost use Rattle.eager_access.specs.inside.Pages.{IsShown, ShowsPage, ReadsPage, Touches, read_fault};
+ghost use Rattle.eager_pages.specs.Eager.{eager_content};
+ghost use Rattle.ready_map.specs.Notes.{rows_of, ready_in, notes_spare, NotesAreTrue};
+ghost use Rattle.eager_access.specs.Accesses.{IsAllowed, HasAccessEffect};
+ghost use Rattle.eager_access.specs.inside.Pages.{IsMappedInside, ShowsPage, ReadsBytesOfPage, Touches, read_fault};
 
 use crate::asking::lacks;
 use crate::needing::entry_of;
@@ -32,15 +32,15 @@ pub fn read(
     addr: u64,
     out: &mut [u8],
 ) -> Result<u64, HostMemory>
-    requires backed { AreBacked (content_of pages.now) (table_of maps.now) }
-    requires true_rows { AreTrue (content_of pages.now) (table_of maps.now) (rows_of ready.old) }
+    requires backed { AreBacked (eager_content pages.now) (table_of maps.now) }
+    requires true_rows { NotesAreTrue (eager_content pages.now) (table_of maps.now) (rows_of ready.old) }
     requires len { length out.old ≤ DATA_BYTES }
-    requires may { IsAllowed (content_of pages.now) (table_of maps.now) (Command.MemRead region addr (length out.old)) }
+    requires may { IsAllowed (eager_content pages.now) (table_of maps.now) (Command.MemRead region addr (length out.old)) }
     ensures read { MatchResult result
-        (λ faults. DoesAccess (table_of maps.now) (content_of pages.now) (rows_of ready.old)
-        (Command.MemRead region addr (length out.old)) (Reply.Access faults out.new) (content_of pages.now) (rows_of ready.new))
+        (λ faults. HasAccessEffect (table_of maps.now) (eager_content pages.now) (rows_of ready.old)
+        (Command.MemRead region addr (length out.old)) (Reply.Access faults out.new) (eager_content pages.now) (rows_of ready.new))
         (λ lack. rows_of ready.new ≡ rows_of ready.old) }
-    ensures true_rows { AreTrue (content_of pages.now) (table_of maps.now) (rows_of ready.new) }
+    ensures true_rows { NotesAreTrue (eager_content pages.now) (table_of maps.now) (rows_of ready.new) }
 {
     if out.is_empty() {
         return Ok(0);
@@ -72,15 +72,15 @@ fn read_in_two(
     addr: u64,
     out: &mut [u8],
 ) -> u64
-    requires backed { AreBacked (content_of pages.now) (table_of maps.now) }
-    requires true_rows { AreTrue (content_of pages.now) (table_of maps.now) (rows_of ready.old) }
+    requires backed { AreBacked (eager_content pages.now) (table_of maps.now) }
+    requires true_rows { NotesAreTrue (eager_content pages.now) (table_of maps.now) (rows_of ready.old) }
     requires two { PAGE < addr % PAGE + length out.old }
     requires len { length out.old ≤ DATA_BYTES }
-    requires may { IsAllowed (content_of pages.now) (table_of maps.now) (Command.MemRead region addr (length out.old)) }
-    requires room { 2 ≤ spare_of ready.old }
-    ensures read { DoesAccess (table_of maps.now) (content_of pages.now) (rows_of ready.old)
-        (Command.MemRead region addr (length out.old)) (Reply.Access result out.new) (content_of pages.now) (rows_of ready.new) }
-    ensures true_rows { AreTrue (content_of pages.now) (table_of maps.now) (rows_of ready.new) }
+    requires may { IsAllowed (eager_content pages.now) (table_of maps.now) (Command.MemRead region addr (length out.old)) }
+    requires room { 2 ≤ notes_spare ready.old }
+    ensures read { HasAccessEffect (table_of maps.now) (eager_content pages.now) (rows_of ready.old)
+        (Command.MemRead region addr (length out.old)) (Reply.Access result out.new) (eager_content pages.now) (rows_of ready.new) }
+    ensures true_rows { NotesAreTrue (eager_content pages.now) (table_of maps.now) (rows_of ready.new) }
 {
     let page = page_of(addr);
     let at = in_page(addr);
@@ -100,13 +100,13 @@ fn read_page(
     at: u64,
     out: &mut [u8],
 ) -> u64
-    requires true_rows { AreTrue (content_of pages.now) (table_of maps.now) (rows_of ready.old) }
-    requires shows { ShowsPage (content_of pages.now) (table_of maps.now) root.0 page }
+    requires true_rows { NotesAreTrue (eager_content pages.now) (table_of maps.now) (rows_of ready.old) }
+    requires shows { ShowsPage (eager_content pages.now) (table_of maps.now) root.0 page }
     requires range { at + length out.old ≤ PAGE }
-    requires room { 1 ≤ spare_of ready.old }
-    ensures reads { ReadsPage (content_of pages.now) (table_of maps.now) root.0 page at (length out.old) (rows_of ready.old)
+    requires room { 1 ≤ notes_spare ready.old }
+    ensures reads { ReadsBytesOfPage (eager_content pages.now) (table_of maps.now) root.0 page at (length out.old) (rows_of ready.old)
         result out.new (rows_of ready.new) }
-    ensures room { spare_of ready.old ≤ spare_of ready.new + 1 }
+    ensures room { notes_spare ready.old ≤ notes_spare ready.new + 1 }
 {
     let entry = entry_of(maps, root, page);
     pages.read(entry.koid, entry.page, at, out);
@@ -121,12 +121,12 @@ fn touch(
     page: PageNo,
     entry: Entry,
 ) -> u64
-    requires { 1 ≤ spare_of ready.old }
-    ensures faults { result ≡ read_fault (ready_of (rows_of ready.old) root.0 page) }
+    requires { 1 ≤ notes_spare ready.old }
+    ensures faults { result ≡ read_fault (ready_in (rows_of ready.old) root.0 page) }
     ensures few { result ≤ 1 }
-    ensures touches { (table : ℕ → ℕ → Option Entry) → Touches (content_of pages.now) table root.0 page entry
+    ensures touches { (table : ℕ → ℕ → Option Entry) → Touches (eager_content pages.now) table root.0 page entry
         (rows_of ready.old) (rows_of ready.new) }
-    ensures room { spare_of ready.old ≤ spare_of ready.new + 1 }
+    ensures room { notes_spare ready.old ≤ notes_spare ready.new + 1 }
 {
     if !lacks(ready, root, page, Readiness::Read) {
         return 0;

@@ -10,10 +10,10 @@ ghost use Rattle.vm_model.specs.Contents.Content.{IsGood};
 ghost use Rattle.vm_model.specs.Machine.Access.{write_fault};
 ghost use Rattle.mapping_set.specs.Tables.{table_of};
 ghost use Rattle.mapping_set.specs.Backed.{AreBacked};
-ghost use Rattle.eager_pages.specs.Eager.{content_of, spare_of as rows_spare};
-ghost use Rattle.ready_map.specs.Notes.{rows_of, ready_of, spare_of, AreTrue};
-ghost use Rattle.eager_access.specs.Accesses.{IsAllowed, DoesAccess};
-ghost use Rattle.eager_access.specs.inside.Pages.{MayWrite, WritesPart, IsNoted};
+ghost use Rattle.eager_pages.specs.Eager.{eager_content, eager_spare as rows_spare};
+ghost use Rattle.ready_map.specs.Notes.{rows_of, ready_in, notes_spare, NotesAreTrue};
+ghost use Rattle.eager_access.specs.Accesses.{IsAllowed, HasAccessEffect};
+ghost use Rattle.eager_access.specs.inside.Pages.{MayWrite, WritesPart, IsNotedReady};
 
 use crate::asking::lacks;
 use crate::needing::entry_of;
@@ -36,15 +36,15 @@ pub fn write(
     addr: u64,
     bytes: &[u8],
 ) -> Result<u64, HostMemory>
-    requires backed { AreBacked (content_of pages.old) (table_of maps.now) }
-    requires true_rows { AreTrue (content_of pages.old) (table_of maps.now) (rows_of ready.old) }
+    requires backed { AreBacked (eager_content pages.old) (table_of maps.now) }
+    requires true_rows { NotesAreTrue (eager_content pages.old) (table_of maps.now) (rows_of ready.old) }
     requires len { length bytes.now ≤ DATA_BYTES }
-    requires may { IsAllowed (content_of pages.old) (table_of maps.now) (Command.MemWrite region addr bytes.now) }
+    requires may { IsAllowed (eager_content pages.old) (table_of maps.now) (Command.MemWrite region addr bytes.now) }
     ensures wrote { MatchResult result
-        (λ faults. DoesAccess (table_of maps.now) (content_of pages.old) (rows_of ready.old)
-        (Command.MemWrite region addr bytes.now) (Reply.Faults faults) (content_of pages.new) (rows_of ready.new))
-        (λ lack. (content_of pages.new ≡ content_of pages.old) × (rows_of ready.new ≡ rows_of ready.old)) }
-    ensures true_rows { AreTrue (content_of pages.new) (table_of maps.now) (rows_of ready.new) }
+        (λ faults. HasAccessEffect (table_of maps.now) (eager_content pages.old) (rows_of ready.old)
+        (Command.MemWrite region addr bytes.now) (Reply.Faults faults) (eager_content pages.new) (rows_of ready.new))
+        (λ lack. (eager_content pages.new ≡ eager_content pages.old) × (rows_of ready.new ≡ rows_of ready.old)) }
+    ensures true_rows { NotesAreTrue (eager_content pages.new) (table_of maps.now) (rows_of ready.new) }
 {
     if bytes.is_empty() {
         return Ok(0);
@@ -70,8 +70,8 @@ pub fn write(
 // Makes room for two pages that are owned, and for two notes. `HostMemory` if the host has too little memory.
 fn make_room(pages: &mut EagerPages, ready: &mut ReadyMap) -> Result<(), HostMemory>
     ensures rows { OnOk result (2 ≤ rows_spare pages.new) }
-    ensures notes { OnOk result (2 ≤ spare_of ready.new) }
-    ensures content { content_of pages.new ≡ content_of pages.old }
+    ensures notes { OnOk result (2 ≤ notes_spare ready.new) }
+    ensures content { eager_content pages.new ≡ eager_content pages.old }
     ensures same { rows_of ready.new ≡ rows_of ready.old }
 {
     let Ok(()) = pages.reserve(2) else {
@@ -92,16 +92,16 @@ fn write_in_two(
     addr: u64,
     bytes: &[u8],
 ) -> u64
-    requires backed { AreBacked (content_of pages.old) (table_of maps.now) }
-    requires true_rows { AreTrue (content_of pages.old) (table_of maps.now) (rows_of ready.old) }
+    requires backed { AreBacked (eager_content pages.old) (table_of maps.now) }
+    requires true_rows { NotesAreTrue (eager_content pages.old) (table_of maps.now) (rows_of ready.old) }
     requires two { PAGE < addr % PAGE + length bytes.now }
     requires len { length bytes.now ≤ DATA_BYTES }
-    requires may { IsAllowed (content_of pages.old) (table_of maps.now) (Command.MemWrite region addr bytes.now) }
+    requires may { IsAllowed (eager_content pages.old) (table_of maps.now) (Command.MemWrite region addr bytes.now) }
     requires room { 2 ≤ rows_spare pages.old }
-    requires notes { 2 ≤ spare_of ready.old }
-    ensures wrote { DoesAccess (table_of maps.now) (content_of pages.old) (rows_of ready.old)
-        (Command.MemWrite region addr bytes.now) (Reply.Faults result) (content_of pages.new) (rows_of ready.new) }
-    ensures true_rows { AreTrue (content_of pages.new) (table_of maps.now) (rows_of ready.new) }
+    requires notes { 2 ≤ notes_spare ready.old }
+    ensures wrote { HasAccessEffect (table_of maps.now) (eager_content pages.old) (rows_of ready.old)
+        (Command.MemWrite region addr bytes.now) (Reply.Faults result) (eager_content pages.new) (rows_of ready.new) }
+    ensures true_rows { NotesAreTrue (eager_content pages.new) (table_of maps.now) (rows_of ready.new) }
 {
     let page = page_of(addr);
     let at = in_page(addr);
@@ -121,18 +121,18 @@ fn write_page(
     at: u64,
     bytes: &[u8],
 ) -> u64
-    requires good { IsGood (content_of pages.old) }
-    requires true_rows { AreTrue (content_of pages.old) (table_of maps.now) (rows_of ready.old) }
-    requires may { MayWrite (content_of pages.old) (table_of maps.now) root.0 page }
+    requires good { IsGood (eager_content pages.old) }
+    requires true_rows { NotesAreTrue (eager_content pages.old) (table_of maps.now) (rows_of ready.old) }
+    requires may { MayWrite (eager_content pages.old) (table_of maps.now) root.0 page }
     requires range { at + length bytes.now ≤ PAGE }
     requires room { 1 ≤ rows_spare pages.old }
-    requires notes { 1 ≤ spare_of ready.old }
-    ensures faults { result ≡ write_fault (ready_of (rows_of ready.old) root.0 page) }
+    requires notes { 1 ≤ notes_spare ready.old }
+    ensures faults { result ≡ write_fault (ready_in (rows_of ready.old) root.0 page) }
     ensures few { result ≤ 1 }
-    ensures writes { WritesPart (table_of maps.now) root.0 page at bytes.now (content_of pages.old) (rows_of ready.old)
-        (content_of pages.new) (rows_of ready.new) }
+    ensures writes { WritesPart (table_of maps.now) root.0 page at bytes.now (eager_content pages.old) (rows_of ready.old)
+        (eager_content pages.new) (rows_of ready.new) }
     ensures room { rows_spare pages.old ≤ rows_spare pages.new + 1 }
-    ensures notes { spare_of ready.old ≤ spare_of ready.new + 1 }
+    ensures notes { notes_spare ready.old ≤ notes_spare ready.new + 1 }
 {
     let entry = entry_of(maps, root, page);
     let faults = faults_to_write(ready, root, page);
@@ -143,7 +143,7 @@ fn write_page(
 
 // How many page faults it takes to write a page: one, if it is not ready for writing.
 fn faults_to_write(ready: &ReadyMap, root: RegionName, page: PageNo) -> u64
-    ensures faults { result ≡ write_fault (ready_of (rows_of ready.now) root.0 page) }
+    ensures faults { result ≡ write_fault (ready_in (rows_of ready.now) root.0 page) }
     ensures few { result ≤ 1 }
 {
     if lacks(ready, root, page, Readiness::Write) {
@@ -162,9 +162,9 @@ fn note_written(
     page: PageNo,
     entry: Entry,
 )
-    requires { 1 ≤ spare_of ready.old }
-    ensures notes { IsNoted Readiness.Write (content_of pages.now) root.0 page entry (rows_of ready.old) (rows_of ready.new) }
-    ensures room { spare_of ready.old ≤ spare_of ready.new + 1 }
+    requires { 1 ≤ notes_spare ready.old }
+    ensures notes { IsNotedReady Readiness.Write (eager_content pages.now) root.0 page entry (rows_of ready.old) (rows_of ready.new) }
+    ensures room { notes_spare ready.old ≤ notes_spare ready.new + 1 }
 {
     let row = ReadyPage {
         koid: entry.koid,

@@ -14,8 +14,8 @@ use Rattle.vm_model.specs.Machine.MachineStep.{MachineEffect}
 use Rattle.vm_model.proofs.StepLaws.{AllOff-from_none}
 use Rattle.vmo_table.specs.Table.{IsWellCounted}
 use Rattle.mapping_set.specs.Backed.{AreBacked}
-use Rattle.ready_map.specs.Notes.{Rows, AreTrue}
-use Rattle.eager_access.specs.Accesses.{IsAllowed, DoesAccess}
+use Rattle.ready_map.specs.Notes.{ReadyRows, NotesAreTrue}
+use Rattle.eager_access.specs.Accesses.{IsAllowed, HasAccessEffect}
 use Rattle.eager_vmos.specs.declared.eager_vmos.EagerVmos.{EagerVmos}
 use Rattle.eager_vmos.specs.Vmos.{content_in}
 use Rattle.eager_machine.specs.Machine.{state_in, machine_in}
@@ -39,8 +39,8 @@ pub write_allowed : (e : EagerVmos) (spaces : Spaces) (region : RegionName) (add
 write_allowed e spaces region addr bytes may = record { rest = state_in e spaces; free = may.none }
 
 -- what was read
-pub read_acts : (e : EagerVmos) (spaces : Spaces) (rows later : Rows) (region : RegionName) (addr len n faults : ℕ) (bytes out : List ℕ) → AreSound e spaces rows → n ≡ len → bytes ≡ out
-    → DoesAccess spaces.table (content_in e) rows (MemRead region addr n) (Access faults out) (content_in e) later → AreTrue (content_in e) spaces.table later
+pub read_acts : (e : EagerVmos) (spaces : Spaces) (rows later : ReadyRows) (region : RegionName) (addr len n faults : ℕ) (bytes out : List ℕ) → AreSound e spaces rows → n ≡ len → bytes ≡ out
+    → HasAccessEffect spaces.table (content_in e) rows (MemRead region addr n) (Access faults out) (content_in e) later → NotesAreTrue (content_in e) spaces.table later
     → Acts e spaces rows (MemRead region addr len) (Access faults bytes) e spaces later
 read_acts e spaces rows later region addr len n faults bytes out sound is same does notes = record {
   effect = subst (λ (m : ℕ). MachineEffect (machine_in e spaces rows) (MemRead region addr m) (Access faults bytes) (machine_in e spaces later)) is

@@ -19,22 +19,22 @@ use Rattle.vm_model.proofs.StepLaws.{effect_keeps}
 use Rattle.moving_machine.specs.Moving.{tells_place}
 use Rattle.vmo_table.specs.Table.{CountsKeepers, IsWellCounted}
 use Rattle.region_ops.specs.Spaces.{AreAllWell}
-use Rattle.ready_map.specs.Notes.{Rows, ready_of, AreTrue}
+use Rattle.ready_map.specs.Notes.{ReadyRows, ready_in, NotesAreTrue}
 use Rattle.eager_vmos.specs.declared.eager_vmos.EagerVmos.{EagerVmos}
-use Rattle.eager_vmos.specs.Vmos.{content_in, Allows, AreCounted}
+use Rattle.eager_vmos.specs.Vmos.{content_in, Allows, HasCountedKeepers}
 use Rattle.eager_machine.specs.declared.groups.Group.{Group}
 use Rattle.eager_machine.specs.Machine.{state_in, machine_in}
 use Rattle.eager_machine.specs.inside.Acting.{AreSound, MayDo, MayDoAll, DoesVmos, AreKept, DoesAll, AreAllKept, Acts}
-use Rattle.eager_machine.specs.inside.Groups.{group_of}
+use Rattle.eager_machine.specs.inside.Groups.{eager_group_of}
 use Rattle.eager_machine.specs.inside.Leaving.{rows_after}
 use Rattle.eager_machine.proofs.LeftLaws.{effect_settles}
 
 -- ---- what the handlers ask
 
-pub sound_well : {e : EagerVmos} {spaces : Spaces} {rows : Rows} → AreSound e spaces rows → IsWellCounted e.vmos (state_in e spaces)
+pub sound_well : {e : EagerVmos} {spaces : Spaces} {rows : ReadyRows} → AreSound e spaces rows → IsWellCounted e.vmos (state_in e spaces)
 sound_well sound = record { good = sound.good.state; counted = sound.counted }
 
-pub counted_in : {e : EagerVmos} (spaces : Spaces) → IsWellCounted e.vmos (state_in e spaces) → AreCounted e
+pub counted_in : {e : EagerVmos} (spaces : Spaces) → IsWellCounted e.vmos (state_in e spaces) → HasCountedKeepers e
 counted_in {e} spaces well = record { rest = state_in e spaces; well = well }
 
 pub all_well : (e : EagerVmos) (spaces : Spaces) → IsWellCounted e.vmos (state_in e spaces) → AreAllWell (content_in e) e.vmos spaces
@@ -43,7 +43,7 @@ all_well e spaces well = record { rest = state_in e spaces; well = well }
 pub may_do : {e : EagerVmos} {spaces : Spaces} {command : Command} → MayDoAll e spaces command → MayDo e command
 may_do {e} {spaces} may = record { rest = state_in e spaces; well = may.well; none = may.none }
 
-pub may_counted : {e : EagerVmos} {command : Command} → MayDo e command → AreCounted e
+pub may_counted : {e : EagerVmos} {command : Command} → MayDo e command → HasCountedKeepers e
 may_counted may = record { rest = may.rest; well = may.well }
 
 pub may_allows : {e : EagerVmos} {command : Command} → MayDo e command → Allows e command
@@ -52,7 +52,7 @@ may_allows may = record { rest = may.rest; none = may.none }
 -- ---- what they promise
 
 -- what is done to the VMOs is done to the machine
-pub does_all : {old new : EagerVmos} {rows_old rows_new : Rows} {command : Command} {reply : Reply} (spaces : Spaces) → IsWellCounted old.vmos (state_in old spaces)
+pub does_all : {old new : EagerVmos} {rows_old rows_new : ReadyRows} {command : Command} {reply : Reply} (spaces : Spaces) → IsWellCounted old.vmos (state_in old spaces)
     → DoesVmos old rows_old command reply new rows_new → DoesAll old spaces rows_old command reply new spaces rows_new
 does_all {old} spaces well does = record {
   effect = does.does.effect (state_in old spaces) well;
@@ -61,7 +61,7 @@ does_all {old} spaces well does = record {
 }
 
 -- and what is kept of them is kept of it
-pub kept_all : {old new : EagerVmos} {rows_old rows_new : Rows} (spaces : Spaces) → IsWellCounted old.vmos (state_in old spaces)
+pub kept_all : {old new : EagerVmos} {rows_old rows_new : ReadyRows} (spaces : Spaces) → IsWellCounted old.vmos (state_in old spaces)
     → AreKept old rows_old new rows_new → AreAllKept old spaces rows_old new spaces rows_new
 kept_all {old} {new} spaces well kept = record { same = same; counted = counted; notes = kept.notes } where
   same : state_in new spaces ≡ state_in old spaces
@@ -77,11 +77,11 @@ kept_all {old} {new} spaces well kept = record { same = same; counted = counted;
   counted v = ap (λ (f : ℕ → ℕ). f v) kept.same.tables.keepers ∙ (well.counted v ∙ ap (λ (s : State). keeper_count s v) (sym same))
 
 -- all is kept where nothing was done
-pub kept_same : {e : EagerVmos} {spaces : Spaces} {rows : Rows} → IsWellCounted e.vmos (state_in e spaces) → AreAllKept e spaces rows e spaces rows
+pub kept_same : {e : EagerVmos} {spaces : Spaces} {rows : ReadyRows} → IsWellCounted e.vmos (state_in e spaces) → AreAllKept e spaces rows e spaces rows
 kept_same well = record { same = refl; counted = well.counted; notes = refl }
 
 -- a call that tells only leaves all notes
-left_told : (call : Call) (s : State) (reply : Reply) (c : Content) (rows : Rows) → group_of call ≡ Group.Telling → rows ≡ rows_after s (command_of call) reply c rows
+left_told : (call : Call) (s : State) (reply : Reply) (c : Content) (rows : ReadyRows) → eager_group_of call ≡ Group.Telling → rows ≡ rows_after s (command_of call) reply c rows
 left_told (Call.VmoRead name offset len) s reply c rows e = refl
 left_told (Call.VmoSize name) s reply c rows e = refl
 left_told (Call.VmoInfo name) s reply c rows e = refl
@@ -89,7 +89,7 @@ left_told (Call.Maps region) s reply c rows e = refl
 left_told Call.Stat s reply c rows e = refl
 left_told _ s reply c rows e = absurd cc
 
-pub told_all : {e : EagerVmos} {spaces : Spaces} {rows : Rows} {reply : Reply} (call : Call) → group_of call ≡ Group.Telling → IsWellCounted e.vmos (state_in e spaces)
+pub told_all : {e : EagerVmos} {spaces : Spaces} {rows : ReadyRows} {reply : Reply} (call : Call) → eager_group_of call ≡ Group.Telling → IsWellCounted e.vmos (state_in e spaces)
     → Effect (state_in e spaces) (command_of call) reply (state_in e spaces) → DoesAll e spaces rows (command_of call) reply e spaces rows
 told_all {e} {spaces} {rows} {reply} call group well effect =
     record { effect = effect; counted = well.counted; left = left_told call (state_in e spaces) reply (content_in e) rows group }
@@ -103,16 +103,16 @@ effect_too old (MemWrite region addr bytes) reply new effect ready = absurd effe
 effect_too old _ reply new effect ready = (effect, ready)
 
 -- what was done leaves true notes
-pub acts_of : {old new : EagerVmos} {spaces_old spaces_new : Spaces} {rows_old rows_new : Rows} {command : Command} {reply : Reply} → AreSound old spaces_old rows_old
+pub acts_of : {old new : EagerVmos} {spaces_old spaces_new : Spaces} {rows_old rows_new : ReadyRows} {command : Command} {reply : Reply} → AreSound old spaces_old rows_old
     → first_of (refusals (state_in old spaces_old) command) ≡ None → GivesName command → DoesAll old spaces_old rows_old command reply new spaces_new rows_new
     → Acts old spaces_old rows_old command reply new spaces_new rows_new
 acts_of {old} {new} {spaces_old} {spaces_new} {rows_old} {rows_new} {command} {reply} sound none given does =
     let kept = effect_keeps (state_in old spaces_old) command reply (state_in new spaces_new) sound.good.state given none does.effect in
     let fits = effect_settles (state_in old spaces_old) rows_old sound.good.state sound.notes command reply (state_in new spaces_new) none kept.good does.effect in
     record {
-      effect = effect_too (machine_in old spaces_old rows_old) command reply (machine_in new spaces_new rows_new) does.effect (ap ready_of does.left ∙ fits.are_ready);
+      effect = effect_too (machine_in old spaces_old rows_old) command reply (machine_in new spaces_new rows_new) does.effect (ap ready_in does.left ∙ fits.are_ready);
       counted = does.counted;
-      notes = subst (AreTrue (content_in new) spaces_new.table) (sym does.left) fits.notes;
+      notes = subst (NotesAreTrue (content_in new) spaces_new.table) (sym does.left) fits.notes;
     }
 
 -- no such effect is no such step

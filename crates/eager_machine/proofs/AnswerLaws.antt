@@ -20,7 +20,7 @@ use Rattle.vm_model.proofs.MachineLaws.{MachineStep-done, MachineStep-keeps}
 use Rattle.moving_machine.specs.Moving.{tells_place}
 use Rattle.moving_machine.proofs.OutcomeLaws.{not_refused}
 use Rattle.moving_machine.proofs.HostLaws.{lack_only}
-use Rattle.ready_map.specs.Notes.{Rows, ready_of, AreTrue}
+use Rattle.ready_map.specs.Notes.{ReadyRows, ready_in, NotesAreTrue}
 use Rattle.eager_vmos.specs.declared.eager_vmos.EagerVmos.{EagerVmos}
 use Rattle.eager_vmos.specs.Vmos.{content_in}
 use Rattle.eager_machine.specs.Machine.{machine_in}
@@ -29,18 +29,18 @@ use Rattle.eager_machine.proofs.ActLaws.{no_step}
 
 -- ---- sound parts
 
-module _ (old new : EagerVmos) (spaces_old spaces_new : Spaces) (rows_old rows_new : Rows) (sound : AreSound old spaces_old rows_old) where
+module _ (old new : EagerVmos) (spaces_old spaces_new : Spaces) (rows_old rows_new : ReadyRows) (sound : AreSound old spaces_old rows_old) where
   -- what is kept is the same machine
   kept_machine : AreAllKept old spaces_old rows_old new spaces_new rows_new → machine_in new spaces_new rows_new ≡ machine_in old spaces_old rows_old
-  kept_machine kept = λ i. record { state = kept.same i; ready = ready_of (kept.notes i) }
+  kept_machine kept = λ i. record { state = kept.same i; ready = ready_in (kept.notes i) }
 
   -- and sound
   kept_sound : AreAllKept old spaces_old rows_old new spaces_new rows_new → AreSound new spaces_new rows_new
   kept_sound kept = record {
     good = subst IsGoodMachine (sym (kept_machine kept)) sound.good;
     counted = kept.counted;
-    notes = subst (λ (s : State). AreTrue s.content s.spaces.table rows_new) (sym kept.same)
-        (subst (AreTrue (content_in old) spaces_old.table) (sym kept.notes) sound.notes);
+    notes = subst (λ (s : State). NotesAreTrue s.content s.spaces.table rows_new) (sym kept.same)
+        (subst (NotesAreTrue (content_in old) spaces_old.table) (sym kept.notes) sound.notes);
   }
 
 -- ---- answers
@@ -90,7 +90,7 @@ refused m command told refusal good e = record {
   frames = refl;
 }
 
-module _ (old new : EagerVmos) (spaces_old spaces_new : Spaces) (rows_old rows_new : Rows) (command : Command) (told : ℕ) (sound : AreSound old spaces_old rows_old)
+module _ (old new : EagerVmos) (spaces_old spaces_new : Spaces) (rows_old rows_new : ReadyRows) (command : Command) (told : ℕ) (sound : AreSound old spaces_old rows_old)
     (may : MayDoAll old spaces_old command) (given : GivesName command) where
   abbrev before : Machine
   before = machine_in old spaces_old rows_old

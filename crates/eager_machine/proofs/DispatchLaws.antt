@@ -11,15 +11,15 @@ use Rattle.vm_model.specs.Space.AddressSpaces.{Spaces}
 use Rattle.vm_model.specs.Machine.Given.{GivesName}
 use Rattle.vm_model.specs.Machine.Lent.{command_of, reply_for}
 use Rattle.vm_model.specs.Machine.Step.{Effect}
-use Rattle.ready_map.specs.Notes.{Rows}
+use Rattle.ready_map.specs.Notes.{ReadyRows}
 use Rattle.eager_vmos.specs.declared.eager_vmos.EagerVmos.{EagerVmos}
 use Rattle.eager_machine.specs.declared.groups.Group.{Group}
 use Rattle.eager_machine.specs.Machine.{state_in}
 use Rattle.eager_machine.specs.inside.Acting.{AreSound, MayDoAll, DoesVmos, AreKept, DoesAll, AreAllKept, Acts, HasNoSuch}
-use Rattle.eager_machine.specs.inside.Groups.{group_of}
+use Rattle.eager_machine.specs.inside.Groups.{eager_group_of}
 use Rattle.eager_machine.proofs.ActLaws.{does_all, kept_all, kept_same, told_all, acts_of}
 
-module _ (old new : EagerVmos) (spaces_old spaces_new : Spaces) (rows_old rows_new : Rows) (command : Command) (told : ℕ) where
+module _ (old new : EagerVmos) (spaces_old spaces_new : Spaces) (rows_old rows_new : ReadyRows) (command : Command) (told : ℕ) where
   -- what is answered to a command that is no access
   abbrev pub IsActed : Result (Option Answer) Lack → Type 0
   IsActed out = MatchResult out (λ given. MatchOption given (HasNoSuch old spaces_old rows_old command told new spaces_new rows_new)
@@ -53,7 +53,7 @@ module _ (old new : EagerVmos) (spaces_old spaces_new : Spaces) (rows_old rows_n
   acted sound may given (Err lack) kept = kept
 
 -- what was done to the VMOs
-pub some_vmos : (old new : EagerVmos) (spaces : Spaces) (rows_old rows_new : Rows) (command : Command) (told : ℕ) → MayDoAll old spaces command
+pub some_vmos : (old new : EagerVmos) (spaces : Spaces) (rows_old rows_new : ReadyRows) (command : Command) (told : ℕ) → MayDoAll old spaces command
     → (outcome : Result Answer Lack) (out : Result (Option Answer) Lack) → MatchResult outcome (λ answer. out ≡ Ok (Some answer)) (λ lack. out ≡ Err lack)
     → MatchResult outcome (λ answer. DoesVmos old rows_old command (reply_for answer) new rows_new) (λ lack. AreKept old rows_old new rows_new)
     → IsActed old new spaces spaces rows_old rows_new command told out
@@ -63,7 +63,7 @@ some_vmos old new spaces rows_old rows_new command told may (Err lack) out is ke
     subst (IsActed old new spaces spaces rows_old rows_new command told) (sym is) (kept_all spaces may.well kept)
 
 -- what is told only
-pub some_told : (e : EagerVmos) (spaces : Spaces) (rows : Rows) (call : Call) (told : ℕ) → group_of call ≡ Group.Telling → MayDoAll e spaces (command_of call)
+pub some_told : (e : EagerVmos) (spaces : Spaces) (rows : ReadyRows) (call : Call) (told : ℕ) → eager_group_of call ≡ Group.Telling → MayDoAll e spaces (command_of call)
     → (outcome : Result Answer Lack) (out : Result (Option Answer) Lack) → MatchResult outcome (λ answer. out ≡ Ok (Some answer)) (λ lack. out ≡ Err lack)
     → MatchResult outcome (λ answer. Effect (state_in e spaces) (command_of call) (reply_for answer) (state_in e spaces)) (λ lack. ⊤)
     → IsActed e e spaces spaces rows rows (command_of call) told out

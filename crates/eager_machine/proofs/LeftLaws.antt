@@ -33,7 +33,7 @@ use Rattle.vm_model.specs.Machine.Machine.{Machine}
 use Rattle.vm_model.specs.Machine.MachineStep.{ready_after}
 use Rattle.vm_model.proofs.RegionLaws.{region_of-at}
 use Rattle.vm_model.proofs.StepLaws.{AllOff-from_none}
-use Rattle.ready_map.specs.Notes.{Rows, ready_of, without_range, limited_rows, ChangesRange, AreTrue}
+use Rattle.ready_map.specs.Notes.{ReadyRows, ready_in, without_range, limited_rows, ChangesRange, NotesAreTrue}
 use Rattle.ready_map.proofs.SettledLaws.{ready-settled, true-settled, ready-dropped, true-dropped, ready-limited, true-limited}
 use Rattle.eager_machine.specs.inside.Leaving.{settled_rows, rows_after}
 use Rattle.eager_machine.specs.declared.reaching.Reach.{Reach}
@@ -43,16 +43,16 @@ use Rattle.eager_machine.proofs.StayLaws.{SparesEntries, SparesEntries-kept, Spa
 use Rattle.region_ops.proofs.DestroyedLaws.{destroyed-in, destroyed-out}
 
 -- the machine of a state, with these notes
-abbrev pub machine_with : State → Rows → Machine
-machine_with s rows = record { state = s; ready = ready_of rows }
+abbrev pub machine_with : State → ReadyRows → Machine
+machine_with s rows = record { state = s; ready = ready_in rows }
 
 -- By these notes the pages are ready for this, and they are true of the content and the table.
-pub record Fits (d : Content) (table : ℕ → ℕ → Option Entry) (ready : Ready) (left : Rows) : Type 0 where
-  pub are_ready : ready_of left ≡ ready
-  pub notes : AreTrue d table left
+pub record Fits (d : Content) (table : ℕ → ℕ → Option Entry) (ready : Ready) (left : ReadyRows) : Type 0 where
+  pub are_ready : ready_in left ≡ ready
+  pub notes : NotesAreTrue d table left
 
 -- what is left of the notes fits to the machine after the command
-abbrev pub Settles : State → Rows → Command → Reply → State → Type 0
+abbrev pub Settles : State → ReadyRows → Command → Reply → State → Type 0
 Settles old rows command reply new =
     Fits new.content new.spaces.table (ready_after (machine_with old rows) command reply new) (rows_after old command reply new.content rows)
 
@@ -71,35 +71,35 @@ module _ (table : ℕ → ℕ → Option Entry) (root first end : ℕ) (now : �
 
 -- ---- what stays, and what is dropped
 
-module _ (c d : Content) (old table : ℕ → ℕ → Option Entry) (rows : Rows) (true_of : AreTrue c old rows) where
+module _ (c d : Content) (old table : ℕ → ℕ → Option Entry) (rows : ReadyRows) (true_of : NotesAreTrue c old rows) where
   -- where the table is as it was
-  Fits-stays : SparesEntries c d old → Fits d old (settled c d old (ready_of rows)) rows
+  Fits-stays : SparesEntries c d old → Fits d old (settled c d old (ready_in rows)) rows
   Fits-stays spares = record { are_ready = ready-stays c d old rows true_of spares; notes = true-stays c d old rows true_of spares }
 
   -- where it changes on some pages, which are dropped
   module _ (root first end : ℕ) (same : (r q : ℕ) → ((r == root) && is_within first end q) ≡ false → table r q ≡ old r q) (spares : SparesEntries c d table) where
-    abbrev left : Rows
+    abbrev left : ReadyRows
     left = without_range rows root first end
 
-    left_true : AreTrue c table left
+    left_true : NotesAreTrue c table left
     left_true = true-dropped c old table rows root first end true_of same
 
-    Fits-dropped : Fits d table (unready (settled c d table (ready_of rows)) root first end) left
+    Fits-dropped : Fits d table (unready (settled c d table (ready_in rows)) root first end) left
     Fits-dropped = record {
       are_ready =
           ready-stays c d table left left_true spares
-          ∙ (ap (settled c d table) (ready-dropped rows root first end) ∙ settled-unready c d table (ready_of rows) root first end);
+          ∙ (ap (settled c d table) (ready-dropped rows root first end) ∙ settled-unready c d table (ready_in rows) root first end);
       notes = true-stays c d table left left_true spares;
     }
 
     -- and show nothing any more
-    Fits-bare : ((r q : ℕ) → ((r == root) && is_within first end q) ≡ true → table r q ≡ None) → Fits d table (settled c d table (ready_of rows)) left
+    Fits-bare : ((r q : ℕ) → ((r == root) && is_within first end q) ≡ true → table r q ≡ None) → Fits d table (settled c d table (ready_in rows)) left
     Fits-bare bare = record {
-      are_ready = Fits-dropped.are_ready ∙ unready-bare c d table (ready_of rows) root first end bare;
+      are_ready = Fits-dropped.are_ready ∙ unready-bare c d table (ready_in rows) root first end bare;
       notes = Fits-dropped.notes;
     }
 
-module _ (old : State) (rows : Rows) (good : IsGoodState old) (true_of : AreTrue old.content old.spaces.table rows) where
+module _ (old : State) (rows : ReadyRows) (good : IsGoodState old) (true_of : NotesAreTrue old.content old.spaces.table rows) where
   -- the reply and the new state are told by equations
   told : (command : Command) (reply answer : Reply) (new after : State) → reply ≡ answer → new ≡ after → Settles old rows command answer after → Settles old rows command reply new
   told command reply answer new after is same settles =
@@ -107,16 +107,16 @@ module _ (old : State) (rows : Rows) (good : IsGoodState old) (true_of : AreTrue
 
   -- ---- where no entry changes
 
-  all_same : Fits old.content old.spaces.table (settled old.content old.content old.spaces.table (ready_of rows)) rows
+  all_same : Fits old.content old.spaces.table (settled old.content old.content old.spaces.table (ready_in rows)) rows
   all_same = Fits-stays old.content old.content old.spaces.table old.spaces.table rows true_of (SparesEntries-same old.content old.spaces.table)
 
   -- a name more
-  all_alias : (name : ℕ) (target : Target) → let new = with_alias old name target in Fits new.content new.spaces.table (settled old.content new.content new.spaces.table (ready_of rows)) rows
+  all_alias : (name : ℕ) (target : Target) → let new = with_alias old name target in Fits new.content new.spaces.table (settled old.content new.content new.spaces.table (ready_in rows)) rows
   unfolding with_alias
   all_alias name target = all_same
 
   -- a new VMO
-  all_created : (name pages : ℕ) (resizable : Bool) → let new = with_vmo old name pages resizable in Fits new.content new.spaces.table (settled old.content new.content new.spaces.table (ready_of rows)) rows
+  all_created : (name pages : ℕ) (resizable : Bool) → let new = with_vmo old name pages resizable in Fits new.content new.spaces.table (settled old.content new.content new.spaces.table (ready_in rows)) rows
   unfolding with_vmo
   all_created name pages resizable =
       Fits-stays old.content _ old.spaces.table old.spaces.table rows true_of (SparesEntries-kept old.content _ old.spaces.table (λ root p entry e.
@@ -131,7 +131,7 @@ module _ (old : State) (rows : Rows) (good : IsGoodState old) (true_of : AreTrue
 
   -- a name or a pin less
   all_pruned : (names : ℕ → Option Target) (pins : ℕ → Option Pin) → let new = pruned (record old { names = names; pins = pins }) in IsGoodState new
-      → Fits new.content new.spaces.table (settled old.content new.content new.spaces.table (ready_of rows)) rows
+      → Fits new.content new.spaces.table (settled old.content new.content new.spaces.table (ready_in rows)) rows
   unfolding pruned
   all_pruned names pins stays = Fits-stays old.content _ old.spaces.table old.spaces.table rows true_of (pruned_spares names pins old.spaces stays)
 
@@ -139,9 +139,9 @@ module _ (old : State) (rows : Rows) (good : IsGoodState old) (true_of : AreTrue
 
   -- some pages in a row
   changed : (new : State) (r : Reach) → new.spaces ≡ old.spaces → ChangesRange old.content new.content r.koid.0 r.first r.end
-      → Fits new.content new.spaces.table (settled old.content new.content new.spaces.table (ready_of rows)) (settled_rows new.content r rows)
+      → Fits new.content new.spaces.table (settled old.content new.content new.spaces.table (ready_in rows)) (settled_rows new.content r rows)
   changed new r same change =
-      subst (λ (spaces : Spaces). Fits new.content spaces.table (settled old.content new.content spaces.table (ready_of rows)) (settled_rows new.content r rows)) (sym same)
+      subst (λ (spaces : Spaces). Fits new.content spaces.table (settled old.content new.content spaces.table (ready_in rows)) (settled_rows new.content r rows)) (sym same)
       (record {
         are_ready = ready-settled old.content new.content old.spaces.table rows true_of r.koid.0 r.first r.end change;
         notes = true-settled old.content new.content old.spaces.table rows true_of r.koid.0 r.first r.end change;
@@ -150,7 +150,7 @@ module _ (old : State) (rows : Rows) (good : IsGoodState old) (true_of : AreTrue
   -- those that a range of a name touches
   touched_changed : (new : State) (name offset len : ℕ) → new.spaces ≡ old.spaces
       → ChangesWithin (koid_of old name) (place_of old name offset / PAGE) (place_of old name offset / PAGE + length (touched (place_of old name offset) len)) old.content new.content
-      → Fits new.content new.spaces.table (settled old.content new.content new.spaces.table (ready_of rows)) (settled_rows new.content (range_of old name offset len) rows)
+      → Fits new.content new.spaces.table (settled old.content new.content new.spaces.table (ready_in rows)) (settled_rows new.content (range_of old name offset len) rows)
   touched_changed new name offset len same within =
       changed new (range_of old name offset len) same (ChangesRange-within _ _ _ old.content new.content within)
 
@@ -160,7 +160,7 @@ module _ (old : State) (rows : Rows) (good : IsGoodState old) (true_of : AreTrue
       → OwnsAll (with_snapshot old name target start pages resizable no_write).content old.content.next ps new.content
       → let first = target.first + start in let end = first + seen_pages old.content target start pages in let pinned = is_pinned old.pins target.koid.0 in
       Fits new.content new.spaces.table
-      (read_only_but pinned old.spaces.table target.koid.0 first end (settled old.content new.content new.spaces.table (ready_of rows)))
+      (read_only_but pinned old.spaces.table target.koid.0 first end (settled old.content new.content new.spaces.table (ready_in rows)))
       (limited_rows pinned target.koid.0 first end rows)
   unfolding with_snapshot
   snapshot_settles name target start pages resizable no_write new ps change owns =
@@ -172,7 +172,7 @@ module _ (old : State) (rows : Rows) (good : IsGoodState old) (true_of : AreTrue
       let leaves = LeavesOthers-owns old.content.next ps (snapshotted old.content v first seen pages) new.content owns in
       let spares : SparesEntries old.content new.content table = SparesEntries-kept old.content new.content table (λ root p entry e.
       KeepsVmo-copied old.content good.content entry.koid.0 (good.spaces.vmos root p entry e) v first seen pages new.content leaves) in
-      subst (λ (f : Spaces). Fits new.content f.table (read_only_but pinned table v first (first + seen) (settled old.content new.content f.table (ready_of rows)))
+      subst (λ (f : Spaces). Fits new.content f.table (read_only_but pinned table v first (first + seen) (settled old.content new.content f.table (ready_in rows)))
       (limited_rows pinned v first (first + seen) rows)) (sym (ap (λ (s : State). s.spaces) change))
       (record {
         are_ready =
@@ -185,7 +185,7 @@ module _ (old : State) (rows : Rows) (good : IsGoodState old) (true_of : AreTrue
 
   -- a mapping
   mapped : (root first count : ℕ) (entry : Entry) → let new = pruned (record old { spaces = with_mapping old.spaces root first count entry }) in IsGoodState new
-      → Fits new.content new.spaces.table (unready (settled old.content new.content new.spaces.table (ready_of rows)) root first (first + count)) (without_range rows root first (first + count))
+      → Fits new.content new.spaces.table (unready (settled old.content new.content new.spaces.table (ready_in rows)) root first (first + count)) (without_range rows root first (first + count))
   unfolding pruned
   mapped root first count entry stays =
       let spaces = with_mapping old.spaces root first count entry in
@@ -193,15 +193,15 @@ module _ (old : State) (rows : Rows) (good : IsGoodState old) (true_of : AreTrue
       (with_pages-off old.spaces.table root first (first + count) _) (pruned_spares old.names old.pins spaces stays)
 
   map_settles : (root first at count : ℕ) (entry : Entry) → first ≡ at → let new = pruned (record old { spaces = with_mapping old.spaces root first count entry }) in IsGoodState new
-      → Fits new.content new.spaces.table (unready (settled old.content new.content new.spaces.table (ready_of rows)) root at (at + count)) (without_range rows root at (at + count))
+      → Fits new.content new.spaces.table (unready (settled old.content new.content new.spaces.table (ready_in rows)) root at (at + count)) (without_range rows root at (at + count))
   map_settles root first at count entry is stays =
       subst (λ (n : ℕ). let new = pruned (record old { spaces = with_mapping old.spaces root first count entry }) in
-      Fits new.content new.spaces.table (unready (settled old.content new.content new.spaces.table (ready_of rows)) root n (n + count)) (without_range rows root n (n + count))) is
+      Fits new.content new.spaces.table (unready (settled old.content new.content new.spaces.table (ready_in rows)) root n (n + count)) (without_range rows root n (n + count))) is
       (mapped root first count entry stays)
 
   -- pages that are unmapped
   unmap_settles : (name first end : ℕ) → let new = pruned (record old { spaces = unmapped old.spaces name first end }) in IsGoodState new
-      → Fits new.content new.spaces.table (settled old.content new.content new.spaces.table (ready_of rows)) (without_range rows (region_of old.spaces.regions name).root.0 first end)
+      → Fits new.content new.spaces.table (settled old.content new.content new.spaces.table (ready_in rows)) (without_range rows (region_of old.spaces.regions name).root.0 first end)
   unfolding pruned
   unmap_settles name first end stays =
       let root = (region_of old.spaces.regions name).root.0 in
@@ -221,7 +221,7 @@ module _ (old : State) (rows : Rows) (good : IsGoodState old) (true_of : AreTrue
       go None e = cond-false _ _ _ (passes-none _ (old.spaces.table r q) e)
 
     destroy_settles : let new = pruned (record old { spaces = without_region old.spaces name }) in let dying = region_of old.spaces.regions name in IsGoodState new
-        → Fits new.content new.spaces.table (settled old.content new.content new.spaces.table (ready_of rows)) (without_range rows dying.root.0 dying.first (end_of dying))
+        → Fits new.content new.spaces.table (settled old.content new.content new.spaces.table (ready_in rows)) (without_range rows dying.root.0 dying.first (end_of dying))
     unfolding pruned
     destroy_settles stays =
         let dying = region_of old.spaces.regions name in
@@ -231,7 +231,7 @@ module _ (old : State) (rows : Rows) (good : IsGoodState old) (true_of : AreTrue
 
   -- other permissions
   protect_settles : (root first end : ℕ) (perm : Perm) → let spaces = protected old.spaces root first end perm in
-      Fits old.content spaces.table (unready (settled old.content old.content spaces.table (ready_of rows)) root first end) (without_range rows root first end)
+      Fits old.content spaces.table (unready (settled old.content old.content spaces.table (ready_in rows)) root first end) (without_range rows root first end)
   protect_settles root first end perm =
       let spaces = protected old.spaces root first end perm in
       Fits-dropped old.content old.content old.spaces.table spaces.table rows true_of root first end

@@ -21,15 +21,15 @@ use Rattle.vm_model.proofs.LeavingLaws.{name_vmo}
 use Rattle.vm_model.proofs.NamesLaws.{names-open}
 use Rattle.vm_model.proofs.StepLaws.{AllOff-from_none, effect_keeps}
 use Rattle.pin_table.specs.Table.{pins_of}
-use Rattle.ready_map.specs.Notes.{Rows}
+use Rattle.ready_map.specs.Notes.{ReadyRows}
 use Rattle.eager_vmos.specs.declared.eager_vmos.EagerVmos.{EagerVmos}
-use Rattle.eager_vmos.specs.Vmos.{content_in, state_with, Does}
+use Rattle.eager_vmos.specs.Vmos.{content_in, state_with_vmos, CarriesOut}
 use Rattle.eager_machine.specs.declared.groups.Group.{Group}
 use Rattle.eager_machine.specs.declared.reaching.Reach.{Reach}
 use Rattle.eager_machine.specs.inside.Acting.{MayDo, DoesVmos}
-use Rattle.eager_machine.specs.inside.Groups.{group_of}
+use Rattle.eager_machine.specs.inside.Groups.{eager_group_of}
 use Rattle.eager_machine.specs.inside.Leaving.{settled_rows, shared_rows, rows_after}
-use Rattle.eager_machine.specs.inside.Reaching.{reach_of, seen_of}
+use Rattle.eager_machine.specs.inside.Reaching.{reach_of, snapshot_reach}
 
 -- ---- the VMO of a reach
 
@@ -37,44 +37,44 @@ use Rattle.eager_machine.specs.inside.Reaching.{reach_of, seen_of}
 there_still : (old new : State) (name : ℕ) → is_open old name ≡ true → IsGoodState new → new.names ≡ old.names → IsSome (new.content.count (koid_of old name))
 there_still old new name opened good same = name_vmo new name (target_of old name) good (ap (λ (f : ℕ → Option Target). f name) same ∙ names-open old name opened)
 
-named_there : (e new : EagerVmos) (command : Command) (reply : Reply) (name : ℕ) (may : MayDo e command) → GivesName command → Does e command reply new
-    → not (is_open (state_with may.rest e) name) ≡ false → (state_with may.rest new).names ≡ (state_with may.rest e).names → IsSome ((content_in new).count (koid_of (state_with may.rest e) name))
+named_there : (e new : EagerVmos) (command : Command) (reply : Reply) (name : ℕ) (may : MayDo e command) → GivesName command → CarriesOut e command reply new
+    → not (is_open (state_with_vmos may.rest e) name) ≡ false → (state_with_vmos may.rest new).names ≡ (state_with_vmos may.rest e).names → IsSome ((content_in new).count (koid_of (state_with_vmos may.rest e) name))
 named_there e new command reply name may given does off same =
-    let old = state_with may.rest e in
-    let later = state_with may.rest new in
+    let old = state_with_vmos may.rest e in
+    let later = state_with_vmos may.rest new in
     there_still old later name (not-false (is_open old name) off) (effect_keeps old command reply later may.well.good given may.none (does.effect may.rest may.well)).good same
 
 module _ (e new : EagerVmos) (reply : Reply) where
   -- the VMO whose pages a command changed is there still
-  pub vmo_there : (call : Call) → group_of call ≡ Group.Pages → (may : MayDo e (command_of call)) → GivesName (command_of call) → Does e (command_of call) reply new
-      → IsSome ((content_in new).count (reach_of (state_with may.rest e) (command_of call)).koid.0)
+  pub vmo_there : (call : Call) → eager_group_of call ≡ Group.Pages → (may : MayDo e (command_of call)) → GivesName (command_of call) → CarriesOut e (command_of call) reply new
+      → IsSome ((content_in new).count (reach_of (state_with_vmos may.rest e) (command_of call)).koid.0)
   vmo_there (Call.VmoWrite name offset bytes) group may given does =
       named_there e new (VmoWrite name offset bytes) reply name.0 may given does
-      (AllOff-from_none (refusals (state_with may.rest e) (VmoWrite name offset bytes)) may.none).0 (ap (λ (s : State). s.names) (does.effect may.rest may.well).1)
+      (AllOff-from_none (refusals (state_with_vmos may.rest e) (VmoWrite name offset bytes)) may.none).0 (ap (λ (s : State). s.names) (does.effect may.rest may.well).1)
   vmo_there (Call.VmoFill name offset len byte) group may given does =
       named_there e new (VmoFill name offset len byte) reply name.0 may given does
-      (AllOff-from_none (refusals (state_with may.rest e) (VmoFill name offset len byte)) may.none).0 (ap (λ (s : State). s.names) (does.effect may.rest may.well).1)
+      (AllOff-from_none (refusals (state_with_vmos may.rest e) (VmoFill name offset len byte)) may.none).0 (ap (λ (s : State). s.names) (does.effect may.rest may.well).1)
   vmo_there (Call.VmoCommit name offset len) group may given does =
       named_there e new (VmoCommit name offset len) reply name.0 may given does
-      (AllOff-from_none (refusals (state_with may.rest e) (VmoCommit name offset len)) may.none).0 (ap (λ (s : State). s.names) (does.effect may.rest may.well).1)
+      (AllOff-from_none (refusals (state_with_vmos may.rest e) (VmoCommit name offset len)) may.none).0 (ap (λ (s : State). s.names) (does.effect may.rest may.well).1)
   vmo_there (Call.VmoDecommit name offset len) group may given does =
       named_there e new (VmoDecommit name offset len) reply name.0 may given does
-      (AllOff-from_none (refusals (state_with may.rest e) (VmoDecommit name offset len)) may.none).0 (ap (λ (s : State). s.names) (does.effect may.rest may.well).1)
+      (AllOff-from_none (refusals (state_with_vmos may.rest e) (VmoDecommit name offset len)) may.none).0 (ap (λ (s : State). s.names) (does.effect may.rest may.well).1)
   vmo_there (Call.VmoZero name offset len) group may given does =
       named_there e new (VmoZero name offset len) reply name.0 may given does
-      (AllOff-from_none (refusals (state_with may.rest e) (VmoZero name offset len)) may.none).0 (ap (λ (s : State). s.names) (does.effect may.rest may.well).1)
+      (AllOff-from_none (refusals (state_with_vmos may.rest e) (VmoZero name offset len)) may.none).0 (ap (λ (s : State). s.names) (does.effect may.rest may.well).1)
   vmo_there (Call.VmoSetSize name size) group may given does =
       named_there e new (VmoSetSize name size) reply name.0 may given does
-      (AllOff-from_none (refusals (state_with may.rest e) (VmoSetSize name size)) may.none).0 (ap (λ (s : State). s.names) (does.effect may.rest may.well).1)
+      (AllOff-from_none (refusals (state_with_vmos may.rest e) (VmoSetSize name size)) may.none).0 (ap (λ (s : State). s.names) (does.effect may.rest may.well).1)
   vmo_there (Call.VmoPin pin name offset len) group may given does =
       named_there e new (VmoPin pin name offset len) reply name.0 may given does
-      (AllOff-from_none (refusals (state_with may.rest e) (VmoPin pin name offset len)) may.none).0 (ap (λ (s : State). s.names) (does.effect may.rest may.well).1)
+      (AllOff-from_none (refusals (state_with_vmos may.rest e) (VmoPin pin name offset len)) may.none).0 (ap (λ (s : State). s.names) (does.effect may.rest may.well).1)
   vmo_there _ group may given does = absurd cc
 
 -- ---- notes
 
 -- what such a command leaves
-left_pages : (call : Call) → group_of call ≡ Group.Pages → (s : State) (reply : Reply) (c : Content) (rows : Rows) → settled_rows c (reach_of s (command_of call)) rows ≡ rows_after s (command_of call) reply c rows
+left_pages : (call : Call) → eager_group_of call ≡ Group.Pages → (s : State) (reply : Reply) (c : Content) (rows : ReadyRows) → settled_rows c (reach_of s (command_of call)) rows ≡ rows_after s (command_of call) reply c rows
 left_pages (Call.VmoWrite name offset bytes) group s reply c rows = refl
 left_pages (Call.VmoFill name offset len byte) group s reply c rows = refl
 left_pages (Call.VmoCommit name offset len) group s reply c rows = refl
@@ -84,21 +84,21 @@ left_pages (Call.VmoSetSize name size) group s reply c rows = refl
 left_pages (Call.VmoPin pin name offset len) group s reply c rows = refl
 left_pages _ group s reply c rows = absurd cc
 
-pub pages_do : (e new : EagerVmos) (call : Call) (reply : Reply) (r : Reach) (rows later : Rows) → group_of call ≡ Group.Pages → Does e (command_of call) reply new
-    → ((s : State) → r ≡ reach_of (state_with s e) (command_of call)) → later ≡ settled_rows (content_in new) r rows → DoesVmos e rows (command_of call) reply new later
+pub pages_do : (e new : EagerVmos) (call : Call) (reply : Reply) (r : Reach) (rows later : ReadyRows) → eager_group_of call ≡ Group.Pages → CarriesOut e (command_of call) reply new
+    → ((s : State) → r ≡ reach_of (state_with_vmos s e) (command_of call)) → later ≡ settled_rows (content_in new) r rows → DoesVmos e rows (command_of call) reply new later
 pages_do e new call reply r rows later group does reaches settled = record {
   does = does;
-  left = λ s. settled ∙ (ap (λ (x : Reach). settled_rows (content_in new) x rows) (reaches s) ∙ left_pages call group (state_with s e) reply (content_in new) rows);
+  left = λ s. settled ∙ (ap (λ (x : Reach). settled_rows (content_in new) x rows) (reaches s) ∙ left_pages call group (state_with_vmos s e) reply (content_in new) rows);
 }
 
 -- a snapshot leaves the pins
 module _ (e new : EagerVmos) (name parent : VmoName) (offset size : ℕ) (resizable no_write : Bool) (may : MayDo e (VmoChild name parent Snapshot offset size resizable no_write))
-    (does : Does e (VmoChild name parent Snapshot offset size resizable no_write) Done new) where
+    (does : CarriesOut e (VmoChild name parent Snapshot offset size resizable no_write) Done new) where
   snapshot_pins : pins_of new.pins ≡ pins_of e.pins
   unfolding with_snapshot
   snapshot_pins = ap (λ (s : State). s.pins) (does.effect may.rest may.well).1
 
-  pub snapshot_do : (r : Reach) (rows later : Rows) → ((s : State) → r ≡ seen_of (state_with s e) parent.0 offset size) → later ≡ shared_rows (pins_of new.pins) r rows
+  pub snapshot_do : (r : Reach) (rows later : ReadyRows) → ((s : State) → r ≡ snapshot_reach (state_with_vmos s e) parent.0 offset size) → later ≡ shared_rows (pins_of new.pins) r rows
       → DoesVmos e rows (VmoChild name parent Snapshot offset size resizable no_write) Done new later
   snapshot_do r rows later seen shared = record {
     does = does;

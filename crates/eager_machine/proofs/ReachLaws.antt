@@ -21,28 +21,28 @@ use Rattle.vmo_table.specs.Table.{names_of}
 use Rattle.pages.proofs.NameLaws.{name_few, IsInside-good}
 use Rattle.vm_model.proofs.ContentLaws.{pages_of_le}
 use Rattle.eager_vmos.specs.declared.eager_vmos.EagerVmos.{EagerVmos}
-use Rattle.eager_vmos.specs.Vmos.{content_in, state_with}
+use Rattle.eager_vmos.specs.Vmos.{content_in, state_with_vmos}
 use Rattle.eager_machine.specs.declared.reaching.Reach.{Reach}
 use Rattle.eager_machine.specs.inside.Acting.{MayDo}
-use Rattle.eager_machine.specs.inside.Reaching.{reach_at, range_of, reach_of, seen_of, HasRange, HasPart}
+use Rattle.eager_machine.specs.inside.Reaching.{reach_at, range_of, reach_of, snapshot_reach, HasRange, HasPart}
 use Rattle.vmo_ops.proofs.OutsideLaws.{touched-in_row}
 
 -- ---- ranges of names
 
 -- a range inside a name of a good state
-range_from : (s : State) (e : EagerVmos) (name offset len : ℕ) → IsGoodState (state_with s e) → is_open (state_with s e) name ≡ true → offset + len ≤ size_of (state_with s e) name
+range_from : (s : State) (e : EagerVmos) (name offset len : ℕ) → IsGoodState (state_with_vmos s e) → is_open (state_with_vmos s e) name ≡ true → offset + len ≤ size_of (state_with_vmos s e) name
     → HasRange e name offset len
 range_from s e name offset len good opened range =
-    let t = target_of (state_with s e) name in
-    let named = names-open (state_with s e) name opened in
-    let inside = place_inside (state_with s e) name t offset len good named range in
+    let t = target_of (state_with_vmos s e) name in
+    let named = names-open (state_with_vmos s e) name opened in
+    let inside = place_inside (state_with_vmos s e) name t offset len good named range in
     record { target = t; named = named; few = omega (arith, inside, pages_of_le (content_in e) t.koid.0 good.content) }
 
 -- one of a change that nothing refuses
-range_changed : (s : State) (e : EagerVmos) (name offset len : ℕ) (owned : List ℕ) → IsGoodState (state_with s e) → first_of (change_refusals (state_with s e) name offset len owned) ≡ None
+range_changed : (s : State) (e : EagerVmos) (name offset len : ℕ) (owned : List ℕ) → IsGoodState (state_with_vmos s e) → first_of (change_refusals (state_with_vmos s e) name offset len owned) ≡ None
     → HasRange e name offset len
 range_changed s e name offset len owned good none =
-    let parts = change_parts (state_with s e) name offset len owned none in range_from s e name offset len good parts.0 parts.2
+    let parts = change_parts (state_with_vmos s e) name offset len owned none in range_from s e name offset len good parts.0 parts.2
 
 module _ (e : EagerVmos) (name : VmoName) (offset len : ℕ) where
   pub range_write : (bytes : List ℕ) → MayDo e (VmoWrite name offset bytes) → HasRange e name.0 offset (length bytes)
@@ -59,27 +59,27 @@ module _ (e : EagerVmos) (name : VmoName) (offset len : ℕ) where
 
   pub range_decommit : MayDo e (VmoDecommit name offset len) → HasRange e name.0 offset len
   range_decommit may =
-      let s = state_with may.rest e in
+      let s = state_with_vmos may.rest e in
       let off = AllOff-from_none (refusals s (VmoDecommit name offset len)) may.none in
       range_from may.rest e name.0 offset len may.well.good (not-false (is_open s name.0) off.0) (ltb-false (size_of s name.0) (offset + len) off.1.1.1.1.0)
 
   pub range_pin : (pin : PinName) → MayDo e (VmoPin pin name offset len) → HasRange e name.0 offset len
   range_pin pin may =
-      let s = state_with may.rest e in
+      let s = state_with_vmos may.rest e in
       let off = AllOff-from_none (refusals s (VmoPin pin name offset len)) may.none in
       range_from may.rest e name.0 offset len may.well.good (not-false (is_open s name.0) off.0) (ltb-false (size_of s name.0) (offset + len) off.1.1.1.0)
 
 -- the name of a VMO that gets another size
 pub range_set_size : (e : EagerVmos) (name : VmoName) (size : ℕ) → MayDo e (VmoSetSize name size) → HasRange e name.0 0 0
 range_set_size e name size may =
-    let s = state_with may.rest e in
+    let s = state_with_vmos may.rest e in
     let off = AllOff-from_none (refusals s (VmoSetSize name size)) may.none in
     range_from may.rest e name.0 0 0 may.well.good (not-false (is_open s name.0) off.0) (omega arith)
 
 -- what a name stands for of which a snapshot is made
 pub part_seen : (e : EagerVmos) (name parent : VmoName) (offset size : ℕ) (resizable no_write : Bool) → MayDo e (VmoChild name parent Snapshot offset size resizable no_write) → HasPart e parent.0
 part_seen e name parent offset size resizable no_write may =
-    let s = state_with may.rest e in
+    let s = state_with_vmos may.rest e in
     let off = AllOff-from_none (refusals s (VmoChild name parent Snapshot offset size resizable no_write)) may.none in
     let t = target_of s parent.0 in
     let named = names-open s parent.0 (not-false (is_open s parent.0) off.0) in
@@ -93,24 +93,24 @@ abbrev pub reach_with : Koid → (first end : ℕ) → Reach
 reach_with koid first end = record { koid = koid; first = first; end = end }
 
 module _ (s : State) (e : EagerVmos) (name : ℕ) (t : Target) (named : names_of e.vmos name ≡ Some t) where
-  at : target_of (state_with s e) name ≡ t
-  at = target_of-at (state_with s e) name t named
+  at : target_of (state_with_vmos s e) name ≡ t
+  at = target_of-at (state_with_vmos s e) name t named
 
   -- those that a range of a name touches
   pub range_is : (offset len first end : ℕ) → first ≡ (t.first * PAGE + offset) / PAGE → first ≤ end → touched (t.first * PAGE + offset) len ≡ range_with_len first (end - first)
-      → reach_with t.koid first end ≡ range_of (state_with s e) name offset len
+      → reach_with t.koid first end ≡ range_of (state_with_vmos s e) name offset len
   range_is offset len first end begins order row =
       let count : length (touched (t.first * PAGE + offset) len) ≡ end - first = ap length row ∙ length-range_with_len first (end - first) in
       let ends : end ≡ (t.first * PAGE + offset) / PAGE + length (touched (t.first * PAGE + offset) len) = omega (arith, count, begins, order) in
       (λ i. reach_with t.koid (begins i) (ends i)) ∙ ap (λ (x : Target). reach_at x.koid (x.first * PAGE + offset) len) (sym at)
 
   -- those behind a size
-  pub behind_is : (size : ℕ) → reach_with t.koid (rounded size / PAGE) VMO_PAGES ≡ reach_of (state_with s e) (VmoSetSize (record { 0 = name }) size)
+  pub behind_is : (size : ℕ) → reach_with t.koid (rounded size / PAGE) VMO_PAGES ≡ reach_of (state_with_vmos s e) (VmoSetSize (record { 0 = name }) size)
   behind_is size = ap (λ (x : Target). reach_with x.koid (rounded size / PAGE) VMO_PAGES) (sym at)
 
   -- those that a snapshot sees
   pub seen_is : (offset size pages : ℕ) → pages ≡ seen_pages (content_in e) t (offset / PAGE) (rounded size / PAGE)
-      → reach_with t.koid (t.first + offset / PAGE) (t.first + offset / PAGE + pages) ≡ seen_of (state_with s e) name offset size
+      → reach_with t.koid (t.first + offset / PAGE) (t.first + offset / PAGE + pages) ≡ snapshot_reach (state_with_vmos s e) name offset size
   seen_is offset size pages is =
       ap (λ (n : ℕ). reach_with t.koid (t.first + offset / PAGE) (t.first + offset / PAGE + n)) is
       ∙ ap (λ (x : Target). reach_with x.koid (x.first + offset / PAGE) (x.first + offset / PAGE + seen_pages (content_in e) x (offset / PAGE) (rounded size / PAGE))) (sym at)

@@ -12,11 +12,11 @@ use Rattle.vm_model.specs.Space.AddressSpaces.{Spaces, mapped_count}
 use Rattle.vm_model.specs.Space.Regions.{region_of}
 use Rattle.vm_model.specs.Machine.Step.{Effect, Step}
 use Rattle.vm_model.proofs.RegionLaws.{region_of-at}
-use Rattle.vmo_table.specs.Table.{Table as Vmos, names_of, lineage_in, CountsKeepers, IsWellCounted}
-use Rattle.eager_pages.specs.Eager.{Eager, content_of}
+use Rattle.vmo_table.specs.Table.{Vmos, names_of, lineage_in, CountsKeepers, IsWellCounted}
+use Rattle.eager_pages.specs.Eager.{Eager, eager_content}
 use Rattle.region_tree.specs.Tree.{spaces_of}
 use Rattle.region_ops.specs.Spaces.{Does}
-use Rattle.ready_map.specs.Notes.{Rows, without_range}
+use Rattle.ready_map.specs.Notes.{ReadyRows, without_range}
 use Rattle.eager_vmos.specs.declared.eager_vmos.EagerVmos.{EagerVmos}
 use Rattle.eager_vmos.specs.Vmos.{content_in}
 use Rattle.eager_machine.specs.Machine.{state_in}
@@ -36,15 +36,15 @@ unfolding mapped_count
 counted_regions e old new table counted v = counted v
 
 module _ (e : EagerVmos) (old new : ℕ → Option Region) (table : ℕ → ℕ → Option Entry) (command : Command) (may : MayDoAll e (spaces_of old table) command) where
-  pub regions_done : (reply : Reply) (rows : Rows) → IsDone reply → Step (state_in e (spaces_of old table)) command reply (state_in e (spaces_of new table))
+  pub regions_done : (reply : Reply) (rows : ReadyRows) → IsDone reply → Step (state_in e (spaces_of old table)) command reply (state_in e (spaces_of new table))
       → rows ≡ rows_after (state_in e (spaces_of old table)) command reply (content_in e) rows → DoesAll e (spaces_of old table) rows command reply e (spaces_of new table) rows
   regions_done reply rows done step left = record { effect = effect_of may.none done step; counted = counted_regions e old new table may.well.counted; left = left }
 
-  pub regions_refused : (refusal : Refusal) (rows : Rows) → (Effect (state_in e (spaces_of old table)) command (Refused refusal) (state_in e (spaces_of new table)) → ⊥)
+  pub regions_refused : (refusal : Refusal) (rows : ReadyRows) → (Effect (state_in e (spaces_of old table)) command (Refused refusal) (state_in e (spaces_of new table)) → ⊥)
       → Step (state_in e (spaces_of old table)) command (Refused refusal) (state_in e (spaces_of new table)) → AreAllKept e (spaces_of old table) rows e (spaces_of new table) rows
   regions_refused refusal rows never step = record { same = same_of may.none never step; counted = counted_regions e old new table may.well.counted; notes = refl }
 
-  pub regions_kept : (rows : Rows) → new ≡ old → AreAllKept e (spaces_of old table) rows e (spaces_of new table) rows
+  pub regions_kept : (rows : ReadyRows) → new ≡ old → AreAllKept e (spaces_of old table) rows e (spaces_of new table) rows
   regions_kept rows same = record { same = λ i. state_in e (spaces_of (same i) table); counted = counted_regions e old new table may.well.counted; notes = refl }
 
 -- ---- VMOs and mappings
@@ -54,19 +54,19 @@ abbrev pub with_both : EagerVmos → Vmos → Eager → EagerVmos
 with_both e vmos pages = record e { vmos = vmos; pages = pages }
 
 module _ (e : EagerVmos) (vmos : Vmos) (pages : Eager) (old new : Spaces) (command : Command) (may : MayDoAll e old command) where
-  pub all_done : (reply : Reply) (rows later : Rows) → IsDone reply → Does (content_in e) e.vmos old command reply (content_of pages) vmos new
-      → later ≡ rows_after (state_in e old) command reply (content_of pages) rows → DoesAll e old rows command reply (with_both e vmos pages) new later
+  pub all_done : (reply : Reply) (rows later : ReadyRows) → IsDone reply → Does (content_in e) e.vmos old command reply (eager_content pages) vmos new
+      → later ≡ rows_after (state_in e old) command reply (eager_content pages) rows → DoesAll e old rows command reply (with_both e vmos pages) new later
   all_done reply rows later done does left =
       record { effect = effect_of may.none done (does.step (state_in e old) may.well); counted = does.counted (state_in e old) may.well; left = left }
 
-  pub all_refused : (refusal : Refusal) (rows : Rows) → (Effect (state_in e old) command (Refused refusal) (state_in (with_both e vmos pages) new) → ⊥)
-      → Does (content_in e) e.vmos old command (Refused refusal) (content_of pages) vmos new → AreAllKept e old rows (with_both e vmos pages) new rows
+  pub all_refused : (refusal : Refusal) (rows : ReadyRows) → (Effect (state_in e old) command (Refused refusal) (state_in (with_both e vmos pages) new) → ⊥)
+      → Does (content_in e) e.vmos old command (Refused refusal) (eager_content pages) vmos new → AreAllKept e old rows (with_both e vmos pages) new rows
   all_refused refusal rows never does =
       record { same = same_of may.none never (does.step (state_in e old) may.well); counted = does.counted (state_in e old) may.well; notes = refl }
 
 -- where nothing was done
-pub all_kept : (e : EagerVmos) (vmos : Vmos) (pages : Eager) (regions : ℕ → Option Region) (old new : ℕ → ℕ → Option Entry) (rows : Rows) → IsWellCounted e.vmos (state_in e (spaces_of regions old))
-    → content_of pages ≡ content_in e → vmos ≡ e.vmos → new ≡ old → AreAllKept e (spaces_of regions old) rows (with_both e vmos pages) (spaces_of regions new) rows
+pub all_kept : (e : EagerVmos) (vmos : Vmos) (pages : Eager) (regions : ℕ → Option Region) (old new : ℕ → ℕ → Option Entry) (rows : ReadyRows) → IsWellCounted e.vmos (state_in e (spaces_of regions old))
+    → eager_content pages ≡ content_in e → vmos ≡ e.vmos → new ≡ old → AreAllKept e (spaces_of regions old) rows (with_both e vmos pages) (spaces_of regions new) rows
 all_kept e vmos pages regions old new rows well content tables table = record { same = same; counted = counted; notes = refl } where
   same : state_in (with_both e vmos pages) (spaces_of regions new) ≡ state_in e (spaces_of regions old)
   same = λ i. record (state_in e (spaces_of regions old)) {
@@ -87,7 +87,7 @@ counted_mapped e old new counted mapped v = omega (arith, counted v, mapped v)
 -- ---- what is left
 
 -- the pages of a range are dropped in the address space of a region
-pub dropped : (regions : ℕ → Option Region) (name : ℕ) (region : Region) → regions name ≡ Some region → (rows later : Rows) (at len first count : ℕ)
+pub dropped : (regions : ℕ → Option Region) (name : ℕ) (region : Region) → regions name ≡ Some region → (rows later : ReadyRows) (at len first count : ℕ)
     → later ≡ without_range rows region.root.0 first (first + count) → first ≡ at / PAGE → count ≡ rounded len / PAGE
     → later ≡ without_range rows (region_of regions name).root.0 (at / PAGE) (at / PAGE + rounded len / PAGE)
 dropped regions name region given rows later at len first count is begins counts =

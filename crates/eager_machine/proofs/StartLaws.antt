@@ -15,19 +15,19 @@ use Rattle.vm_model.proofs.MachineLaws.{IsGoodMachine-empty}
 use Rattle.vm_model.proofs.SpaceLaws.{mapped_count-none}
 use Rattle.vmo_table.specs.Table.{names_of, lineage_in, keepers_of}
 use Rattle.pin_table.specs.Table.{pins_of}
-use Rattle.eager_pages.specs.Eager.{Eager, content_of}
+use Rattle.eager_pages.specs.Eager.{Eager, eager_content}
 use Rattle.mapping_set.specs.Tables.{table_of}
 use Rattle.region_tree.specs.Tree.{regions_of}
-use Rattle.ready_map.specs.Notes.{rows_of, ready_of, AreTrue}
+use Rattle.ready_map.specs.Notes.{rows_of, ready_in, NotesAreTrue}
 use Rattle.ready_map.specs.declared.ready_map.ReadyPage.{ReadyPage}
 use Rattle.eager_vmos.specs.Vmos.{content_in}
-use Rattle.eager_machine.specs.Machine.{Parts, spaces_in, state_in, machine_in, machine_of}
+use Rattle.eager_machine.specs.Machine.{EagerParts, eager_spaces_in, state_in, machine_in, eager_machine_of}
 use Rattle.eager_machine.specs.inside.Acting.{AreSound}
 
-module _ (m : Parts) (pages : content_in m.vmos ≡ nothing) (names : (n : ℕ) → names_of m.vmos.vmos n ≡ None) (lineage : (v : ℕ) → lineage_in m.vmos.vmos v ≡ None)
+module _ (m : EagerParts) (pages : content_in m.vmos ≡ nothing) (names : (n : ℕ) → names_of m.vmos.vmos n ≡ None) (lineage : (v : ℕ) → lineage_in m.vmos.vmos v ≡ None)
     (keepers : (v : ℕ) → keepers_of m.vmos.vmos v ≡ 0) (pins : (n : ℕ) → pins_of m.vmos.pins n ≡ None) (regions : regions_of m.regions ≡ (λ n. None))
     (table : table_of m.maps ≡ (λ root p. None)) (rows : rows_of m.ready ≡ (λ root p. None)) where
-  pub machine_in-start : machine_in m.vmos (spaces_in m) (rows_of m.ready) ≡ empty_machine 0
+  pub machine_in-start : machine_in m.vmos (eager_spaces_in m) (rows_of m.ready) ≡ empty_machine 0
   unfolding empty_machine empty_state nothing no_spaces
   machine_in-start = λ i. record {
     state = record {
@@ -37,56 +37,56 @@ module _ (m : Parts) (pages : content_in m.vmos ≡ nothing) (names : (n : ℕ) 
       pins = λ n. pins n i;
       spaces = record { regions = regions i; table = table i };
     };
-    ready = ready_of (rows i);
+    ready = ready_in (rows i);
   }
 
-  pub machine_of-start : machine_of m ≡ empty_machine 0
-  unfolding machine_of
-  machine_of-start = machine_in-start
+  pub eager_machine_of-start : eager_machine_of m ≡ empty_machine 0
+  unfolding eager_machine_of
+  eager_machine_of-start = machine_in-start
 
   -- it is good, and the parts are sound
-  pub start_good : IsGoodMachine (machine_of m)
-  start_good = subst IsGoodMachine (sym machine_of-start) (IsGoodMachine-empty 0)
+  pub start_good : IsGoodMachine (eager_machine_of m)
+  start_good = subst IsGoodMachine (sym eager_machine_of-start) (IsGoodMachine-empty 0)
 
-  pub start_sound : AreSound m.vmos (spaces_in m) (rows_of m.ready)
+  pub start_sound : AreSound m.vmos (eager_spaces_in m) (rows_of m.ready)
   start_sound = record {
     good = subst IsGoodMachine (sym machine_in-start) (IsGoodMachine-empty 0);
     counted = λ v.
         let no_pin = entry_count-empty NAMES (λ (pin : Pin). pin.koid == v) (pins_of m.vmos.pins) pins in
-        let no_page = mapped_count-none (spaces_in m) v table in
+        let no_page = mapped_count-none (eager_spaces_in m) v table in
         omega (arith, keepers v, no_pin, no_page);
-    notes = subst (AreTrue (content_in m.vmos) (table_of m.maps)) (sym rows) (record { entry = λ root p row e. absurd cc; current = λ root p row e. absurd cc });
+    notes = subst (NotesAreTrue (content_in m.vmos) (table_of m.maps)) (sym rows) (record { entry = λ root p row e. absurd cc; current = λ root p row e. absurd cc });
   }
 
 -- ---- page frames
 
 -- the parts, with these pages
-abbrev pub with_pages : Parts → Eager → Parts
+abbrev pub with_pages : EagerParts → Eager → EagerParts
 with_pages m pages = record m { vmos = record (m.vmos) { pages = pages } }
 
 -- a machine with nothing has no VMO
-pub start_nothing : (m : Parts) → machine_of m ≡ empty_machine 0 → content_in m.vmos ≡ nothing
-unfolding machine_of empty_machine empty_state nothing
+pub start_nothing : (m : EagerParts) → eager_machine_of m ≡ empty_machine 0 → content_in m.vmos ≡ nothing
+unfolding eager_machine_of empty_machine empty_state nothing
 start_nothing m e = ap (λ (n : Machine). n.state.content) e
 
-module _ (m : Parts) (pages : Eager) (frames : ℕ) (empty : machine_of m ≡ empty_machine 0) (sound : AreSound m.vmos (spaces_in m) (rows_of m.ready)) where
+module _ (m : EagerParts) (pages : Eager) (frames : ℕ) (empty : eager_machine_of m ≡ empty_machine 0) (sound : AreSound m.vmos (eager_spaces_in m) (rows_of m.ready)) where
   -- nothing is ready
-  no_rows : (root p : ℕ) → ready_of (rows_of m.ready) root p ≡ None
-  unfolding machine_of empty_machine
+  no_rows : (root p : ℕ) → ready_in (rows_of m.ready) root p ≡ None
+  unfolding eager_machine_of empty_machine
   no_rows root p = ap (λ (n : Machine). n.ready root p) empty
 
-  filled_machine : content_of pages ≡ record (content_in m.vmos) { frames = frames } → machine_of (with_pages m pages) ≡ empty_machine frames
-  unfolding machine_of empty_machine empty_state
+  filled_machine : eager_content pages ≡ record (content_in m.vmos) { frames = frames } → eager_machine_of (with_pages m pages) ≡ empty_machine frames
+  unfolding eager_machine_of empty_machine empty_state
   filled_machine filled =
-      ap {B = Machine} (λ (c : Content). record (machine_in m.vmos (spaces_in m) (rows_of m.ready)) { state = record (state_in m.vmos (spaces_in m)) { content = c } }) filled
+      ap {B = Machine} (λ (c : Content). record (machine_in m.vmos (eager_spaces_in m) (rows_of m.ready)) { state = record (state_in m.vmos (eager_spaces_in m)) { content = c } }) filled
       ∙ ap {B = Machine} (λ (n : Machine). record n { state = record (n.state) { content = record (n.state.content) { frames = frames } } }) empty
 
-  kept_machine : content_of pages ≡ content_in m.vmos → machine_of (with_pages m pages) ≡ machine_of m
-  unfolding machine_of
-  kept_machine same = ap {B = Machine} (λ (c : Content). record (machine_in m.vmos (spaces_in m) (rows_of m.ready)) { state = record (state_in m.vmos (spaces_in m)) { content = c } }) same
+  kept_machine : eager_content pages ≡ content_in m.vmos → eager_machine_of (with_pages m pages) ≡ eager_machine_of m
+  unfolding eager_machine_of
+  kept_machine same = ap {B = Machine} (λ (c : Content). record (machine_in m.vmos (eager_spaces_in m) (rows_of m.ready)) { state = record (state_in m.vmos (eager_spaces_in m)) { content = c } }) same
 
   -- the notes are none
-  notes_none : (c : Content) → AreTrue c (table_of m.maps) (rows_of m.ready)
+  notes_none : (c : Content) → NotesAreTrue c (table_of m.maps) (rows_of m.ready)
   notes_none c = record {
     entry = λ root p row e. absurd (no_row root p row e);
     current = λ root p row e. absurd (no_row root p row e);
@@ -94,13 +94,13 @@ module _ (m : Parts) (pages : Eager) (frames : ℕ) (empty : machine_of m ≡ em
     no_row : (root p : ℕ) (row : ReadyPage) → rows_of m.ready root p ≡ Some row → ⊥
     no_row root p row e = let none = no_rows root p in let some = ap (option_map (λ (x : ReadyPage). x.readiness)) e in absurd cc
 
-  sound_from : IsGoodMachine (machine_of (with_pages m pages)) → AreSound (with_pages m pages).vmos (spaces_in m) (rows_of m.ready)
-  unfolding machine_of
-  sound_from good = record { good = good; counted = sound.counted; notes = notes_none (content_of pages) }
+  sound_from : IsGoodMachine (eager_machine_of (with_pages m pages)) → AreSound (with_pages m pages).vmos (eager_spaces_in m) (rows_of m.ready)
+  unfolding eager_machine_of
+  sound_from good = record { good = good; counted = sound.counted; notes = notes_none (eager_content pages) }
 
-  pub filled : (r : Result (Unit {0}) Lack) → OnOk r (content_of pages ≡ record (content_in m.vmos) { frames = frames }) → OnErr r (content_of pages ≡ content_in m.vmos)
-      → MatchResult r (λ u. machine_of (with_pages m pages) ≡ empty_machine frames) (λ lack. machine_of (with_pages m pages) ≡ machine_of m)
-      × IsGoodMachine (machine_of (with_pages m pages)) × AreSound (with_pages m pages).vmos (spaces_in m) (rows_of m.ready)
+  pub filled : (r : Result (Unit {0}) Lack) → OnOk r (eager_content pages ≡ record (content_in m.vmos) { frames = frames }) → OnErr r (eager_content pages ≡ content_in m.vmos)
+      → MatchResult r (λ u. eager_machine_of (with_pages m pages) ≡ empty_machine frames) (λ lack. eager_machine_of (with_pages m pages) ≡ eager_machine_of m)
+      × IsGoodMachine (eager_machine_of (with_pages m pages)) × AreSound (with_pages m pages).vmos (eager_spaces_in m) (rows_of m.ready)
   filled (Ok u) done kept =
       let is = filled_machine done in
       let good = subst IsGoodMachine (sym is) (IsGoodMachine-empty frames) in (is, good, sound_from good)

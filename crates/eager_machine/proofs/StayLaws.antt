@@ -11,13 +11,13 @@ use Rattle.vm_model.specs.declared.space.Readiness.{Readiness}
 use Rattle.vm_model.specs.Contents.Content.{Page, Content, pages_of, created, IsGood}
 use Rattle.vm_model.specs.Contents.Sharing.{snapshotted, only}
 use Rattle.vm_model.specs.Contents.Zeroing.{is_within, resized}
-use Rattle.vm_model.specs.Space.Readiness.{Ready, frame_at, is_same_frame, keeps_frame, settled, unready}
+use Rattle.vm_model.specs.Space.Readiness.{Ready, frame_at, is_same_frame, keeps_frame, settled, unready, frame_number}
 use Rattle.vm_model.proofs.ContentLaws.{pages_of-at, pages_of-same, count_from_page}
 use Rattle.vm_model.proofs.SharingLaws.{koid_some, page-snapshotted_other, page-only_stays}
 use Rattle.vm_model.proofs.ZeroingLaws.{page_past, count-resized_here, count-resized_other, page-resized_stays, page-resized_some}
 use Rattle.vm_model.proofs.ReadinessLaws.{keeps_frame-from, settled-same}
 use Rattle.ready_map.specs.declared.ready_map.ReadyPage.{ReadyPage}
-use Rattle.ready_map.specs.Notes.{Rows, ready_of, number_of, ChangesRange, AreTrue}
+use Rattle.ready_map.specs.Notes.{ReadyRows, ready_in, ChangesRange, NotesAreTrue}
 use Rattle.vmo_ops.proofs.OutsideLaws.{ChangesWithin, LeavesOthers}
 
 -- a page that is the same has the same frame
@@ -33,7 +33,7 @@ pub record SparesEntries (c d : Content) (table : ℕ → ℕ → Option Entry) 
   pub stays : (root p : ℕ) (entry : Entry) → table root p ≡ Some entry → entry.page < pages_of c entry.koid.0 → StaysIn c d entry.koid.0 entry.page
 
 -- the row of a page that is ready
-ready_row : (rows : Rows) (root p : ℕ) (readiness : Readiness) → ready_of rows root p ≡ Some readiness → (row : ReadyPage) × (rows root p ≡ Some row)
+ready_row : (rows : ReadyRows) (root p : ℕ) (readiness : Readiness) → ready_in rows root p ≡ Some readiness → (row : ReadyPage) × (rows root p ≡ Some row)
 ready_row rows root p readiness e = go (rows root p) refl e where
   go : (o : Option ReadyPage) → rows root p ≡ o → option_map (λ (x : ReadyPage). x.readiness) o ≡ Some readiness → (row : ReadyPage) × (rows root p ≡ Some row)
   go None is f = absurd cc
@@ -41,12 +41,12 @@ ready_row rows root p readiness e = go (rows root p) refl e where
 
 -- ---- notes that stay
 
-module _ (c d : Content) (table : ℕ → ℕ → Option Entry) (rows : Rows) (true_of : AreTrue c table rows) (spares : SparesEntries c d table) where
+module _ (c d : Content) (table : ℕ → ℕ → Option Entry) (rows : ReadyRows) (true_of : NotesAreTrue c table rows) (spares : SparesEntries c d table) where
   -- what a row is of stays
   entry_stays : (root p : ℕ) (row : ReadyPage) → rows root p ≡ Some row → (entry : Entry) × (table root p ≡ Some entry) × StaysIn c d entry.koid.0 entry.page × StaysIn c d row.koid.0 row.page
   entry_stays root p row e =
       let entry = true_of.entry root p row e in
-      let was = and_parts (is_same_frame (number_of row.frame) (frame_at c row.koid.0 row.page)) (nat_lt row.page (pages_of c row.koid.0)) (true_of.current root p row e) in
+      let was = and_parts (is_same_frame (frame_number row.frame) (frame_at c row.koid.0 row.page)) (nat_lt row.page (pages_of c row.koid.0)) (true_of.current root p row e) in
       let low : row.page < pages_of c row.koid.0 = ltb-true row.page (pages_of c row.koid.0) was.1 in
       let below : entry.0.page < pages_of c entry.0.koid.0 =
       subst (λ (n : ℕ). n < pages_of c entry.0.koid.0) (sym entry.3) (subst (λ (v : ℕ). row.page < pages_of c v) (sym entry.2) low) in
@@ -54,21 +54,21 @@ module _ (c d : Content) (table : ℕ → ℕ → Option Entry) (rows : Rows) (t
       (entry.0, entry.1, stays, subst (StaysIn c d row.koid.0) entry.3 (subst (λ (v : ℕ). StaysIn c d v entry.0.page) entry.2 stays))
 
   -- so all that was ready is
-  pub ready-stays : ready_of rows ≡ settled c d table (ready_of rows)
-  ready-stays = sym (settled-same c d table (ready_of rows) (λ root p readiness e.
+  pub ready-stays : ready_in rows ≡ settled c d table (ready_in rows)
+  ready-stays = sym (settled-same c d table (ready_in rows) (λ root p readiness e.
       let row = ready_row rows root p readiness e in
       let entry = entry_stays root p row.0 row.1 in
       (entry.0, entry.1, keeps_frame-from c d entry.0 entry.2.0 entry.2.1)))
 
   -- and the notes are true
-  pub true-stays : AreTrue d table rows
+  pub true-stays : NotesAreTrue d table rows
   true-stays = record {
     entry = true_of.entry;
     current = λ root p row e.
         let stays = (entry_stays root p row e).3 in
-        let was = and_parts (is_same_frame (number_of row.frame) (frame_at c row.koid.0 row.page)) (nat_lt row.page (pages_of c row.koid.0)) (true_of.current root p row e) in
-        and_from (is_same_frame (number_of row.frame) (frame_at d row.koid.0 row.page)) (nat_lt row.page (pages_of d row.koid.0))
-        (ap (is_same_frame (number_of row.frame)) stays.0 ∙ was.0) (lt-ltb row.page (pages_of d row.koid.0) stays.1);
+        let was = and_parts (is_same_frame (frame_number row.frame) (frame_at c row.koid.0 row.page)) (nat_lt row.page (pages_of c row.koid.0)) (true_of.current root p row e) in
+        and_from (is_same_frame (frame_number row.frame) (frame_at d row.koid.0 row.page)) (nat_lt row.page (pages_of d row.koid.0))
+        (ap (is_same_frame (frame_number row.frame)) stays.0 ∙ was.0) (lt-ltb row.page (pages_of d row.koid.0) stays.1);
   }
 
 -- ---- pages of an address space that are ready for nothing

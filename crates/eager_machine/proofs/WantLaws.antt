@@ -11,10 +11,10 @@ use Rattle.vm_model.specs.Machine.Step.{may_lack_memory}
 use Rattle.vm_model.specs.Machine.Machine.{Machine}
 use Rattle.vm_model.specs.Machine.MachineStep.{may_want_memory}
 use Rattle.eager_vmos.specs.declared.eager_vmos.EagerVmos.{EagerVmos}
-use Rattle.eager_vmos.specs.Vmos.{content_in, state_with}
+use Rattle.eager_vmos.specs.Vmos.{content_in, state_with_vmos}
 use Rattle.eager_machine.specs.declared.groups.Group.{Group}
 use Rattle.eager_machine.specs.declared.reaching.Reach.{Reach}
-use Rattle.eager_machine.specs.inside.Groups.{group_of}
+use Rattle.eager_machine.specs.inside.Groups.{eager_group_of}
 use Rattle.eager_machine.specs.inside.Reaching.{reach_of}
 use Rattle.eager_machine.proofs.ReachLaws.{touched_any}
 
@@ -45,22 +45,22 @@ clearing_order _ s r on is = absurd cc
 
 module _ (e : EagerVmos) (r : Reach) (result : Bool) where
   -- a call that owns pages wants memory if one is not sole
-  pub owning_wants : (call : Call) → is_owning call ≡ true → ((s : State) → r ≡ reach_of (state_with s e) (command_of call))
-      → result ≡ list_any (λ p. not (sole (content_in e) r.koid.0 p)) (range_with_len r.first (r.end - r.first)) → (s : State) → result ≡ may_lack_memory (state_with s e) (command_of call)
-  owning_wants (Call.VmoWrite name offset bytes) on is any s = touched_any (state_with s e) name.0 offset (length bytes) r (λ v p. not (sole (content_in e) v p)) result (is s) any
-  owning_wants (Call.VmoFill name offset len byte) on is any s = touched_any (state_with s e) name.0 offset len r (λ v p. not (sole (content_in e) v p)) result (is s) any
-  owning_wants (Call.VmoCommit name offset len) on is any s = touched_any (state_with s e) name.0 offset len r (λ v p. not (sole (content_in e) v p)) result (is s) any
+  pub owning_wants : (call : Call) → is_owning call ≡ true → ((s : State) → r ≡ reach_of (state_with_vmos s e) (command_of call))
+      → result ≡ list_any (λ p. not (sole (content_in e) r.koid.0 p)) (range_with_len r.first (r.end - r.first)) → (s : State) → result ≡ may_lack_memory (state_with_vmos s e) (command_of call)
+  owning_wants (Call.VmoWrite name offset bytes) on is any s = touched_any (state_with_vmos s e) name.0 offset (length bytes) r (λ v p. not (sole (content_in e) v p)) result (is s) any
+  owning_wants (Call.VmoFill name offset len byte) on is any s = touched_any (state_with_vmos s e) name.0 offset len r (λ v p. not (sole (content_in e) v p)) result (is s) any
+  owning_wants (Call.VmoCommit name offset len) on is any s = touched_any (state_with_vmos s e) name.0 offset len r (λ v p. not (sole (content_in e) v p)) result (is s) any
   owning_wants _ on is any s = absurd cc
 
   -- and one that makes pages zero if one is held
-  pub clearing_wants : (call : Call) → is_clearing call ≡ true → ((s : State) → r ≡ reach_of (state_with s e) (command_of call))
-      → result ≡ list_any (is_held (content_in e) r.koid.0) (range_with_len r.first (r.end - r.first)) → (s : State) → result ≡ may_lack_memory (state_with s e) (command_of call)
-  clearing_wants (Call.VmoZero name offset len) on is any s = touched_any (state_with s e) name.0 offset len r (is_held (content_in e)) result (is s) any
-  clearing_wants (Call.VmoDecommit name offset len) on is any s = touched_any (state_with s e) name.0 offset len r (is_held (content_in e)) result (is s) any
+  pub clearing_wants : (call : Call) → is_clearing call ≡ true → ((s : State) → r ≡ reach_of (state_with_vmos s e) (command_of call))
+      → result ≡ list_any (is_held (content_in e) r.koid.0) (range_with_len r.first (r.end - r.first)) → (s : State) → result ≡ may_lack_memory (state_with_vmos s e) (command_of call)
+  clearing_wants (Call.VmoZero name offset len) on is any s = touched_any (state_with_vmos s e) name.0 offset len r (is_held (content_in e)) result (is s) any
+  clearing_wants (Call.VmoDecommit name offset len) on is any s = touched_any (state_with_vmos s e) name.0 offset len r (is_held (content_in e)) result (is s) any
   clearing_wants _ on is any s = absurd cc
 
 -- what is no access may want memory where the state may lack it
-pub lack_want : (m : Machine) (call : Call) → (group_of call ≡ Group.Memory → ⊥) → may_want_memory m (command_of call) ≡ may_lack_memory m.state (command_of call)
+pub lack_want : (m : Machine) (call : Call) → (eager_group_of call ≡ Group.Memory → ⊥) → may_want_memory m (command_of call) ≡ may_lack_memory m.state (command_of call)
 lack_want m (Call.MemRead region addr len) other = absurd (other refl)
 lack_want m (Call.MemWrite region addr bytes) other = absurd (other refl)
 lack_want m _ other = refl

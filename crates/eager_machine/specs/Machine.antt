@@ -7,33 +7,33 @@ use Rattle.vm_model.specs.Space.Readiness.{frame_at}
 use Rattle.vm_model.specs.Machine.State.{State, empty_state}
 use Rattle.vm_model.specs.Machine.Machine.{Machine}
 use Rattle.mapping_set.specs.Tables.{Mappings, table_of}
-use Rattle.region_tree.specs.Tree.{Tree as Regions, regions_of, spaces_of}
-use Rattle.ready_map.specs.Notes.{Notes, Rows, rows_of, ready_of}
+use Rattle.region_tree.specs.Tree.{RegionRows as Regions, regions_of, spaces_of}
+use Rattle.ready_map.specs.Notes.{Notes, ReadyRows, rows_of, ready_in}
 use Rattle.eager_vmos.specs.declared.eager_vmos.EagerVmos.{EagerVmos}
-use Rattle.eager_vmos.specs.Vmos.{state_with}
+use Rattle.eager_vmos.specs.Vmos.{state_with_vmos}
 
 -- the names, VMOs, pins and pages, the regions, the mappings, and what is noted of ready pages
-pub record Parts : Type 0 where
+pub record EagerParts : Type 0 where
   pub vmos : EagerVmos
   pub regions : Regions
   pub maps : Mappings
   pub ready : Notes
 
 -- the address spaces that the regions and the mappings are
-abbrev pub spaces_in : Parts → Spaces
-spaces_in m = spaces_of (regions_of m.regions) (table_of m.maps)
+abbrev pub eager_spaces_in : EagerParts → Spaces
+eager_spaces_in m = spaces_of (regions_of m.regions) (table_of m.maps)
 
 -- the state that the VMOs and the address spaces are. They keep all of it
 abbrev pub state_in : EagerVmos → Spaces → State
-state_in e spaces = record (state_with (empty_state 0) e) { spaces = spaces }
+state_in e spaces = record (state_with_vmos (empty_state 0) e) { spaces = spaces }
 
 -- the machine that they are with these notes of ready pages
-abbrev pub machine_in : EagerVmos → Spaces → Rows → Machine
-machine_in e spaces rows = record { state = state_in e spaces; ready = ready_of rows }
+abbrev pub machine_in : EagerVmos → Spaces → ReadyRows → Machine
+machine_in e spaces rows = record { state = state_in e spaces; ready = ready_in rows }
 
 -- the machine that the parts stand for
-unfoldable pub machine_of : Parts → Machine
-machine_of m = machine_in m.vmos (spaces_in m) (rows_of m.ready)
+unfoldable pub eager_machine_of : EagerParts → Machine
+eager_machine_of m = machine_in m.vmos (eager_spaces_in m) (rows_of m.ready)
 
 -- some page that is pinned has the frame
 abbrev pub HasPinnedFrame : Machine → (tag : ℕ) → Type 0

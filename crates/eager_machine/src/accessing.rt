@@ -10,10 +10,10 @@ ghost use Rattle.vm_model.specs.Machine.MachineStep.{may_want_memory};
 ghost use Rattle.vmo_table.specs.Table.{IsWellCounted};
 ghost use Rattle.mapping_set.specs.Tables.{table_of};
 ghost use Rattle.region_tree.specs.Tree.{regions_of, spaces_of};
-ghost use Rattle.ready_map.specs.Notes.{rows_of, ready_of};
+ghost use Rattle.ready_map.specs.Notes.{rows_of, ready_in};
 ghost use Rattle.eager_machine.specs.Machine.{state_in};
 ghost use Rattle.eager_machine.specs.inside.Acting.{AreSound, MayDoAll, Acts, AreAllKept};
-ghost use Rattle.eager_machine.specs.inside.Groups.{group_of};
+ghost use Rattle.eager_machine.specs.inside.Groups.{eager_group_of};
 ghost use Rattle.eager_machine.specs.declared.groups.Group.{Group};
 
 use eager_access::{
@@ -33,7 +33,7 @@ pub(crate) fn refusal_in_memory(
     maps: &MappingSet,
     call: &Call<'_>,
 ) -> Option<Refusal>
-    requires group { group_of call.now ≡ Group.Memory }
+    requires group { eager_group_of call.now ≡ Group.Memory }
     requires well { IsWellCounted vmos.now.vmos (state_in vmos.now (spaces_of (regions_of regions.now) (table_of maps.now))) }
     ensures { result ≡ first_of (refusals (state_in vmos.now (spaces_of (regions_of regions.now) (table_of maps.now)))
         (command_of call.now)) }
@@ -53,10 +53,10 @@ pub(crate) fn refusal_in_memory(
 
 /// Returns whether an access that nothing refuses may want memory of the host.
 pub(crate) fn wants_in_memory(ready: &ReadyMap, call: &Call<'_>) -> bool
-    requires group { group_of call.now ≡ Group.Memory }
+    requires group { eager_group_of call.now ≡ Group.Memory }
     requires may { (s : State) × (first_of (refusals s (command_of call.now)) ≡ None) }
     ensures { (s : State) → result
-        ≡ may_want_memory (record { state = s; ready = ready_of (rows_of ready.now) }) (command_of call.now) }
+        ≡ may_want_memory (record { state = s; ready = ready_in (rows_of ready.now) }) (command_of call.now) }
 {
     match call {
         Call::MemRead { region, addr, len } => wants_memory_to_read(ready, *region, *addr, *len),
@@ -79,7 +79,7 @@ pub(crate) fn on_memory<'a>(
     call: &Call<'_>,
     bytes: &'a mut [u8],
 ) -> Result<Answer<'a>, HostMemory>
-    requires group { group_of call.now ≡ Group.Memory }
+    requires group { eager_group_of call.now ≡ Group.Memory }
     requires sound { AreSound vmos.old (spaces_of (regions_of regions.now) (table_of maps.now)) (rows_of ready.old) }
     requires may { MayDoAll vmos.old (spaces_of (regions_of regions.now) (table_of maps.now)) (command_of call.now) }
     requires bytes { DATA_BYTES ≤ length bytes.old }

@@ -8,9 +8,9 @@ ghost use Rattle.vm_model.specs.Machine.Refusals.{refusals, first_of};
 ghost use Rattle.vmo_table.specs.Table.{IsWellCounted};
 ghost use Rattle.mapping_set.specs.Tables.{table_of, places_of};
 ghost use Rattle.region_tree.specs.Tree.{regions_of, spaces_of, AreNoted};
-ghost use Rattle.eager_vmos.specs.Vmos.{AreCounted, IsRefusalOf};
+ghost use Rattle.eager_vmos.specs.Vmos.{HasCountedKeepers, IsRefusalOf};
 ghost use Rattle.eager_machine.specs.Machine.{state_in};
-ghost use Rattle.eager_machine.specs.inside.Groups.{group_of};
+ghost use Rattle.eager_machine.specs.inside.Groups.{eager_group_of};
 ghost use Rattle.eager_machine.specs.inside.Reaching.{named_in};
 ghost use Rattle.eager_machine.specs.declared.groups.Group.{Group};
 
@@ -50,8 +50,8 @@ pub(crate) fn refusal_to(
 }
 
 fn refusal_in_naming(vmos: &EagerVmos, call: &Call<'_>) -> Option<Refusal>
-    requires group { group_of call.now ≡ Group.Naming }
-    requires counted { AreCounted vmos.now }
+    requires group { eager_group_of call.now ≡ Group.Naming }
+    requires counted { HasCountedKeepers vmos.now }
     ensures { IsRefusalOf vmos.now (command_of call.now) result }
 {
     match call {
@@ -83,7 +83,7 @@ fn refusal_to_child(
     resizable: bool,
     no_write: bool,
 ) -> Option<Refusal>
-    requires { AreCounted vmos.now }
+    requires { HasCountedKeepers vmos.now }
     ensures { IsRefusalOf vmos.now (Command.VmoChild name parent kind offset size resizable no_write) result }
 {
     match kind {
@@ -98,9 +98,9 @@ fn refusal_to_child(
 }
 
 fn refusal_in_pages(vmos: &EagerVmos, call: &Call<'_>, target: Option<Target>) -> Option<Refusal>
-    requires group { group_of call.now ≡ Group.Pages }
+    requires group { eager_group_of call.now ≡ Group.Pages }
     requires named { target ≡ named_in vmos.now (command_of call.now) }
-    requires counted { AreCounted vmos.now }
+    requires counted { HasCountedKeepers vmos.now }
     ensures { IsRefusalOf vmos.now (command_of call.now) result }
 {
     match call {
@@ -137,7 +137,7 @@ fn refusal_in_region(
     maps: &MappingSet,
     call: &Call<'_>,
 ) -> Option<Refusal>
-    requires group { group_of call.now ≡ Group.Region }
+    requires group { eager_group_of call.now ≡ Group.Region }
     requires well { IsWellCounted vmos.now.vmos (state_in vmos.now (spaces_of (regions_of regions.now) (table_of maps.now))) }
     requires noted { AreNoted (regions_of regions.now) (places_of maps.now) }
     ensures { result ≡ first_of (refusals (state_in vmos.now (spaces_of (regions_of regions.now) (table_of maps.now)))
@@ -194,9 +194,9 @@ fn refusal_in_telling(
     call: &Call<'_>,
     target: Option<Target>,
 ) -> Option<Refusal>
-    requires group { group_of call.now ≡ Group.Telling }
+    requires group { eager_group_of call.now ≡ Group.Telling }
     requires named { target ≡ named_in vmos.now (command_of call.now) }
-    requires counted { AreCounted vmos.now }
+    requires counted { HasCountedKeepers vmos.now }
     ensures { (table : ℕ → ℕ → Option Entry) →
         result ≡ first_of (refusals (state_in vmos.now (spaces_of (regions_of regions.now) table)) (command_of call.now)) }
 {

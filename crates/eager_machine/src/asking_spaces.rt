@@ -8,7 +8,7 @@ ghost use Rattle.vm_model.specs.Machine.Refusals.{refusals, first_of};
 ghost use Rattle.mapping_set.specs.Tables.{table_of, places_of};
 ghost use Rattle.region_tree.specs.Tree.{regions_of, spaces_of, AreNoted};
 ghost use Rattle.region_ops.specs.Spaces.{with_all, AreAllWell, IsRefusalOf};
-ghost use Rattle.eager_pages.specs.Eager.{content_of};
+ghost use Rattle.eager_pages.specs.Eager.{eager_content};
 
 use eager_pages::EagerPages;
 use mapping_set::MappingSet;
@@ -96,10 +96,10 @@ pub(crate) fn refusal_to_map(
     perm: Perm,
     flags: MapFlags,
 ) -> Option<Refusal>
-    requires well { AreAllWell (content_of pages.now) vmos.now (spaces_of (regions_of regions.now) (table_of maps.now)) }
+    requires well { AreAllWell (eager_content pages.now) vmos.now (spaces_of (regions_of regions.now) (table_of maps.now)) }
     requires noted { AreNoted (regions_of regions.now) (places_of maps.now) }
     ensures { (s : State) → result ≡ first_of (refusals
-        (with_all s (content_of pages.now) vmos.now (spaces_of (regions_of regions.now) (table_of maps.now)))
+        (with_all s (eager_content pages.now) vmos.now (spaces_of (regions_of regions.now) (table_of maps.now)))
         (Command.VmarMap region offset name vmo_offset len perm flags)) }
 {
     let Some(t) = vmos.resolve(name) else {

@@ -12,7 +12,7 @@ ghost use Rattle.region_tree.specs.Tree.{regions_of, spaces_of, AreNoted};
 ghost use Rattle.ready_map.specs.Notes.{rows_of};
 ghost use Rattle.eager_vmos.specs.Vmos.{content_in};
 ghost use Rattle.eager_machine.specs.inside.Acting.{AreSound, MayDoAll, DoesAll, Acts, AreAllKept, HasNoSuch, IsTold};
-ghost use Rattle.eager_machine.specs.inside.Groups.{group_of};
+ghost use Rattle.eager_machine.specs.inside.Groups.{eager_group_of};
 ghost use Rattle.eager_machine.specs.inside.Reaching.{named_in};
 ghost use Rattle.eager_machine.specs.declared.groups.Group.{Group};
 
@@ -92,7 +92,7 @@ fn on_region(
     call: &Call<'_>,
     told: u64,
 ) -> Result<Option<Answer<'static>>, HostMemory>
-    requires group { group_of call.now ≡ Group.Region }
+    requires group { eager_group_of call.now ≡ Group.Region }
     requires may { MayDoAll vmos.old (spaces_of (regions_of regions.old) (table_of maps.old)) (command_of call.now) }
     requires noted { AreNoted (regions_of regions.old) (places_of maps.old) }
     ensures acts { MatchResult result (λ given. MatchOption given

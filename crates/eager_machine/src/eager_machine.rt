@@ -25,7 +25,7 @@ use vm_base::{HostMemory, PinName, Tag};
 use vm_model::{Answer, Call};
 
 /// The names, VMOs, pins, pages, regions and mappings of a machine, and which pages are ready for an access. Each `answer` is
-/// one command. Contracts see the machine that it stands for (`machine_of`).
+/// one command. Contracts see the machine that it stands for (`eager_machine_of`).
 #[derive(Drop)]
 pub struct EagerMachine {
     /// The allocator that gives room for a list of mappings.
@@ -40,26 +40,26 @@ pub struct EagerMachine {
 }
 
 impl Model for EagerMachine {
-    ghost use Rattle.eager_machine.specs.Machine.{Parts};
+    ghost use Rattle.eager_machine.specs.Machine.{EagerParts};
 
-    ghost Value = { Parts };
+    ghost Value = { EagerParts };
 
-    ghost use Rattle.eager_machine.specs.inside.Fields.{parts_of, AreFields};
+    ghost use Rattle.eager_machine.specs.inside.Fields.{eager_parts_of, AreSoundFields};
 
-    ghost view = { parts_of };
+    ghost view = { eager_parts_of };
 
-    ghost invariant = { AreFields };
+    ghost invariant = { AreSoundFields };
 }
 
 impl EagerMachine {
     ghost use Rattle.vm_model.specs.Machine.Machine.{Machine, IsGoodMachine, empty_machine};
     ghost use Rattle.vm_model.specs.Machine.MachineStep.{MachineStep, may_want_memory};
-    ghost use Rattle.eager_machine.specs.Machine.{machine_of, HasPinnedFrame, pinned_frame};
+    ghost use Rattle.eager_machine.specs.Machine.{eager_machine_of, HasPinnedFrame, pinned_frame};
 
     /// Makes a machine with nothing, and no page frames yet, which `fill` gives.
     pub fn new(alloc: Global) -> EagerMachine
-        ensures empty { machine_of result ≡ empty_machine 0 }
-        ensures good { IsGoodMachine (machine_of result) }
+        ensures empty { eager_machine_of result ≡ empty_machine 0 }
+        ensures good { IsGoodMachine (eager_machine_of result) }
     {
         EagerMachine {
             alloc,
@@ -73,12 +73,12 @@ impl EagerMachine {
     /// Gives a machine that has nothing its page frames, from 1 to `FRAMES` of them. `HostMemory` if the host has too little
     /// memory.
     pub fn fill(&mut self, frames: u32) -> Result<(), HostMemory>
-        requires empty { machine_of self.old ≡ empty_machine 0 }
+        requires empty { eager_machine_of self.old ≡ empty_machine 0 }
         requires some { 1 ≤ frames }
         requires most { frames ≤ FRAMES }
-        ensures filled { MatchResult result (λ _. machine_of self.new ≡ empty_machine frames)
-            (λ lack. machine_of self.new ≡ machine_of self.old) }
-        ensures good { IsGoodMachine (machine_of self.new) }
+        ensures filled { MatchResult result (λ _. eager_machine_of self.new ≡ empty_machine frames)
+            (λ lack. eager_machine_of self.new ≡ eager_machine_of self.old) }
+        ensures good { IsGoodMachine (eager_machine_of self.new) }
     {
         self.vmos.pages.fill(frames)
     }
@@ -86,8 +86,8 @@ impl EagerMachine {
     /// Returns whether want of memory may be the reply to a call (`HostMemory`): nothing refuses it, and it may want
     /// memory.
     pub fn may_want_memory(&self, call: &Call<'_>) -> bool
-        ensures { result ≡ (not (is_some (first_of (refusals (machine_of self.now).state (command_of call.now))))
-            && may_want_memory (machine_of self.now) (command_of call.now)) }
+        ensures { result ≡ (not (is_some (first_of (refusals (eager_machine_of self.now).state (command_of call.now))))
+            && may_want_memory (eager_machine_of self.now) (command_of call.now)) }
     {
         let target = named_in(&self.vmos, call);
         match refusal_to(&self.vmos, &self.regions, &self.maps, call, target) {
@@ -115,22 +115,22 @@ impl EagerMachine {
         bytes: &'a mut [u8],
         numbers: &'a mut [u64],
     ) -> Result<Option<Answer<'a>>, HostMemory>
-        requires next { (machine_of self.old).state.content.next < KOIDS }
+        requires next { (eager_machine_of self.old).state.content.next < KOIDS }
         requires bytes { DATA_BYTES ≤ length bytes.old }
         requires numbers { PIN_PAGES ≤ length numbers.old }
         ensures step { MatchResult result (λ given. MatchOption given
-            ((machine_of self.new ≡ machine_of self.old) × (tells_place (command_of call.now) ≡ true)
-            × (first_of (refusals (machine_of self.old).state (command_of call.now)) ≡ None)
-            × ((new : Machine) → MachineStep (machine_of self.old) (command_of call.now) (Reply.Address told) new → ⊥))
-            (λ answer. MachineStep (machine_of self.old) (command_of call.now) (reply_for answer) (machine_of self.new)))
-            (λ lack. machine_of self.new ≡ machine_of self.old) }
+            ((eager_machine_of self.new ≡ eager_machine_of self.old) × (tells_place (command_of call.now) ≡ true)
+            × (first_of (refusals (eager_machine_of self.old).state (command_of call.now)) ≡ None)
+            × ((new : Machine) → MachineStep (eager_machine_of self.old) (command_of call.now) (Reply.Address told) new → ⊥))
+            (λ answer. MachineStep (eager_machine_of self.old) (command_of call.now) (reply_for answer) (eager_machine_of self.new)))
+            (λ lack. eager_machine_of self.new ≡ eager_machine_of self.old) }
         ensures own { MatchResult result (λ given. MatchOption given ⊤
             (λ answer. reply_for answer ≢ Reply.Refused Refusal.HostMemory)) (λ lack. ⊤) }
         ensures place { MatchResult result (λ given. MatchOption given ⊤ (λ answer. tells_place (command_of call.now) ≡ true
             → (address : ℕ) → reply_for answer ≡ Reply.Address address → address ≡ told)) (λ lack. ⊤) }
-        ensures good { IsGoodMachine (machine_of self.new) }
-        ensures next { (machine_of self.new).state.content.next ≤ (machine_of self.old).state.content.next + 1 }
-        ensures frames { (machine_of self.new).state.content.frames ≡ (machine_of self.old).state.content.frames }
+        ensures good { IsGoodMachine (eager_machine_of self.new) }
+        ensures next { (eager_machine_of self.new).state.content.next ≤ (eager_machine_of self.old).state.content.next + 1 }
+        ensures frames { (eager_machine_of self.new).state.content.frames ≡ (eager_machine_of self.old).state.content.frames }
     {
         know_given(call);
         let target = named_in(&self.vmos, call);
@@ -155,7 +155,7 @@ impl EagerMachine {
     /// has no such page.
     pub fn pinned_frame(&self, pin: PinName, at: u64) -> Option<Tag>
         ensures { option_map (λ (tag : Tag). tag.0) result
-            ≡ pinned_frame (machine_of self.now).state ((machine_of self.now).state.pins pin.0) at }
+            ≡ pinned_frame (eager_machine_of self.now).state ((eager_machine_of self.now).state.pins pin.0) at }
     {
         let Some((koid, first, count)) = self.vmos.pins.get(pin) else {
             return None;
@@ -168,7 +168,7 @@ impl EagerMachine {
 
     /// Returns whether a page that is pinned has the frame.
     pub fn is_pinned_frame(&self, tag: Tag) -> bool
-        ensures { IsTrue result ↔ HasPinnedFrame (machine_of self.now) tag.0 }
+        ensures { IsTrue result ↔ HasPinnedFrame (eager_machine_of self.now) tag.0 }
     {
         match self.vmos.pages.viewer(tag) {
             Some((koid, page)) => self.vmos.pins.pinned(koid, page, 1),

@@ -4,7 +4,7 @@ ghost use Rattle.std.specs.Prelude.{◌≡◌, ◌<◌};
 ghost use Rattle.vm_base.specs.declared.limits.TheConstants.{NAMES};
 ghost use Rattle.vm_model.specs.Machine.Given.{GivesName};
 ghost use Rattle.vm_model.specs.Machine.Lent.{command_of};
-ghost use Rattle.eager_machine.specs.inside.Groups.{group_of};
+ghost use Rattle.eager_machine.specs.inside.Groups.{eager_group_of};
 
 use vm_base::{PinName, RegionName, VmoName};
 use vm_model::Call;
@@ -26,7 +26,7 @@ pub(crate) enum Group {
 
 /// Returns the group of a command.
 pub(crate) fn group_of(call: &Call<'_>) -> Group
-    ensures { result ≡ group_of call.now }
+    ensures { result ≡ eager_group_of call.now }
 {
     match call {
         Call::VmoCreate { .. }

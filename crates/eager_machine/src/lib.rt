@@ -4,7 +4,7 @@
 //! It stands on the pages, VMOs and notes of ready pages of the crates `eager_pages`, `eager_vmos`, `ready_map` and
 //! `eager_access`, and on the tables and the operations of the machine that it does not judge. It calls no code of a store of
 //! pages, and none of the code of page faults. The layer above makes it by `EagerMachine::new`, gives it frames by
-//! `fill`, and hands it one call after another. Contracts see the machine that it stands for (`machine_of`). A call that answers
+//! `fill`, and hands it one call after another. Contracts see the machine that it stands for (`eager_machine_of`). A call that answers
 //! `HostMemory` changes nothing.
 #![tactic(auto,
 // the region of a name

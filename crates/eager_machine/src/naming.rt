@@ -10,7 +10,7 @@ ghost use Rattle.vm_model.specs.Machine.Lent.{command_of, reply_for};
 ghost use Rattle.ready_map.specs.Notes.{rows_of};
 ghost use Rattle.eager_vmos.specs.Vmos.{content_in};
 ghost use Rattle.eager_machine.specs.inside.Acting.{MayDo, DoesVmos, AreKept};
-ghost use Rattle.eager_machine.specs.inside.Groups.{group_of};
+ghost use Rattle.eager_machine.specs.inside.Groups.{eager_group_of};
 ghost use Rattle.eager_machine.specs.declared.groups.Group.{Group};
 
 use crate::paging::done;
@@ -27,7 +27,7 @@ pub(crate) fn on_naming(
     ready: &mut ReadyMap,
     call: &Call<'_>,
 ) -> Result<Answer<'static>, HostMemory>
-    requires group { group_of call.now ≡ Group.Naming }
+    requires group { eager_group_of call.now ≡ Group.Naming }
     requires may { MayDo vmos.old (command_of call.now) }
     requires next { (content_in vmos.old).next < KOIDS }
     ensures { MatchResult result

@@ -8,9 +8,9 @@ ghost use Rattle.vm_model.specs.Machine.Given.{GivesName};
 ghost use Rattle.vm_model.specs.Machine.Lent.{command_of, reply_for};
 ghost use Rattle.vm_model.specs.declared.answer.Answer.{Answer};
 ghost use Rattle.ready_map.specs.Notes.{rows_of};
-ghost use Rattle.eager_vmos.specs.Vmos.{AreSame, Does};
+ghost use Rattle.eager_vmos.specs.Vmos.{AreSame, CarriesOut};
 ghost use Rattle.eager_machine.specs.inside.Acting.{MayDo, DoesVmos, AreKept};
-ghost use Rattle.eager_machine.specs.inside.Groups.{group_of};
+ghost use Rattle.eager_machine.specs.inside.Groups.{eager_group_of};
 ghost use Rattle.eager_machine.specs.inside.Reaching.{named_in};
 ghost use Rattle.eager_machine.specs.declared.groups.Group.{Group};
 
@@ -29,7 +29,7 @@ pub(crate) fn on_pages<'a>(
     target: Option<Target>,
     numbers: &'a mut [u64],
 ) -> Result<Answer<'a>, HostMemory>
-    requires group { group_of call.now ≡ Group.Pages }
+    requires group { eager_group_of call.now ≡ Group.Pages }
     requires may { MayDo vmos.old (command_of call.now) }
     requires named { target ≡ named_in vmos.old (command_of call.now) }
     requires given { GivesName (command_of call.now) }
@@ -55,11 +55,11 @@ fn change<'a>(
     target: Option<Target>,
     numbers: &'a mut [u64],
 ) -> Result<Answer<'a>, HostMemory>
-    requires group { group_of call.now ≡ Group.Pages }
+    requires group { eager_group_of call.now ≡ Group.Pages }
     requires may { MayDo vmos.old (command_of call.now) }
     requires named { target ≡ named_in vmos.old (command_of call.now) }
     requires numbers { PIN_PAGES ≤ length numbers.old }
-    ensures { MatchResult result (λ answer. Does vmos.old (command_of call.now) (reply_for answer) vmos.new)
+    ensures { MatchResult result (λ answer. CarriesOut vmos.old (command_of call.now) (reply_for answer) vmos.new)
         (λ lack. AreSame vmos.old vmos.new) }
 {
     match call {

@@ -4,11 +4,11 @@ ghost use Rattle.std.specs.Prelude.{◌≡◌};
 ghost use Rattle.vm_model.specs.declared.command.Command.{Command};
 ghost use Rattle.vm_model.specs.Machine.Lent.{command_of};
 ghost use Rattle.vm_model.specs.Machine.State.{State};
-ghost use Rattle.eager_vmos.specs.Vmos.{state_with};
+ghost use Rattle.eager_vmos.specs.Vmos.{state_with_vmos};
 ghost use Rattle.eager_machine.specs.inside.Acting.{MayDo};
-ghost use Rattle.eager_machine.specs.inside.Groups.{group_of};
+ghost use Rattle.eager_machine.specs.inside.Groups.{eager_group_of};
 ghost use Rattle.vmo_table.specs.Table.{names_of};
-ghost use Rattle.eager_machine.specs.inside.Reaching.{name_for_pages, named_in, range_of, reach_of, seen_of, HasRange, HasPart};
+ghost use Rattle.eager_machine.specs.inside.Reaching.{name_for_pages, named_in, range_of, reach_of, snapshot_reach, HasRange, HasPart};
 ghost use Rattle.eager_machine.specs.declared.groups.Group.{Group};
 
 use eager_vmos::EagerVmos;
@@ -55,10 +55,10 @@ fn name_for_pages(call: &Call<'_>) -> Option<VmoName>
 
 /// Returns the pages whose frames a command on pages may change. Nothing refuses it.
 pub(crate) fn reach_of(vmos: &EagerVmos, call: &Call<'_>, target: Option<Target>) -> Reach
-    requires group { group_of call.now ≡ Group.Pages }
+    requires group { eager_group_of call.now ≡ Group.Pages }
     requires may { MayDo vmos.now (command_of call.now) }
     requires named { target ≡ named_in vmos.now (command_of call.now) }
-    ensures { (s : State) → result ≡ reach_of (state_with s vmos.now) (command_of call.now) }
+    ensures { (s : State) → result ≡ reach_of (state_with_vmos s vmos.now) (command_of call.now) }
 {
     match call {
         Call::VmoWrite {
@@ -90,7 +90,7 @@ pub(crate) fn reach_of(vmos: &EagerVmos, call: &Call<'_>, target: Option<Target>
 fn range_of(vmos: &EagerVmos, name: VmoName, target: Option<Target>, offset: u64, len: u64) -> Reach
     requires range { HasRange vmos.now name.0 offset len }
     requires named { target ≡ names_of vmos.now.vmos name.0 }
-    ensures { (s : State) → result ≡ range_of (state_with s vmos.now) name.0 offset len }
+    ensures { (s : State) → result ≡ range_of (state_with_vmos s vmos.now) name.0 offset len }
 {
     let Some(target) = target else { unreachable!() };
     let at = target.first * PAGE + offset;
@@ -106,7 +106,7 @@ fn range_of(vmos: &EagerVmos, name: VmoName, target: Option<Target>, offset: u64
 fn behind(vmos: &EagerVmos, name: VmoName, target: Option<Target>, size: u64) -> Reach
     requires range { HasRange vmos.now name.0 0 0 }
     requires named { target ≡ names_of vmos.now.vmos name.0 }
-    ensures { (s : State) → result ≡ reach_of (state_with s vmos.now) (Command.VmoSetSize name size) }
+    ensures { (s : State) → result ≡ reach_of (state_with_vmos s vmos.now) (Command.VmoSetSize name size) }
 {
     let Some(target) = target else { unreachable!() };
     Reach {
@@ -119,7 +119,7 @@ fn behind(vmos: &EagerVmos, name: VmoName, target: Option<Target>, size: u64) ->
 /// Returns the pages that a snapshot of a part of a name sees.
 pub(crate) fn seen_by(vmos: &EagerVmos, parent: VmoName, offset: u64, size: u64) -> Reach
     requires { HasPart vmos.now parent.0 }
-    ensures { (s : State) → result ≡ seen_of (state_with s vmos.now) parent.0 offset size }
+    ensures { (s : State) → result ≡ snapshot_reach (state_with_vmos s vmos.now) parent.0 offset size }
 {
     let Some(target) = vmos.vmos.resolve(parent) else {
         unreachable!()

@@ -8,7 +8,7 @@ ghost use Rattle.vm_model.specs.declared.command.Command.{Command};
 ghost use Rattle.vm_model.specs.declared.reply.Reply.{Reply};
 ghost use Rattle.mapping_set.specs.Tables.{table_of, places_of};
 ghost use Rattle.region_tree.specs.Tree.{regions_of, spaces_of, AreNoted};
-ghost use Rattle.ready_map.specs.Notes.{rows_of, Rows};
+ghost use Rattle.ready_map.specs.Notes.{rows_of, ReadyRows};
 ghost use Rattle.eager_machine.specs.inside.Acting.{MayDoAll, DoesAll, AreAllKept, HasNoSuch, IsLiveAt};
 
 use eager_vmos::EagerVmos;
@@ -40,7 +40,7 @@ pub(crate) fn root_create(
 ) -> Result<(), HostMemory>
     requires may { MayDoAll vmos.now (spaces_of (regions_of regions.old) (table_of maps.now)) (Command.RootCreate region) }
     requires noted { AreNoted (regions_of regions.old) (places_of maps.now) }
-    ensures does { (rows : Rows) → MatchResult result
+    ensures does { (rows : ReadyRows) → MatchResult result
         (λ _. DoesAll vmos.now (spaces_of (regions_of regions.old) (table_of maps.now)) rows (Command.RootCreate region) Reply.Done
         vmos.now (spaces_of (regions_of regions.new) (table_of maps.now)) rows)
         (λ lack. AreAllKept vmos.now (spaces_of (regions_of regions.old) (table_of maps.now)) rows
@@ -69,7 +69,7 @@ pub(crate) fn vmar_allocate(
     requires may { MayDoAll vmos.now (spaces_of (regions_of regions.old) (table_of maps.old))
         (Command.VmarAllocate region parent offset len flags caps) }
     requires noted { AreNoted (regions_of regions.old) (places_of maps.old) }
-    ensures does { (rows : Rows) → MatchResult result (λ place. MatchOption place
+    ensures does { (rows : ReadyRows) → MatchResult result (λ place. MatchOption place
         (HasNoSuch vmos.now (spaces_of (regions_of regions.old) (table_of maps.old)) rows
         (Command.VmarAllocate region parent offset len flags caps) told
         vmos.now (spaces_of (regions_of regions.new) (table_of maps.new)) rows)

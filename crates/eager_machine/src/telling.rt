@@ -10,7 +10,7 @@ ghost use Rattle.mapping_set.specs.Tables.{table_of};
 ghost use Rattle.region_tree.specs.Tree.{regions_of, spaces_of};
 ghost use Rattle.eager_machine.specs.Machine.{state_in};
 ghost use Rattle.eager_machine.specs.inside.Acting.{MayDoAll, IsLiveAt};
-ghost use Rattle.eager_machine.specs.inside.Groups.{group_of};
+ghost use Rattle.eager_machine.specs.inside.Groups.{eager_group_of};
 ghost use Rattle.eager_machine.specs.inside.Reaching.{named_in};
 ghost use Rattle.eager_machine.specs.declared.groups.Group.{Group};
 
@@ -34,7 +34,7 @@ pub(crate) fn on_telling<'a>(
     target: Option<Target>,
     bytes: &'a mut [u8],
 ) -> Result<Answer<'a>, HostMemory>
-    requires group { group_of call.now ≡ Group.Telling }
+    requires group { eager_group_of call.now ≡ Group.Telling }
     requires may { MayDoAll vmos.now (spaces_of (regions_of regions.now) (table_of maps.now)) (command_of call.now) }
     requires named { target ≡ named_in vmos.now (command_of call.now) }
     requires bytes { DATA_BYTES ≤ length bytes.old }

@@ -10,11 +10,11 @@ ghost use Rattle.vm_model.specs.Machine.MachineStep.{may_want_memory};
 ghost use Rattle.mapping_set.specs.Tables.{table_of};
 ghost use Rattle.region_tree.specs.Tree.{regions_of, spaces_of};
 ghost use Rattle.ready_map.specs.Notes.{rows_of};
-ghost use Rattle.eager_pages.specs.Eager.{content_of};
-ghost use Rattle.eager_vmos.specs.Vmos.{state_with};
+ghost use Rattle.eager_pages.specs.Eager.{eager_content};
+ghost use Rattle.eager_vmos.specs.Vmos.{state_with_vmos};
 ghost use Rattle.eager_machine.specs.Machine.{state_in, machine_in};
 ghost use Rattle.eager_machine.specs.inside.Acting.{MayDo, MayDoAll};
-ghost use Rattle.eager_machine.specs.inside.Groups.{group_of};
+ghost use Rattle.eager_machine.specs.inside.Groups.{eager_group_of};
 ghost use Rattle.eager_machine.specs.inside.Reaching.{named_in};
 ghost use Rattle.eager_machine.specs.declared.groups.Group.{Group};
 
@@ -56,7 +56,7 @@ pub(crate) fn wants_memory(
 }
 
 fn wants_in_naming(call: &Call<'_>) -> bool
-    requires { group_of call.now ≡ Group.Naming }
+    requires { eager_group_of call.now ≡ Group.Naming }
     ensures { (s : State) → result ≡ may_lack_memory s (command_of call.now) }
 {
     match call {
@@ -67,10 +67,10 @@ fn wants_in_naming(call: &Call<'_>) -> bool
 }
 
 fn wants_in_pages(vmos: &EagerVmos, call: &Call<'_>, target: Option<Target>) -> bool
-    requires group { group_of call.now ≡ Group.Pages }
+    requires group { eager_group_of call.now ≡ Group.Pages }
     requires may { MayDo vmos.now (command_of call.now) }
     requires named { target ≡ named_in vmos.now (command_of call.now) }
-    ensures { (s : State) → result ≡ may_lack_memory (state_with s vmos.now) (command_of call.now) }
+    ensures { (s : State) → result ≡ may_lack_memory (state_with_vmos s vmos.now) (command_of call.now) }
 {
     let reach = reach_of(vmos, call, target);
     match call {
@@ -85,7 +85,7 @@ fn wants_in_pages(vmos: &EagerVmos, call: &Call<'_>, target: Option<Target>) -> 
 }
 
 fn wants_in_region(vmos: &EagerVmos, regions: &Regions, maps: &MappingSet, call: &Call<'_>) -> bool
-    requires group { group_of call.now ≡ Group.Region }
+    requires group { eager_group_of call.now ≡ Group.Region }
     requires may { MayDoAll vmos.now (spaces_of (regions_of regions.now) (table_of maps.now)) (command_of call.now) }
     ensures { result ≡ may_lack_memory (state_in vmos.now (spaces_of (regions_of regions.now) (table_of maps.now)))
         (command_of call.now) }
@@ -101,7 +101,7 @@ fn wants_in_region(vmos: &EagerVmos, regions: &Regions, maps: &MappingSet, call:
 }
 
 fn wants_in_telling(vmos: &EagerVmos, regions: &Regions, maps: &MappingSet, call: &Call<'_>) -> bool
-    requires group { group_of call.now ≡ Group.Telling }
+    requires group { eager_group_of call.now ≡ Group.Telling }
     requires may { MayDoAll vmos.now (spaces_of (regions_of regions.now) (table_of maps.now)) (command_of call.now) }
     ensures { result ≡ may_lack_memory (state_in vmos.now (spaces_of (regions_of regions.now) (table_of maps.now)))
         (command_of call.now) }
@@ -118,7 +118,7 @@ fn wants_in_telling(vmos: &EagerVmos, regions: &Regions, maps: &MappingSet, call
 // Whether a page of the reach is not sole.
 fn has_shared(pages: &EagerPages, reach: Reach) -> bool
     requires { reach.first ≤ reach.end }
-    ensures { result ≡ list_any (λ p. not (sole (content_of pages.now) reach.koid.0 p))
+    ensures { result ≡ list_any (λ p. not (sole (eager_content pages.now) reach.koid.0 p))
         (range_with_len reach.first (reach.end - reach.first)) }
 {
     for page in reach.first..reach.end {
@@ -132,7 +132,7 @@ fn has_shared(pages: &EagerPages, reach: Reach) -> bool
 // Whether a page of the reach is held.
 fn has_held(pages: &EagerPages, reach: Reach) -> bool
     requires { reach.first ≤ reach.end }
-    ensures { result ≡ list_any (is_held (content_of pages.now) reach.koid.0)
+    ensures { result ≡ list_any (is_held (eager_content pages.now) reach.koid.0)
         (range_with_len reach.first (reach.end - reach.first)) }
 {
     match pages.next_held(reach.koid, reach.first) {

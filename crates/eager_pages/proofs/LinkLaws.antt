@@ -9,7 +9,7 @@ use Rattle.vm_base.proofs.EntryLaws.{some_same, without_key-same, without_key-ot
 use Rattle.vm_model.proofs.ContentLaws.{same_page}
 use Rattle.pair_map.specs.Maps.{with_pair}
 use Rattle.eager_pages.specs.inside.Rows.{HasAny, HasNone}
-use Rattle.eager_pages.specs.Eager.{AreLinked}
+use Rattle.eager_pages.specs.Eager.{ArePaired}
 
 -- ---- a map of pairs that changes
 
@@ -67,9 +67,9 @@ not_none o x none some = cc
 -- ---- a row that comes
 
 module _ (rows : ℕ → ℕ → Option Tag) (viewers : ℕ → ℕ → Option ℕ) (old new : ℕ → Option (List ℕ)) (v p : ℕ) (tag : Tag)
-    (linked : AreLinked rows viewers old) where
+    (linked : ArePaired rows viewers old) where
   pub linked-comes : rows v p ≡ None → viewers tag.0 v ≡ None → IsSome (new tag.0) → ((t : ℕ) → t ≢ tag.0 → new t ≡ old t)
-      → AreLinked (with_pair rows v p (Some tag)) (with_pair viewers tag.0 v (Some p)) new
+      → ArePaired (with_pair rows v p (Some tag)) (with_pair viewers tag.0 v (Some p)) new
   linked-comes zero unseen taken others = record {
     there = λ w q u e. elim (pair-cases rows v p (Some tag) w q u e) [
       | inl here ↦
@@ -118,7 +118,7 @@ abbrev pub LetsGo : (ℕ → Option ℕ) → (old new : ℕ → Option (List ℕ
 LetsGo viewers old new t = (HasAny viewers × (new ≡ old)) ⊎ (HasNone viewers × (new ≡ without_key old t))
 
 module _ (rows : ℕ → ℕ → Option Tag) (viewers : ℕ → ℕ → Option ℕ) (old new : ℕ → Option (List ℕ)) (v p : ℕ) (tag : Tag)
-    (linked : AreLinked rows viewers old) (found : rows v p ≡ Some tag) where
+    (linked : ArePaired rows viewers old) (found : rows v p ≡ Some tag) where
   abbrev left_viewers : ℕ → ℕ → Option ℕ
   left_viewers = with_pair viewers tag.0 v None
 
@@ -129,7 +129,7 @@ module _ (rows : ℕ → ℕ → Option Tag) (viewers : ℕ → ℕ → Option �
       let other : viewers tag.0 v ≡ Some q = (λ i. viewers (sym frame i) (sym vmo i)) ∙ linked.there w q u row in
       apart vmo (some_same (sym other ∙ mine))
 
-  pub linked-goes : LetsGo (left_viewers tag.0) old new tag.0 → AreLinked (with_pair rows v p None) left_viewers new
+  pub linked-goes : LetsGo (left_viewers tag.0) old new tag.0 → ArePaired (with_pair rows v p None) left_viewers new
   linked-goes goes = record {
     there = λ w q u e. elim (pair-cases rows v p None w q u e) [
       | inl here ↦ absurd (not_none None u refl here.2)

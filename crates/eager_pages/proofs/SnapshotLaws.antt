@@ -4,14 +4,14 @@ use Rattle.std.proofs.lemmas.Bool.Decides.{nat_tests}
 use Rattle.vm_base.specs.declared.limits.TheConstants.{VMO_PAGES}
 use Rattle.vm_base.specs.Entries.{with_key}
 use Rattle.vm_base.proofs.SearchLaws.{bit_le, bit-true, bit-false}
-use Rattle.vm_model.specs.Contents.Content.{Content, Page, is_held, hold, created, IsGood}
+use Rattle.vm_model.specs.Contents.Content.{Content, Page, is_held, hold, created, IsGood, IsNextBelow, HasNoneBelow}
 use Rattle.vm_model.specs.Contents.Sharing.{page_seen, snapshotted}
 use Rattle.vm_model.specs.Contents.Zeroing.{zeroed}
 use Rattle.vm_model.proofs.ContentLaws.{same_content, is_held-zero}
 use Rattle.vm_model.proofs.SharingLaws.{koid_held, page_seen-out, page-snapshotted_new, page-snapshotted_other, IsGood-snapshotted}
 use Rattle.vm_model.proofs.ZeroingLaws.{zeroed-none}
 use Rattle.eager_pages.proofs.VmoLaws.{koid_apart}
-use Rattle.eager_pages.specs.inside.Rows.{IsNextBelow, HasNoneBelow, held_in}
+use Rattle.eager_pages.specs.inside.Rows.{held_in}
 
 -- ---- how many are held
 

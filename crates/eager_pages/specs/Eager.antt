@@ -21,21 +21,21 @@ pub record Eager : Type 0 where
   pub room : ℕ
 
 -- a page with the frame of this tag and its bytes
-abbrev pub page_of : Pool → Tag → Page
-page_of pool tag = record { tag = tag.0; bytes = frame_bytes pool tag.0 }
+abbrev pub page_with_tag : Pool → Tag → Page
+page_with_tag pool tag = record { tag = tag.0; bytes = frame_bytes pool tag.0 }
 
 -- the VMOs, and of each page the frame of its row with the bytes of the frame
-abbrev pub content_of : Eager → Content
-content_of f = record {
+abbrev pub eager_content : Eager → Content
+eager_content f = record {
   frames = f.pool.frames;
   next = f.next;
   count = λ v. values_of f.vmos 0 v;
-  page = λ v p. option_map (page_of f.pool) (values_of f.rows v p);
+  page = λ v p. option_map (page_with_tag f.pool) (values_of f.rows v p);
 }
 
 -- how many pages may be owned with no memory from the host
-abbrev pub spare_of : Eager → ℕ
-spare_of f = f.room
+abbrev pub eager_spare : Eager → ℕ
+eager_spare f = f.room
 
 -- Page p of v is held, and a VMO other than v and w shows its frame.
 pub record IsSeenByThird (c : Content) (v p w : ℕ) : Type 0 where
@@ -51,7 +51,7 @@ pub record IsSeenByThird (c : Content) (v p w : ℕ) : Type 0 where
 
 -- The rows of pages and the pages under frames are the same pairs, and the frames that are taken are those that a page
 -- shows.
-pub record AreLinked (rows : ℕ → ℕ → Option Tag) (viewers : ℕ → ℕ → Option ℕ) (frames : ℕ → Option (List ℕ)) : Type 0 where
+pub record ArePaired (rows : ℕ → ℕ → Option Tag) (viewers : ℕ → ℕ → Option ℕ) (frames : ℕ → Option (List ℕ)) : Type 0 where
   pub there : (v p : ℕ) (tag : Tag) → rows v p ≡ Some tag → viewers tag.0 v ≡ Some p
   pub back : (t v p : ℕ) → viewers t v ≡ Some p → rows v p ≡ Some (record { 0 = t })
   pub taken : (t v p : ℕ) → viewers t v ≡ Some p → IsSome (frames t)
@@ -59,9 +59,9 @@ pub record AreLinked (rows : ℕ → ℕ → Option Tag) (viewers : ℕ → ℕ 
 
 -- What holds of all such pages.
 pub record IsEager (f : Eager) : Type 0 where
-  pub good : IsGood (content_of f)
-  pub live : count_of f.vmos ≡ vmos_of (content_of f)
-  pub linked : AreLinked (values_of f.rows) (values_of f.viewers) (taken_frames f.pool)
+  pub good : IsGood (eager_content f)
+  pub live : count_of f.vmos ≡ vmos_of (eager_content f)
+  pub linked : ArePaired (values_of f.rows) (values_of f.viewers) (taken_frames f.pool)
   pub rows_room : f.room ≤ f.rows.spare
   pub viewers_room : f.room ≤ f.viewers.spare
 

@@ -4,7 +4,7 @@ ghost use Rattle.std.specs.Prelude.{◌≡◌, ◌≢◌, ℕ, ◌+◌, ◌-◌,
 ghost use Rattle.std.specs.Option.{option_map};
 ghost use Rattle.vm_base.specs.declared.limits.TheConstants.{FRAMES, KOIDS, PAGE, VMO_PAGES};
 ghost use Rattle.vm_base.specs.Pages.{replaced};
-ghost use Rattle.vm_model.specs.Contents.Content.{nothing, pages_of, shown, used, vmos_of, sole, hold, created, IsGood};
+ghost use Rattle.vm_model.specs.Contents.Content.{nothing, pages_of, shown, used, vmos_of, sole, hold, created, IsGood, IsNextBelow, HasNoneBelow};
 ghost use Rattle.vm_model.specs.Contents.Owning.{Owns};
 ghost use Rattle.vm_model.specs.Contents.Sharing.{snapshotted, without};
 ghost use Rattle.vm_model.specs.Contents.Writing.{WritesPiece};
@@ -12,8 +12,8 @@ ghost use Rattle.vm_model.specs.Contents.Zeroing.{zeroed, resized};
 ghost use Rattle.vm_model.specs.Machine.Attribution.{is_charged};
 ghost use Rattle.vm_model.specs.Space.Readiness.{frame_at};
 ghost use Rattle.pair_map.specs.Maps.{values_of, count_of};
-ghost use Rattle.eager_pages.specs.Eager.{content_of, spare_of, page_of, IsSeenByThird};
-ghost use Rattle.eager_pages.specs.inside.Rows.{IsNextBelow, HasNoneBelow, held_in};
+ghost use Rattle.eager_pages.specs.Eager.{eager_content, eager_spare, page_with_tag, IsSeenByThird};
+ghost use Rattle.eager_pages.specs.inside.Rows.{held_in};
 
 use crate::frames::{give_back_unshown, has_third, is_alone, is_least, take_copy, take_zeros};
 use frame_pool::FramePool;
@@ -23,11 +23,11 @@ use std::marker::Model;
 use vm_base::{HostMemory, Koid, PageNo, Tag, VMO_PAGES};
 
 /// The VMOs of a machine and their pages, each with a whole map of its own: a snapshot has rows for all pages that it sees,
-/// with the frames of the pages that were copied. Clauses speak of what it contains (`content_of`), and of how many pages
-/// may be owned without asking the host for memory (`spare_of`).
+/// with the frames of the pages that were copied. Clauses speak of what it contains (`eager_content`), and of how many pages
+/// may be owned without asking the host for memory (`eager_spare`).
 ///
 /// Pages are counted from the first of their VMO. A call leaves all of the content as it was but what its clauses say, and
-/// no call but `own` and `write` lowers `spare_of`. A call that answers `HostMemory` changes nothing of the content.
+/// no call but `own` and `write` lowers `eager_spare`. A call that answers `HostMemory` changes nothing of the content.
 #[derive(Drop)]
 pub struct EagerPages {
     /// The page frames. A frame is taken while some page shows it.
@@ -57,8 +57,8 @@ impl Model for EagerPages {
 impl EagerPages {
     /// Makes a machine with no frames and no VMO.
     pub fn new(alloc: Global) -> EagerPages
-        ensures content { content_of result ≡ nothing }
-        ensures spare { spare_of result ≡ 0 }
+        ensures content { eager_content result ≡ nothing }
+        ensures spare { eager_spare result ≡ 0 }
     {
         EagerPages {
             pool: FramePool::new(alloc),
@@ -73,11 +73,11 @@ impl EagerPages {
     /// Gives a machine that has nothing its page frames, from 1 to `FRAMES` of them. All are free. `HostMemory` if the
     /// host has too little memory.
     pub fn fill(&mut self, frames: u32) -> Result<(), HostMemory>
-        requires empty { content_of self.old ≡ nothing }
+        requires empty { eager_content self.old ≡ nothing }
         requires frames { (1 ≤ frames) × (frames ≤ FRAMES) }
-        ensures ok { OnOk result (content_of self.new ≡ record (content_of self.old) { frames = frames }) }
-        ensures err { OnErr result (content_of self.new ≡ content_of self.old) }
-        ensures kept { spare_of self.old ≤ spare_of self.new }
+        ensures ok { OnOk result (eager_content self.new ≡ record (eager_content self.old) { frames = frames }) }
+        ensures err { OnErr result (eager_content self.new ≡ eager_content self.old) }
+        ensures kept { eager_spare self.old ≤ eager_spare self.new }
     {
         let Ok(()) = self.pool.fill(frames) else {
             return Err(HostMemory);
@@ -89,11 +89,11 @@ impl EagerPages {
     /// host has too little memory.
     pub fn create(&mut self, count: PageNo) -> Result<Koid, HostMemory>
         requires count { count ≤ VMO_PAGES }
-        requires next { (content_of self.old).next < KOIDS }
-        ensures koid { IfOk result (λ v. v.0 ≡ (content_of self.old).next) }
-        ensures ok { OnOk result (content_of self.new ≡ created (content_of self.old) count) }
-        ensures err { OnErr result (content_of self.new ≡ content_of self.old) }
-        ensures kept { spare_of self.old ≤ spare_of self.new }
+        requires next { (eager_content self.old).next < KOIDS }
+        ensures koid { IfOk result (λ v. v.0 ≡ (eager_content self.old).next) }
+        ensures ok { OnOk result (eager_content self.new ≡ created (eager_content self.old) count) }
+        ensures err { OnErr result (eager_content self.new ≡ eager_content self.old) }
+        ensures kept { eager_spare self.old ≤ eager_spare self.new }
     {
         self.reserve_vmo()?;
         Ok(self.add_vmo(count))
@@ -110,15 +110,15 @@ impl EagerPages {
         seen: PageNo,
         count: PageNo,
     ) -> Result<Koid, HostMemory>
-        requires vmo { IsSome ((content_of self.old).count of.0) }
+        requires vmo { IsSome ((eager_content self.old).count of.0) }
         requires count { count ≤ VMO_PAGES }
         requires seen { seen ≤ count }
-        requires range { first + seen ≤ pages_of (content_of self.old) of.0 }
-        requires next { (content_of self.old).next < KOIDS }
-        ensures koid { IfOk result (λ v. v.0 ≡ (content_of self.old).next) }
-        ensures ok { OnOk result (content_of self.new ≡ snapshotted (content_of self.old) of.0 first seen count) }
-        ensures err { OnErr result (content_of self.new ≡ content_of self.old) }
-        ensures kept { spare_of self.old ≤ spare_of self.new }
+        requires range { first + seen ≤ pages_of (eager_content self.old) of.0 }
+        requires next { (eager_content self.old).next < KOIDS }
+        ensures koid { IfOk result (λ v. v.0 ≡ (eager_content self.old).next) }
+        ensures ok { OnOk result (eager_content self.new ≡ snapshotted (eager_content self.old) of.0 first seen count) }
+        ensures err { OnErr result (eager_content self.new ≡ eager_content self.old) }
+        ensures kept { eager_spare self.old ≤ eager_spare self.new }
     {
         // All memory is taken before anything is changed. The room that was there stays.
         let room = self.room;
@@ -140,23 +140,23 @@ impl EagerPages {
 
     /// Makes room for owning `pages` pages. `HostMemory` if the host has too little memory.
     pub fn reserve(&mut self, pages: u64) -> Result<(), HostMemory>
-        ensures room { OnOk result (pages ≤ spare_of self.new) }
-        ensures same { content_of self.new ≡ content_of self.old }
-        ensures kept { spare_of self.old ≤ spare_of self.new }
+        ensures room { OnOk result (pages ≤ eager_spare self.new) }
+        ensures same { eager_content self.new ≡ eager_content self.old }
+        ensures kept { eager_spare self.old ≤ eager_spare self.new }
     {
         self.reserve_rows(pages)
     }
 
     /// Returns the frame of a page. `None` if and only if the page is zero.
     pub fn frame(&self, v: Koid, page: PageNo) -> Option<Tag>
-        ensures { option_map (λ tag. tag.0) result ≡ frame_at (content_of self.now) v.0 page }
+        ensures { option_map (λ tag. tag.0) result ≡ frame_at (eager_content self.now) v.0 page }
     {
         self.rows.find(v.0, page)
     }
 
     /// Returns whether a page is held, and no other VMO shows its frame.
     pub fn is_sole(&self, v: Koid, page: PageNo) -> bool
-        ensures { result ≡ sole (content_of self.now) v.0 page }
+        ensures { result ≡ sole (eager_content self.now) v.0 page }
     {
         // The koid of a VMO is below the next.
         let _next = self.next;
@@ -169,9 +169,9 @@ impl EagerPages {
     /// Returns whether a page is held, and a VMO other than its own and another one, `w`, shows its frame. The call costs
     /// the look-ups of three VMOs, however many show the frame.
     pub fn is_seen_by_third(&self, v: Koid, page: PageNo, w: Koid) -> bool
-        requires { w.0 < (content_of self.now).next }
-        ensures some { result ≡ true → IsSeenByThird (content_of self.now) v.0 page w.0 }
-        ensures none { result ≡ false → IsSeenByThird (content_of self.now) v.0 page w.0 → ⊥ }
+        requires { w.0 < (eager_content self.now).next }
+        ensures some { result ≡ true → IsSeenByThird (eager_content self.now) v.0 page w.0 }
+        ensures none { result ≡ false → IsSeenByThird (eager_content self.now) v.0 page w.0 → ⊥ }
     {
         // The koid of a VMO is below the next.
         let _next = self.next;
@@ -183,7 +183,7 @@ impl EagerPages {
 
     /// Returns whether a VMO is charged for a page: the page is held, and no VMO with a lesser koid shows its frame.
     pub fn is_charged(&self, v: Koid, page: PageNo) -> bool
-        ensures { result ≡ is_charged (content_of self.now) v.0 page }
+        ensures { result ≡ is_charged (eager_content self.now) v.0 page }
     {
         match self.rows.find(v.0, page) {
             Some(tag) => is_least(&self.viewers, tag, v),
@@ -193,8 +193,8 @@ impl EagerPages {
 
     /// Returns a VMO that shows a frame, and its page that has the frame. `None` if and only if no page has it.
     pub fn viewer(&self, tag: Tag) -> Option<(Koid, PageNo)>
-        ensures some { IfSome result (λ at. frame_at (content_of self.now) at.0.0 at.1 ≡ Some tag.0) }
-        ensures none { IfNone result ((v p : ℕ) → frame_at (content_of self.now) v p ≡ Some tag.0 → ⊥) }
+        ensures some { IfSome result (λ at. frame_at (eager_content self.now) at.0.0 at.1 ≡ Some tag.0) }
+        ensures none { IfNone result ((v p : ℕ) → frame_at (eager_content self.now) v p ≡ Some tag.0 → ⊥) }
     {
         match self.viewers.next(tag.0 as u64, 0) {
             Some((koid, page)) => Some((Koid(koid), page)),
@@ -203,16 +203,16 @@ impl EagerPages {
     }
 
     /// Makes a page below the count sole, so that it may be written (copy on write), and answers its frame. A page that
-    /// is sole keeps its frame. Any other needs room (`spare_of`) and a free frame, and then shows the same bytes in that
+    /// is sole keeps its frame. Any other needs room (`eager_spare`) and a free frame, and then shows the same bytes in that
     /// frame.
     pub fn own(&mut self, v: Koid, page: PageNo) -> Tag
-        requires page { page < pages_of (content_of self.old) v.0 }
-        requires room { (sole (content_of self.old) v.0 page ≡ true)
-            ⊎ ((1 ≤ spare_of self.old) × (used (content_of self.old) < (content_of self.old).frames)) }
-        ensures owns { Owns (content_of self.old) (content_of self.new) v.0 page result.0 }
-        ensures alone { sole (content_of self.new) v.0 page ≡ true }
-        ensures frame { frame_at (content_of self.new) v.0 page ≡ Some result.0 }
-        ensures spare { spare_of self.old ≤ spare_of self.new + 1 }
+        requires page { page < pages_of (eager_content self.old) v.0 }
+        requires room { (sole (eager_content self.old) v.0 page ≡ true)
+            ⊎ ((1 ≤ eager_spare self.old) × (used (eager_content self.old) < (eager_content self.old).frames)) }
+        ensures owns { Owns (eager_content self.old) (eager_content self.new) v.0 page result.0 }
+        ensures alone { sole (eager_content self.new) v.0 page ≡ true }
+        ensures frame { frame_at (eager_content self.new) v.0 page ≡ Some result.0 }
+        ensures spare { eager_spare self.old ≤ eager_spare self.new + 1 }
     {
         match self.rows.find(v.0, page) {
             Some(shown) => self.own_held(v, page, shown),
@@ -222,13 +222,13 @@ impl EagerPages {
 
     /// Owns a page below the count, as `own` does, and puts bytes into it, from `at` bytes into the page on.
     pub fn write(&mut self, v: Koid, page: PageNo, at: u64, bytes: &[u8])
-        requires page { page < pages_of (content_of self.old) v.0 }
+        requires page { page < pages_of (eager_content self.old) v.0 }
         requires range { at + length bytes.now ≤ PAGE }
-        requires room { (sole (content_of self.old) v.0 page ≡ true)
-            ⊎ ((1 ≤ spare_of self.old) × (used (content_of self.old) < (content_of self.old).frames)) }
-        ensures writes { WritesPiece (content_of self.old)
-            (record { koid = v.0; page = page; at = at; bytes = bytes.now }) (content_of self.new) }
-        ensures spare { spare_of self.old ≤ spare_of self.new + 1 }
+        requires room { (sole (eager_content self.old) v.0 page ≡ true)
+            ⊎ ((1 ≤ eager_spare self.old) × (used (eager_content self.old) < (eager_content self.old).frames)) }
+        ensures writes { WritesPiece (eager_content self.old)
+            (record { koid = v.0; page = page; at = at; bytes = bytes.now }) (eager_content self.new) }
+        ensures spare { eager_spare self.old ≤ eager_spare self.new + 1 }
     {
         let tag = self.own(v, page);
         self.overwrite(v, page, tag, at, bytes);
@@ -236,8 +236,8 @@ impl EagerPages {
 
     /// Makes a page zero, as it is in a new VMO. Its frame is free afterwards, unless another VMO shows it.
     pub fn zero(&mut self, v: Koid, page: PageNo)
-        ensures zero { content_of self.new ≡ zeroed (content_of self.old) v.0 page (page + 1) }
-        ensures kept { spare_of self.old ≤ spare_of self.new }
+        ensures zero { eager_content self.new ≡ zeroed (eager_content self.old) v.0 page (page + 1) }
+        ensures kept { eager_spare self.old ≤ eager_spare self.new }
     {
         if self.rows.find(v.0, page).is_some() {
             self.release_page(v, page);
@@ -246,8 +246,8 @@ impl EagerPages {
 
     /// Returns the number of pages of a VMO.
     pub fn count(&self, v: Koid) -> PageNo
-        requires { IsSome ((content_of self.now).count v.0) }
-        ensures { (content_of self.now).count v.0 ≡ Some result }
+        requires { IsSome ((eager_content self.now).count v.0) }
+        ensures { (eager_content self.now).count v.0 ≡ Some result }
     {
         self.vmos.find(0, v.0).unwrap_or(0)
     }
@@ -255,10 +255,10 @@ impl EagerPages {
     /// Changes the page count of a VMO to `count` (`zx_vmo_set_size`). Pages past the new end are dropped, and their frames
     /// are free then, unless another VMO shows them. New pages are zero. The call costs the held pages that go.
     pub fn set_count(&mut self, v: Koid, count: PageNo)
-        requires vmo { IsSome ((content_of self.old).count v.0) }
+        requires vmo { IsSome ((eager_content self.old).count v.0) }
         requires count { count ≤ VMO_PAGES }
-        ensures content { content_of self.new ≡ resized (content_of self.old) v.0 count }
-        ensures kept { spare_of self.old ≤ spare_of self.new }
+        ensures content { eager_content self.new ≡ resized (eager_content self.old) v.0 count }
+        ensures kept { eager_spare self.old ≤ eager_spare self.new }
     {
         let old = self.vmos.find(0, v.0).unwrap_or(0);
         // If the VMO grows, no page leaves it.
@@ -268,9 +268,9 @@ impl EagerPages {
 
     /// Drops a VMO with its pages. The frames that no other VMO shows are free then. The call costs the held pages.
     pub fn drop_vmo(&mut self, v: Koid)
-        requires { IsSome ((content_of self.old).count v.0) }
-        ensures content { content_of self.new ≡ without (content_of self.old) v.0 }
-        ensures kept { spare_of self.old ≤ spare_of self.new }
+        requires { IsSome ((eager_content self.old).count v.0) }
+        ensures content { eager_content self.new ≡ without (eager_content self.old) v.0 }
+        ensures kept { eager_spare self.old ≤ eager_spare self.new }
     {
         self.release_pages(v, 0, VMO_PAGES);
         self.vmos.remove(0, v.0);
@@ -279,7 +279,7 @@ impl EagerPages {
     /// Reads bytes of a page, from `at` bytes into the page on. A page that is zero shows zeros.
     pub fn read(&self, v: Koid, page: PageNo, at: u64, out: &mut [u8])
         requires range { at + length out.old ≤ PAGE }
-        ensures { out.new ≡ take (length out.old) (drop at (shown (content_of self.now) v.0 page)) }
+        ensures { out.new ≡ take (length out.old) (drop at (shown (eager_content self.now) v.0 page)) }
     {
         match self.rows.find(v.0, page) {
             Some(tag) => self.pool.read(tag, at, out),
@@ -289,9 +289,9 @@ impl EagerPages {
 
     /// Returns the first page that is held, from page `from` of a VMO on. `None` if and only if none is.
     pub fn next_held(&self, v: Koid, from: PageNo) -> Option<PageNo>
-        ensures some { IfSome result (λ page. (from ≤ page) × IsSome ((content_of self.now).page v.0 page)
-            × ((p : ℕ) → from ≤ p → p < page → (content_of self.now).page v.0 p ≡ None)) }
-        ensures none { IfNone result ((p : ℕ) → from ≤ p → (content_of self.now).page v.0 p ≡ None) }
+        ensures some { IfSome result (λ page. (from ≤ page) × IsSome ((eager_content self.now).page v.0 page)
+            × ((p : ℕ) → from ≤ p → p < page → (eager_content self.now).page v.0 p ≡ None)) }
+        ensures none { IfNone result ((p : ℕ) → from ≤ p → (eager_content self.now).page v.0 p ≡ None) }
     {
         match self.rows.next(v.0, from) {
             Some((page, _)) => Some(page),
@@ -301,21 +301,21 @@ impl EagerPages {
 
     /// Returns the number of page frames of the machine.
     pub fn frames(&self) -> u32
-        ensures { result ≡ (content_of self.now).frames }
+        ensures { result ≡ (eager_content self.now).frames }
     {
         self.pool.frames()
     }
 
     /// Returns the number of page frames that no page shows.
     pub fn free(&self) -> u32
-        ensures { result + used (content_of self.now) ≡ (content_of self.now).frames }
+        ensures { result + used (eager_content self.now) ≡ (eager_content self.now).frames }
     {
         self.pool.free()
     }
 
     /// Returns the number of VMOs.
     pub fn vmos(&self) -> u64
-        ensures { result ≡ vmos_of (content_of self.now) }
+        ensures { result ≡ vmos_of (eager_content self.now) }
     {
         self.vmos.len() as u64
     }
@@ -324,9 +324,9 @@ impl EagerPages {
 
     // Makes room for owning `pages` pages.
     fn reserve_rows(&mut self, pages: u64) -> Result<(), HostMemory>
-        ensures room { OnOk result (pages ≤ spare_of self.new) }
-        ensures same { content_of self.new ≡ content_of self.old }
-        ensures kept { spare_of self.old ≤ spare_of self.new }
+        ensures room { OnOk result (pages ≤ eager_spare self.new) }
+        ensures same { eager_content self.new ≡ eager_content self.old }
+        ensures kept { eager_spare self.old ≤ eager_spare self.new }
         ensures vmos { self.new.vmos ≡ self.old.vmos }
     {
         if pages <= self.room {
@@ -345,8 +345,8 @@ impl EagerPages {
     // Makes room for one VMO more.
     fn reserve_vmo(&mut self) -> Result<(), HostMemory>
         ensures room { OnOk result (1 ≤ self.new.vmos.spare) }
-        ensures same { content_of self.new ≡ content_of self.old }
-        ensures spare { spare_of self.new ≡ spare_of self.old }
+        ensures same { eager_content self.new ≡ eager_content self.old }
+        ensures spare { eager_spare self.new ≡ eager_spare self.old }
     {
         self.vmos.reserve(1).map_err(|_| HostMemory)
     }
@@ -355,10 +355,10 @@ impl EagerPages {
     fn add_vmo(&mut self, count: PageNo) -> Koid
         requires room { 1 ≤ self.old.vmos.spare }
         requires count { count ≤ VMO_PAGES }
-        requires next { (content_of self.old).next < KOIDS }
-        ensures koid { result.0 ≡ (content_of self.old).next }
-        ensures content { content_of self.new ≡ created (content_of self.old) count }
-        ensures spare { spare_of self.new ≡ spare_of self.old }
+        requires next { (eager_content self.old).next < KOIDS }
+        ensures koid { result.0 ≡ (eager_content self.old).next }
+        ensures content { eager_content self.new ≡ created (eager_content self.old) count }
+        ensures spare { eager_spare self.new ≡ eager_spare self.old }
     {
         let koid = self.next;
         self.vmos.insert(0, koid, count);
@@ -368,12 +368,12 @@ impl EagerPages {
 
     // Gives a page that is zero a frame.
     fn own_zero(&mut self, v: Koid, page: PageNo) -> Tag
-        requires zero { (content_of self.old).page v.0 page ≡ None }
-        requires page { page < pages_of (content_of self.old) v.0 }
-        requires room { 1 ≤ spare_of self.old }
-        requires frame { used (content_of self.old) < (content_of self.old).frames }
-        ensures owns { Owns (content_of self.old) (content_of self.new) v.0 page result.0 }
-        ensures spare { spare_of self.new + 1 ≡ spare_of self.old }
+        requires zero { (eager_content self.old).page v.0 page ≡ None }
+        requires page { page < pages_of (eager_content self.old) v.0 }
+        requires room { 1 ≤ eager_spare self.old }
+        requires frame { used (eager_content self.old) < (eager_content self.old).frames }
+        ensures owns { Owns (eager_content self.old) (eager_content self.new) v.0 page result.0 }
+        ensures spare { eager_spare self.new + 1 ≡ eager_spare self.old }
     {
         let tag = take_zeros(&mut self.pool);
         self.rows.insert(v.0, page, tag);
@@ -385,10 +385,10 @@ impl EagerPages {
     // Gives a page that is held a frame of its own, if other VMOs show its frame too.
     fn own_held(&mut self, v: Koid, page: PageNo, shown: Tag) -> Tag
         requires held { values_of self.old.rows v.0 page ≡ Some shown }
-        requires room { (sole (content_of self.old) v.0 page ≡ true)
-            ⊎ (used (content_of self.old) < (content_of self.old).frames) }
-        ensures owns { Owns (content_of self.old) (content_of self.new) v.0 page result.0 }
-        ensures spare { spare_of self.new ≡ spare_of self.old }
+        requires room { (sole (eager_content self.old) v.0 page ≡ true)
+            ⊎ (used (eager_content self.old) < (eager_content self.old).frames) }
+        ensures owns { Owns (eager_content self.old) (eager_content self.new) v.0 page result.0 }
+        ensures spare { eager_spare self.new ≡ eager_spare self.old }
     {
         // The koid of a VMO is below the next.
         let _next = self.next;
@@ -404,24 +404,24 @@ impl EagerPages {
 
     // Puts bytes into a page that is sole, and whose frame this is.
     fn overwrite(&mut self, v: Koid, page: PageNo, tag: Tag, at: u64, bytes: &[u8])
-        requires alone { sole (content_of self.old) v.0 page ≡ true }
-        requires frame { frame_at (content_of self.old) v.0 page ≡ Some tag.0 }
+        requires alone { sole (eager_content self.old) v.0 page ≡ true }
+        requires frame { frame_at (eager_content self.old) v.0 page ≡ Some tag.0 }
         requires range { at + length bytes.now ≤ PAGE }
-        ensures bytes { content_of self.new ≡ hold (content_of self.old) v.0 page
-            (record { tag = tag.0; bytes = replaced (shown (content_of self.old) v.0 page) at bytes.now }) }
-        ensures spare { spare_of self.new ≡ spare_of self.old }
+        ensures bytes { eager_content self.new ≡ hold (eager_content self.old) v.0 page
+            (record { tag = tag.0; bytes = replaced (shown (eager_content self.old) v.0 page) at bytes.now }) }
+        ensures spare { eager_spare self.new ≡ eager_spare self.old }
     {
         self.pool.write(tag, at, bytes);
     }
 
     // Lets a page of a VMO that shows no such frame show a frame that another VMO shows.
     fn show_page(&mut self, v: Koid, page: PageNo, tag: Tag)
-        requires zero { (content_of self.old).page v.0 page ≡ None }
+        requires zero { (eager_content self.old).page v.0 page ≡ None }
         requires shown { (w : ℕ) × (p : ℕ) × (values_of self.old.rows w p ≡ Some tag) }
-        requires good { IsGood (hold (content_of self.old) v.0 page (page_of self.old.pool tag)) }
-        requires room { 1 ≤ spare_of self.old }
-        ensures content { content_of self.new ≡ hold (content_of self.old) v.0 page (page_of self.old.pool tag) }
-        ensures spare { spare_of self.new + 1 ≡ spare_of self.old }
+        requires good { IsGood (hold (eager_content self.old) v.0 page (page_with_tag self.old.pool tag)) }
+        requires room { 1 ≤ eager_spare self.old }
+        ensures content { eager_content self.new ≡ hold (eager_content self.old) v.0 page (page_with_tag self.old.pool tag) }
+        ensures spare { eager_spare self.new + 1 ≡ eager_spare self.old }
     {
         self.rows.insert(v.0, page, tag);
         self.viewers.insert(tag.0 as u64, v.0, page);
@@ -431,9 +431,9 @@ impl EagerPages {
     // Makes a page zero that is held. Its frame is free then, unless another VMO shows it.
     fn release_page(&mut self, v: Koid, page: PageNo)
         requires { IsSome (values_of self.old.rows v.0 page) }
-        ensures content { content_of self.new ≡ zeroed (content_of self.old) v.0 page (page + 1) }
+        ensures content { eager_content self.new ≡ zeroed (eager_content self.old) v.0 page (page + 1) }
         ensures fewer { count_of self.new.rows + 1 ≡ count_of self.old.rows }
-        ensures spare { spare_of self.new ≡ spare_of self.old }
+        ensures spare { eager_spare self.new ≡ eager_spare self.old }
     {
         let tag = self.rows.remove(v.0, page);
         self.viewers.remove(tag.0 as u64, v.0);
@@ -442,8 +442,8 @@ impl EagerPages {
 
     // Makes the pages of a VMO zero from `first` to below `end`.
     fn release_pages(&mut self, v: Koid, first: PageNo, end: PageNo)
-        ensures content { content_of self.new ≡ zeroed (content_of self.old) v.0 first end }
-        ensures spare { spare_of self.new ≡ spare_of self.old }
+        ensures content { eager_content self.new ≡ zeroed (eager_content self.old) v.0 first end }
+        ensures spare { eager_spare self.new ≡ eager_spare self.old }
     {
         while let Some((page, _)) = self.held_below(v, first, end) {
             self.release_page(v, page);
@@ -452,9 +452,9 @@ impl EagerPages {
 
     // The first page of a VMO that is held, from page `from` to below `end`, and its frame.
     fn held_below(&self, v: Koid, from: PageNo, end: PageNo) -> Option<(PageNo, Tag)>
-        ensures some { IfSome result (λ row. IsNextBelow (content_of self.now) v.0 from end row.0) }
+        ensures some { IfSome result (λ row. IsNextBelow (eager_content self.now) v.0 from end row.0) }
         ensures tag { IfSome result (λ row. values_of self.now.rows v.0 row.0 ≡ Some row.1) }
-        ensures none { IfNone result (HasNoneBelow (content_of self.now) v.0 from end) }
+        ensures none { IfNone result (HasNoneBelow (eager_content self.now) v.0 from end) }
     {
         match self.rows.next(v.0, from) {
             Some((page, tag)) if page < end => Some((page, tag)),
@@ -465,7 +465,7 @@ impl EagerPages {
     // How many pages of a VMO are held, from page `first` to below `end`.
     fn count_held(&self, v: Koid, first: PageNo, end: PageNo) -> u64
         requires { first ≤ end }
-        ensures { result ≡ held_in (content_of self.now) v.0 first (end - first) }
+        ensures { result ≡ held_in (eager_content self.now) v.0 first (end - first) }
     {
         let mut held = 0;
         let mut from = first;

@@ -5,7 +5,7 @@ ghost use Rattle.vm_base.specs.Entries.{without_key};
 ghost use Rattle.vm_base.specs.Pages.{zeros};
 ghost use Rattle.frame_pool.specs.Pool.{taken_frames, frame_bytes, taken_count, Takes};
 ghost use Rattle.pair_map.specs.Maps.{values_of};
-ghost use Rattle.eager_pages.specs.inside.Rows.{IsAlone, HasOther, HasNoLess, HasLess, HasAny, HasNone, HasWithin, HasNoneIn, HasThird, HasNoThird};
+ghost use Rattle.eager_pages.specs.inside.Rows.{IsAlone, HasOther, HasNoLess, HasLess, HasAny, HasNone, HasWithin, HasNoViewerIn, HasThird, HasNoThird};
 
 use frame_pool::FramePool;
 use pair_map::PairMap;
@@ -56,7 +56,7 @@ pub(crate) fn has_third(viewers: &PairMap<PageNo>, tag: Tag, v: Koid, w: Koid) -
 // Whether a VMO with a koid from one to below another has a page under a frame.
 fn has_within(viewers: &PairMap<PageNo>, tag: Tag, from: u64, end: u64) -> bool
     ensures some { result ≡ true → HasWithin (values_of viewers.now tag.0) from end }
-    ensures none { result ≡ false → HasNoneIn (values_of viewers.now tag.0) from end }
+    ensures none { result ≡ false → HasNoViewerIn (values_of viewers.now tag.0) from end }
 {
     match viewers.next(tag.0 as u64, from) {
         Some((koid, _)) => koid < end,

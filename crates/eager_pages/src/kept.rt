@@ -1,15 +1,15 @@
 //! Eager pages are an implementation of `Pages`, so that the operations on VMOs and on regions do the commands over them.
 
-ghost use Rattle.eager_pages.specs.Eager.{content_of, spare_of};
+ghost use Rattle.eager_pages.specs.Eager.{eager_content, eager_spare};
 
 use crate::eager_pages::EagerPages;
 use pages::{Look, Pages};
 use vm_base::{HostMemory, Koid, PageNo, Tag};
 
 impl Pages for EagerPages {
-    ghost content = { content_of };
+    ghost content = { eager_content };
 
-    ghost spare = { spare_of };
+    ghost spare = { eager_spare };
 
     fn create(&mut self, count: PageNo) -> Result<Koid, HostMemory> {
         self.create(count)

@@ -4,8 +4,8 @@
 //!
 //! It stands on `vm_model`, whose contents the contracts speak of, on `frame_pool` for the frames, and on `pair_map` for the
 //! rows. `EagerPages` is an implementation of `Pages`, so the operations on VMOs and on regions work on it. The layer above
-//! makes the pages by `EagerPages::new`, and gives them frames by `fill`. Contracts see the content (`content_of`), and how
-//! many pages may be owned with no memory from the host (`spare_of`).
+//! makes the pages by `EagerPages::new`, and gives them frames by `fill`. Contracts see the content (`eager_content`), and how
+//! many pages may be owned with no memory from the host (`eager_spare`).
 #![tactic(auto)]
 
 mod eager_pages;

@@ -10,7 +10,7 @@ use Rattle.vm_model.specs.Machine.Refusals.{refusals, first_of}
 use Rattle.vm_model.specs.Machine.Step.{Effect, StepAfter, Step, may_lack_memory}
 use Rattle.vmo_table.specs.Table.{CountsKeepers, IsWellCounted}
 use Rattle.eager_vmos.specs.declared.eager_vmos.EagerVmos.{EagerVmos}
-use Rattle.eager_vmos.specs.Vmos.{state_with, AreCounted, AreSame, Does}
+use Rattle.eager_vmos.specs.Vmos.{state_with_vmos, HasCountedKeepers, AreSame, CarriesOut}
 
 -- a step that nothing refuses, and whose reply is no refusal, is the effect
 pub effect_of : {old : State} {command : Command} {reply : Reply} {new : State} → first_of (refusals old command) ≡ None → ((refusal : Refusal) → reply ≡ Refused refusal → ⊥)
@@ -36,19 +36,19 @@ no_refusal old new command {refusal} none never ample step = go (subst (λ (o : 
   go (inl effect) = never effect
   go (inr lacked) = both_ways (may_lack_memory old command) ample lacked.1
 
-module _ (old new : EagerVmos) (command : Command) (parts : AreCounted old)
-    (none : (s : State) → first_of (refusals (state_with s old) command) ≡ None)
-    (counted : (s : State) → CountsKeepers old.vmos (state_with s old) → CountsKeepers new.vmos (state_with s new)) where
+module _ (old new : EagerVmos) (command : Command) (parts : HasCountedKeepers old)
+    (none : (s : State) → first_of (refusals (state_with_vmos s old) command) ≡ None)
+    (counted : (s : State) → CountsKeepers old.vmos (state_with_vmos s old) → CountsKeepers new.vmos (state_with_vmos s new)) where
   -- what a step does whose reply is no refusal
   pub done : (reply : Reply) → ((refusal : Refusal) → reply ≡ Refused refusal → ⊥)
-      → ((s : State) → IsWellCounted old.vmos (state_with s old) → Step (state_with s old) command reply (state_with s new)) → Does old command reply new
+      → ((s : State) → IsWellCounted old.vmos (state_with_vmos s old) → Step (state_with_vmos s old) command reply (state_with_vmos s new)) → CarriesOut old command reply new
   done reply told step = record { effect = λ s well. effect_of (none s) told (step s well); counted = counted }
 
   -- one whose reply is a refusal changes nothing but room
-  pub kept : (refusal : Refusal) → ((s : State) → Effect (state_with s old) command (Refused refusal) (state_with s new) → ⊥)
-      → ((s : State) → IsWellCounted old.vmos (state_with s old) → Step (state_with s old) command (Refused refusal) (state_with s new)) → AreSame old new
+  pub kept : (refusal : Refusal) → ((s : State) → Effect (state_with_vmos s old) command (Refused refusal) (state_with_vmos s new) → ⊥)
+      → ((s : State) → IsWellCounted old.vmos (state_with_vmos s old) → Step (state_with_vmos s old) command (Refused refusal) (state_with_vmos s new)) → AreSame old new
   kept refusal never step =
-      let same : state_with parts.rest new ≡ state_with parts.rest old = same_of (none parts.rest) (never parts.rest) (step parts.rest parts.well) in
+      let same : state_with_vmos parts.rest new ≡ state_with_vmos parts.rest old = same_of (none parts.rest) (never parts.rest) (step parts.rest parts.well) in
       record {
         content = ap (λ (t : State). t.content) same;
         tables = record {

@@ -23,7 +23,7 @@ use Rattle.vmo_ops.proofs.StepRows.{size_of-at}
 use Rattle.eager_vmos.proofs.RowLaws.{by_name}
 use Rattle.eager_vmos.specs.declared.eager_vmos.EagerVmos.{EagerVmos}
 use Rattle.eager_vmos.specs.declared.finding.Found.{Found}
-use Rattle.eager_vmos.specs.Vmos.{content_in, state_with, AreCounted}
+use Rattle.eager_vmos.specs.Vmos.{content_in, state_with_vmos, HasCountedKeepers}
 use Rattle.eager_vmos.specs.inside.Found.{IsFound}
 
 -- where the tests before the last fail, it alone decides
@@ -44,9 +44,9 @@ pub change_rows_at : (s : State) (name offset len : ℕ) (owned : List ℕ) (tar
 change_rows_at s name offset len owned target named answer e = by_name s name target named (change_rows_of s name offset len owned) answer e
 
 -- what a name that is open stands for lies in its VMO, and the VMO has a lineage
-module _ (e : EagerVmos) (parts : AreCounted e) (name : ℕ) (target : Target) (named : names_of e.vmos name ≡ Some target) where
+module _ (e : EagerVmos) (parts : HasCountedKeepers e) (name : ℕ) (target : Target) (named : names_of e.vmos name ≡ Some target) where
   pub name_inside : IsInside (content_in e) target
-  name_inside = IsInside-good (state_with parts.rest e) name target parts.well.good named
+  name_inside = IsInside-good (state_with_vmos parts.rest e) name target parts.well.good named
 
   pub name_known : IsSome (lineage_in e.vmos target.koid.0)
   name_known = rw (parts.well.good.known target.koid.0) name_inside.vmo
@@ -56,38 +56,38 @@ module _ {e : EagerVmos} {name offset len : ℕ} {found : Found} (is : IsFound e
   pub found_inside : found.at + len ≤ pages_of (content_in e) found.koid.0 * PAGE
   found_inside = rw is.koid is.placed.inside
 
-  pub found_vmo : AreCounted e → IsSome ((content_in e).count found.koid.0)
+  pub found_vmo : HasCountedKeepers e → IsSome ((content_in e).count found.koid.0)
   found_vmo parts = subst (λ (k : ℕ). IsSome ((content_in e).count k)) (sym (ap (λ (k : Koid). k.0) is.koid)) (name_inside e parts name is.target is.named).vmo
 
   module _ (s : State) where
-    at : target_of (state_with s e) name ≡ is.target
-    at = target_of-at (state_with s e) name is.target is.named
+    at : target_of (state_with_vmos s e) name ≡ is.target
+    at = target_of-at (state_with_vmos s e) name is.target is.named
 
     -- by the definitions it is of this VMO, and at this place
-    pub found_koid : koid_of (state_with s e) name ≡ found.koid.0
+    pub found_koid : koid_of (state_with_vmos s e) name ≡ found.koid.0
     found_koid = ap (λ (t : Target). t.koid.0) at ∙ sym (ap (λ k. k.0) is.koid)
 
-    pub found_place : place_of (state_with s e) name offset ≡ found.at
+    pub found_place : place_of (state_with_vmos s e) name offset ≡ found.at
     found_place = ap (λ (t : Target). t.first * PAGE + offset) at ∙ sym is.placed.place
 
     -- what refuses a change that owns these pages
-    pub change_rows : (owned : List ℕ) → first_of (change_refusals (state_with s e) name offset len owned) ≡ cond (lacks_frames (state_with s e) name owned) (Some NoMemory) None
+    pub change_rows : (owned : List ℕ) → first_of (change_refusals (state_with_vmos s e) name offset len owned) ≡ cond (lacks_frames (state_with_vmos s e) name owned) (Some NoMemory) None
     change_rows owned =
-        rows_off (not (is_open (state_with s e) name)) (not (target_of (state_with s e) name).may_write) (nat_lt (size_of (state_with s e) name) (offset + len))
-        (lacks_frames (state_with s e) name owned) (ap (λ (o : Option Target). not (is_some o)) is.named)
+        rows_off (not (is_open (state_with_vmos s e) name)) (not (target_of (state_with_vmos s e) name).may_write) (nat_lt (size_of (state_with_vmos s e) name) (offset + len))
+        (lacks_frames (state_with_vmos s e) name owned) (ap (λ (o : Option Target). not (is_some o)) is.named)
         (ap (λ (t : Target). not t.may_write) at ∙ ap not is.may_write)
-        (le-ltb (size_of (state_with s e) name) (offset + len) (rw (size_of-at (state_with s e) name is.target is.named) is.placed.range))
+        (le-ltb (size_of (state_with_vmos s e) name) (offset + len) (rw (size_of-at (state_with_vmos s e) name is.target is.named) is.placed.range))
 
     -- a change of the pages that the range touches
     pub own_rows : (lacks : Bool) → lacks ≡ nat_lt (content_in e).frames (used (content_in e) + need (content_in e) found.koid.0 (touched found.at len))
-        → first_of (change_refusals (state_with s e) name offset len (touched (place_of (state_with s e) name offset) len)) ≡ cond lacks (Some NoMemory) None
+        → first_of (change_refusals (state_with_vmos s e) name offset len (touched (place_of (state_with_vmos s e) name offset) len)) ≡ cond lacks (Some NoMemory) None
     own_rows lacks are =
-        change_rows (touched (place_of (state_with s e) name offset) len)
+        change_rows (touched (place_of (state_with_vmos s e) name offset) len)
         ∙ (rw (found_koid, found_place) (ap (λ (b : Bool). cond b (Some NoMemory) None) (sym are)))
 
     -- and one that makes it zero
     pub zero_rows : (lacks : Bool) → lacks ≡ nat_lt (content_in e).frames (used (content_in e) + need (content_in e) found.koid.0 (owned_by_zero (content_in e) found.koid.0 (is_pinned (pins_of e.pins) found.koid.0) found.at len))
-        → first_of (change_refusals (state_with s e) name offset len (owned_by_zero (content_in e) (koid_of (state_with s e) name) (is_pinned (pins_of e.pins) (koid_of (state_with s e) name)) (place_of (state_with s e) name offset) len)) ≡ cond lacks (Some NoMemory) None
+        → first_of (change_refusals (state_with_vmos s e) name offset len (owned_by_zero (content_in e) (koid_of (state_with_vmos s e) name) (is_pinned (pins_of e.pins) (koid_of (state_with_vmos s e) name)) (place_of (state_with_vmos s e) name offset) len)) ≡ cond lacks (Some NoMemory) None
     zero_rows lacks are =
-        change_rows (owned_by_zero (content_in e) (koid_of (state_with s e) name) (is_pinned (pins_of e.pins) (koid_of (state_with s e) name)) (place_of (state_with s e) name offset) len)
+        change_rows (owned_by_zero (content_in e) (koid_of (state_with_vmos s e) name) (is_pinned (pins_of e.pins) (koid_of (state_with_vmos s e) name)) (place_of (state_with_vmos s e) name offset) len)
         ∙ (rw (found_koid, found_place) (ap (λ (b : Bool). cond b (Some NoMemory) None) (sym are)))

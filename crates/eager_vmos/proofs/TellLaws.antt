@@ -11,17 +11,17 @@ use Rattle.vm_model.specs.Machine.State.{State, name_pages}
 use Rattle.vm_model.proofs.NamesLaws.{target_of-at}
 use Rattle.vmo_table.specs.Table.{names_of}
 use Rattle.eager_vmos.specs.declared.eager_vmos.EagerVmos.{EagerVmos}
-use Rattle.eager_vmos.specs.Vmos.{content_in, state_with, Does}
+use Rattle.eager_vmos.specs.Vmos.{content_in, state_with_vmos, CarriesOut}
 
 module _ (e : EagerVmos) (name : VmoName) (target : Target) (named : names_of e.vmos name.0 ≡ Some target) where
-  pub size_does : (size : ℕ) → size ≡ name_pages (content_in e) target * PAGE → Does e (VmoSize name) (Number size) e
+  pub size_does : (size : ℕ) → size ≡ name_pages (content_in e) target * PAGE → CarriesOut e (VmoSize name) (Number size) e
   size_does size is = record {
-    effect = λ s well. (ap Number (is ∙ ap (λ (t : Target). name_pages (content_in e) t * PAGE) (sym (target_of-at (state_with s e) name.0 target named))), refl);
+    effect = λ s well. (ap Number (is ∙ ap (λ (t : Target). name_pages (content_in e) t * PAGE) (sym (target_of-at (state_with_vmos s e) name.0 target named))), refl);
     counted = λ s counted. counted;
   }
 
-  pub info_does : (info : Info) → ((s : State) → info ≡ info_at (state_with s e) target) → Does e (VmoInfo name) (InfoReply info) e
+  pub info_does : (info : Info) → ((s : State) → info ≡ info_at (state_with_vmos s e) target) → CarriesOut e (VmoInfo name) (InfoReply info) e
   info_does info is = record {
-    effect = λ s well. (ap InfoReply (is s ∙ ap (λ (t : Target). info_at (state_with s e) t) (sym (target_of-at (state_with s e) name.0 target named))), refl);
+    effect = λ s well. (ap InfoReply (is s ∙ ap (λ (t : Target). info_at (state_with_vmos s e) t) (sym (target_of-at (state_with_vmos s e) name.0 target named))), refl);
     counted = λ s counted. counted;
   }

@@ -9,44 +9,44 @@ use Rattle.vm_model.specs.Contents.Writing.{touched}
 use Rattle.vm_model.specs.Machine.State.{State, place_of}
 use Rattle.vm_model.specs.Machine.Refusals.{refusals, change_refusals, first_of}
 use Rattle.vm_model.specs.Machine.Step.{Effect}
-use Rattle.vmo_table.specs.Table.{Table as Vmos, names_of, lineage_in, keepers_of, CountsKeepers, IsWellCounted}
-use Rattle.pin_table.specs.Table.{Table as Pins, pins_of}
+use Rattle.vmo_table.specs.Table.{Vmos, names_of, lineage_in, keepers_of, CountsKeepers, IsWellCounted}
+use Rattle.pin_table.specs.Table.{Pins, pins_of}
 use Rattle.vmo_ops.specs.Targets.{with_tables}
-use Rattle.eager_pages.specs.Eager.{content_of}
+use Rattle.eager_pages.specs.Eager.{eager_content}
 use Rattle.eager_vmos.specs.declared.eager_vmos.EagerVmos.{EagerVmos}
 
 -- what the VMOs and their pages are
 abbrev pub content_in : EagerVmos → Content
-content_in e = content_of e.pages
+content_in e = eager_content e.pages
 
 -- the state s, but with these VMOs, names and pins
-abbrev pub state_with : State → EagerVmos → State
-state_with s e = with_tables s (content_in e) e.vmos e.pins
+abbrev pub state_with_vmos : State → EagerVmos → State
+state_with_vmos s e = with_tables s (content_in e) e.vmos e.pins
 
 -- They are parts of a good state, in which the table of VMOs counts right what keeps each VMO.
-pub record AreCounted (e : EagerVmos) : Type 0 where
+pub record HasCountedKeepers (e : EagerVmos) : Type 0 where
   pub rest : State
-  pub well : IsWellCounted e.vmos (state_with rest e)
+  pub well : IsWellCounted e.vmos (state_with_vmos rest e)
 
 -- the answer is what refuses the command, whatever else the state has
 abbrev pub IsRefusalOf : EagerVmos → Command → Option Refusal → Type 0
-IsRefusalOf e command answer = (s : State) → answer ≡ first_of (refusals (state_with s e) command)
+IsRefusalOf e command answer = (s : State) → answer ≡ first_of (refusals (state_with_vmos s e) command)
 
 -- Nothing refuses the command. This does not depend on what else the state has.
 pub record Allows (e : EagerVmos) (command : Command) : Type 0 where
   pub rest : State
-  pub none : first_of (refusals (state_with rest e) command) ≡ None
+  pub none : first_of (refusals (state_with_vmos rest e) command) ≡ None
 
 -- The same of a change that owns the pages which a range of a name touches: of a write, a fill and a commit.
 pub record AllowsToOwn (e : EagerVmos) (name offset len : ℕ) : Type 0 where
   pub rest : State
-  pub none : first_of (change_refusals (state_with rest e) name offset len (touched (place_of (state_with rest e) name offset) len)) ≡ None
+  pub none : first_of (change_refusals (state_with_vmos rest e) name offset len (touched (place_of (state_with_vmos rest e) name offset) len)) ≡ None
 
 -- From old to new, the command does what it does if nothing refuses it, with this reply, whatever else the state has.
 -- What keeps each VMO is counted as right as before.
-pub record Does (old : EagerVmos) (command : Command) (reply : Reply) (new : EagerVmos) : Type 0 where
-  pub effect : (s : State) → IsWellCounted old.vmos (state_with s old) → Effect (state_with s old) command reply (state_with s new)
-  pub counted : (s : State) → CountsKeepers old.vmos (state_with s old) → CountsKeepers new.vmos (state_with s new)
+pub record CarriesOut (old : EagerVmos) (command : Command) (reply : Reply) (new : EagerVmos) : Type 0 where
+  pub effect : (s : State) → IsWellCounted old.vmos (state_with_vmos s old) → Effect (state_with_vmos s old) command reply (state_with_vmos s new)
+  pub counted : (s : State) → CountsKeepers old.vmos (state_with_vmos s old) → CountsKeepers new.vmos (state_with_vmos s new)
 
 -- the names, the VMOs, what keeps them, and the pins are as they were
 pub record AreSameTables (old_vmos : Vmos) (old_pins : Pins) (new_vmos : Vmos) (new_pins : Pins) : Type 0 where

@@ -12,8 +12,8 @@ ghost use Rattle.vm_model.specs.Machine.State.{State, place_of};
 ghost use Rattle.vm_model.specs.Machine.Refusals.{change_refusals, first_of};
 ghost use Rattle.pin_table.specs.Table.{pins_of};
 ghost use Rattle.vmo_table.specs.Table.{names_of};
-ghost use Rattle.eager_pages.specs.Eager.{content_of};
-ghost use Rattle.eager_vmos.specs.Vmos.{state_with, AreCounted, IsRefusalOf};
+ghost use Rattle.eager_pages.specs.Eager.{eager_content};
+ghost use Rattle.eager_vmos.specs.Vmos.{state_with_vmos, HasCountedKeepers, IsRefusalOf};
 
 use crate::eager_vmos::EagerVmos;
 use eager_pages::EagerPages;
@@ -39,10 +39,10 @@ impl EagerVmos {
         offset: u64,
         len: u64,
     ) -> Option<Refusal>
-        requires counted { AreCounted self.now }
+        requires counted { HasCountedKeepers self.now }
         requires named { target ≡ names_of self.now.vmos name.0 }
-        ensures { (s : State) → result ≡ first_of (change_refusals (state_with s self.now) name.0 offset len
-            (touched (place_of (state_with s self.now) name.0 offset) len)) }
+        ensures { (s : State) → result ≡ first_of (change_refusals (state_with_vmos s self.now) name.0 offset len
+            (touched (place_of (state_with_vmos s self.now) name.0 offset) len)) }
     {
         let found = match self.find_to_change(name, target, offset, len) {
             Ok(found) => found,
@@ -63,7 +63,7 @@ impl EagerVmos {
         offset: u64,
         len: u64,
     ) -> Option<Refusal>
-        requires counted { AreCounted self.now }
+        requires counted { HasCountedKeepers self.now }
         requires named { target ≡ names_of self.now.vmos name.0 }
         ensures { IsRefusalOf self.now (Command.VmoZero name offset len) result }
     {
@@ -93,7 +93,7 @@ impl EagerVmos {
         offset: u64,
         len: u64,
     ) -> Option<Refusal>
-        requires counted { AreCounted self.now }
+        requires counted { HasCountedKeepers self.now }
         requires named { target ≡ names_of self.now.vmos name.0 }
         ensures { IsRefusalOf self.now (Command.VmoDecommit name offset len) result }
     {
@@ -133,7 +133,7 @@ impl EagerVmos {
         target: Option<Target>,
         size: u64,
     ) -> Option<Refusal>
-        requires counted { AreCounted self.now }
+        requires counted { HasCountedKeepers self.now }
         requires named { target ≡ names_of self.now.vmos name.0 }
         ensures { IsRefusalOf self.now (Command.VmoSetSize name size) result }
     {
@@ -164,7 +164,7 @@ impl EagerVmos {
         offset: u64,
         len: u64,
     ) -> Option<Refusal>
-        requires counted { AreCounted self.now }
+        requires counted { HasCountedKeepers self.now }
         requires named { target ≡ names_of self.now.vmos name.0 }
         ensures { IsRefusalOf self.now (Command.VmoRead name offset len) result }
     {
@@ -196,7 +196,7 @@ impl EagerVmos {
         offset: u64,
         len: u64,
     ) -> Option<Refusal>
-        requires counted { AreCounted self.now }
+        requires counted { HasCountedKeepers self.now }
         requires named { target ≡ names_of self.now.vmos name.0 }
         ensures { IsRefusalOf self.now (Command.VmoPin pin name offset len) result }
     {
@@ -263,11 +263,11 @@ fn is_too_large(size: u64) -> bool
 // Whether owning the pages that a range inside a VMO touches takes more frames than are free. No page takes more than one, so
 // none is looked at if there is a free frame for each.
 fn lacks_frames(pages: &EagerPages, v: Koid, offset: u64, len: u64) -> bool
-    requires good { IsGood (content_of pages.now) }
-    requires vmo { IsSome ((content_of pages.now).count v.0) }
-    requires inside { offset + len ≤ pages_of (content_of pages.now) v.0 * PAGE }
-    ensures { result ≡ nat_lt (content_of pages.now).frames
-        (used (content_of pages.now) + need (content_of pages.now) v.0 (touched offset len)) }
+    requires good { IsGood (eager_content pages.now) }
+    requires vmo { IsSome ((eager_content pages.now).count v.0) }
+    requires inside { offset + len ≤ pages_of (eager_content pages.now) v.0 * PAGE }
+    ensures { result ≡ nat_lt (eager_content pages.now).frames
+        (used (eager_content pages.now) + need (eager_content pages.now) v.0 (touched offset len)) }
 {
     let (first, end) = touched_pages(offset, len);
     let free = pages.free() as u64;

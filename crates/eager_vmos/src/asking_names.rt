@@ -7,9 +7,9 @@ ghost use Rattle.vm_model.specs.declared.command.ChildKind.TheVariants.{Snapshot
 ghost use Rattle.vm_model.specs.Contents.Content.{IsGood};
 ghost use Rattle.vm_model.specs.Machine.State.{name_pages};
 ghost use Rattle.pages.specs.Names.{IsInside};
-ghost use Rattle.eager_pages.specs.Eager.{content_of};
+ghost use Rattle.eager_pages.specs.Eager.{eager_content};
 ghost use Rattle.vmo_table.specs.Table.{names_of};
-ghost use Rattle.eager_vmos.specs.Vmos.{AreCounted, IsRefusalOf};
+ghost use Rattle.eager_vmos.specs.Vmos.{HasCountedKeepers, IsRefusalOf};
 
 use crate::eager_vmos::EagerVmos;
 use eager_pages::EagerPages;
@@ -69,7 +69,7 @@ impl EagerVmos {
         resizable: bool,
         no_write: bool,
     ) -> Option<Refusal>
-        requires { AreCounted self.now }
+        requires { HasCountedKeepers self.now }
         ensures { IsRefusalOf self.now (Command.VmoChild name parent Snapshot offset size resizable no_write) result }
     {
         let Some(target) = self.vmos.resolve(parent) else {
@@ -106,7 +106,7 @@ impl EagerVmos {
         size: u64,
         resizable: bool,
     ) -> Option<Refusal>
-        requires { AreCounted self.now }
+        requires { HasCountedKeepers self.now }
         ensures { (no_write : Bool) → IsRefusalOf self.now (Command.VmoChild name parent Slice offset size resizable no_write) result }
     {
         let Some(target) = self.vmos.resolve(parent) else {
@@ -167,19 +167,19 @@ fn is_misasked(offset: u64, resizable: bool, no_write: bool) -> bool
 
 // Whether a slice of a name may not have these arguments.
 fn is_no_slice(pages: &EagerPages, t: &Target, offset: u64, size: u64, resizable: bool) -> bool
-    requires good { IsGood (content_of pages.now) }
-    requires inside { IsInside (content_of pages.now) t.now }
+    requires good { IsGood (eager_content pages.now) }
+    requires inside { IsInside (eager_content pages.now) t.now }
     ensures { result ≡ (not (offset % PAGE == 0)
-        || (resizable || nat_lt (name_pages (content_of pages.now) t.now * PAGE) (offset + rounded size))) }
+        || (resizable || nat_lt (name_pages (eager_content pages.now) t.now * PAGE) (offset + rounded size))) }
 {
     in_page(offset) != 0 || resizable || leaves(pages, t, offset, size)
 }
 
 // Whether `size` bytes, rounded up to whole pages, from `offset` bytes into a name on, pass its end.
 fn leaves(pages: &EagerPages, t: &Target, offset: u64, size: u64) -> bool
-    requires good { IsGood (content_of pages.now) }
-    requires inside { IsInside (content_of pages.now) t.now }
-    ensures { result ≡ nat_lt (name_pages (content_of pages.now) t.now * PAGE) (offset + rounded size) }
+    requires good { IsGood (eager_content pages.now) }
+    requires inside { IsInside (eager_content pages.now) t.now }
+    ensures { result ≡ nat_lt (name_pages (eager_content pages.now) t.now * PAGE) (offset + rounded size) }
 {
     match size_of_name(pages, t).checked_sub(offset) {
         Some(limit) => round_up(size, limit).is_none(),

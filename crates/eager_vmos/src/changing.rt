@@ -7,7 +7,7 @@ ghost use Rattle.vm_base.specs.declared.limits.TheConstants.{PIN_PAGES};
 ghost use Rattle.vm_model.specs.declared.command.Command.{Command};
 ghost use Rattle.vm_model.specs.declared.reply.Reply.{Reply};
 ghost use Rattle.vmo_table.specs.Table.{names_of};
-ghost use Rattle.eager_vmos.specs.Vmos.{Allows, AreCounted, AreSame, Does};
+ghost use Rattle.eager_vmos.specs.Vmos.{Allows, HasCountedKeepers, AreSame, CarriesOut};
 
 use crate::eager_vmos::EagerVmos;
 use vm_base::{HostMemory, PIN_PAGES, PinName, VmoName};
@@ -23,10 +23,10 @@ impl EagerVmos {
         offset: u64,
         bytes: &[u8],
     ) -> Result<(), HostMemory>
-        requires parts { AreCounted self.old }
+        requires parts { HasCountedKeepers self.old }
         requires allowed { Allows self.old (Command.VmoWrite name offset bytes.now) }
         requires named { target ≡ names_of self.old.vmos name.0 }
-        ensures { MatchResult result (λ _. Does self.old (Command.VmoWrite name offset bytes.now) Reply.Done self.new)
+        ensures { MatchResult result (λ _. CarriesOut self.old (Command.VmoWrite name offset bytes.now) Reply.Done self.new)
             (λ lack. AreSame self.old self.new) }
     {
         let Some(target) = target else { unreachable!() };
@@ -46,10 +46,10 @@ impl EagerVmos {
         len: u64,
         byte: u8,
     ) -> Result<(), HostMemory>
-        requires parts { AreCounted self.old }
+        requires parts { HasCountedKeepers self.old }
         requires allowed { Allows self.old (Command.VmoFill name offset len byte) }
         requires named { target ≡ names_of self.old.vmos name.0 }
-        ensures { MatchResult result (λ _. Does self.old (Command.VmoFill name offset len byte) Reply.Done self.new)
+        ensures { MatchResult result (λ _. CarriesOut self.old (Command.VmoFill name offset len byte) Reply.Done self.new)
             (λ lack. AreSame self.old self.new) }
     {
         let Some(target) = target else { unreachable!() };
@@ -68,10 +68,10 @@ impl EagerVmos {
         offset: u64,
         len: u64,
     ) -> Result<(), HostMemory>
-        requires parts { AreCounted self.old }
+        requires parts { HasCountedKeepers self.old }
         requires allowed { Allows self.old (Command.VmoCommit name offset len) }
         requires named { target ≡ names_of self.old.vmos name.0 }
-        ensures { MatchResult result (λ _. Does self.old (Command.VmoCommit name offset len) Reply.Done self.new)
+        ensures { MatchResult result (λ _. CarriesOut self.old (Command.VmoCommit name offset len) Reply.Done self.new)
             (λ lack. AreSame self.old self.new) }
     {
         let Some(target) = target else { unreachable!() };
@@ -90,10 +90,10 @@ impl EagerVmos {
         offset: u64,
         len: u64,
     ) -> Result<(), HostMemory>
-        requires parts { AreCounted self.old }
+        requires parts { HasCountedKeepers self.old }
         requires allowed { Allows self.old (Command.VmoZero name offset len) }
         requires named { target ≡ names_of self.old.vmos name.0 }
-        ensures { MatchResult result (λ _. Does self.old (Command.VmoZero name offset len) Reply.Done self.new)
+        ensures { MatchResult result (λ _. CarriesOut self.old (Command.VmoZero name offset len) Reply.Done self.new)
             (λ lack. AreSame self.old self.new) }
     {
         let Some(target) = target else { unreachable!() };
@@ -112,10 +112,10 @@ impl EagerVmos {
         offset: u64,
         len: u64,
     ) -> Result<(), HostMemory>
-        requires parts { AreCounted self.old }
+        requires parts { HasCountedKeepers self.old }
         requires allowed { Allows self.old (Command.VmoDecommit name offset len) }
         requires named { target ≡ names_of self.old.vmos name.0 }
-        ensures { MatchResult result (λ _. Does self.old (Command.VmoDecommit name offset len) Reply.Done self.new)
+        ensures { MatchResult result (λ _. CarriesOut self.old (Command.VmoDecommit name offset len) Reply.Done self.new)
             (λ lack. AreSame self.old self.new) }
     {
         let Some(target) = target else { unreachable!() };
@@ -134,10 +134,10 @@ impl EagerVmos {
 
     /// Changes the size of a VMO to `size` bytes, rounded up to whole pages (`zx_vmo_set_size`). This takes no memory.
     pub fn set_size(&mut self, name: VmoName, target: Option<Target>, size: u64)
-        requires parts { AreCounted self.old }
+        requires parts { HasCountedKeepers self.old }
         requires allowed { Allows self.old (Command.VmoSetSize name size) }
         requires named { target ≡ names_of self.old.vmos name.0 }
-        ensures { Does self.old (Command.VmoSetSize name size) Reply.Done self.new }
+        ensures { CarriesOut self.old (Command.VmoSetSize name size) Reply.Done self.new }
     {
         let Some(target) = target else { unreachable!() };
         match vmo_ops::resize(&mut self.pages, &self.pins, &target, size) {
@@ -157,11 +157,11 @@ impl EagerVmos {
         len: u64,
         room: &'a mut [u64],
     ) -> Result<LentNumbers<'a>, HostMemory>
-        requires parts { AreCounted self.old }
+        requires parts { HasCountedKeepers self.old }
         requires allowed { Allows self.old (Command.VmoPin pin name offset len) }
         requires named { target ≡ names_of self.old.vmos name.0 }
         requires room { PIN_PAGES ≤ length room.old }
-        ensures { MatchResult result (λ numbers. Does self.old (Command.VmoPin pin name offset len) (Reply.Pins numbers) self.new)
+        ensures { MatchResult result (λ numbers. CarriesOut self.old (Command.VmoPin pin name offset len) (Reply.Pins numbers) self.new)
             (λ lack. AreSame self.old self.new) }
     {
         let Some(target) = target else { unreachable!() };
@@ -183,9 +183,9 @@ impl EagerVmos {
     /// Removes a pin (`zx_pmt_unpin`). If nothing keeps its VMO any more, the VMO leaves with its pages, and its children
     /// get its parent. This takes no memory.
     pub fn unpin(&mut self, pin: PinName)
-        requires parts { AreCounted self.old }
+        requires parts { HasCountedKeepers self.old }
         requires allowed { Allows self.old (Command.VmoUnpin pin) }
-        ensures { Does self.old (Command.VmoUnpin pin) Reply.Done self.new }
+        ensures { CarriesOut self.old (Command.VmoUnpin pin) Reply.Done self.new }
     {
         vmo_ops::unpin(&mut self.pages, &mut self.vmos, &mut self.pins, pin);
     }

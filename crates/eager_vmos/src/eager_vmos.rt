@@ -4,7 +4,7 @@ ghost use Rattle.std.specs.Prelude.{◌≡◌, ℕ, None};
 ghost use Rattle.vm_model.specs.Contents.Content.{nothing};
 ghost use Rattle.vmo_table.specs.Table.{names_of, lineage_in, keepers_of};
 ghost use Rattle.pin_table.specs.Table.{pins_of};
-ghost use Rattle.eager_pages.specs.Eager.{content_of};
+ghost use Rattle.eager_pages.specs.Eager.{eager_content};
 
 use eager_pages::EagerPages;
 use pin_table::PinTable;
@@ -25,7 +25,7 @@ pub struct EagerVmos {
 impl EagerVmos {
     /// Makes an `EagerVmos` with no names, no VMOs, no pins and no page frames, which `EagerPages::fill` gives.
     pub fn new(alloc: Global) -> EagerVmos
-        ensures pages { content_of result.pages ≡ nothing }
+        ensures pages { eager_content result.pages ≡ nothing }
         ensures names { (name : ℕ) → names_of result.vmos name ≡ None }
         ensures lineage { (v : ℕ) → lineage_in result.vmos v ≡ None }
         ensures keepers { (v : ℕ) → keepers_of result.vmos v ≡ 0 }

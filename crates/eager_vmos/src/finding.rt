@@ -4,7 +4,7 @@ ghost use Rattle.std.specs.Prelude.{◌≡◌, List, ℕ, Some, MatchResult};
 ghost use Rattle.vm_model.specs.Machine.State.{State};
 ghost use Rattle.vm_model.specs.Machine.Refusals.{change_refusals, first_of};
 ghost use Rattle.vmo_table.specs.Table.{names_of};
-ghost use Rattle.eager_vmos.specs.Vmos.{state_with, AreCounted};
+ghost use Rattle.eager_vmos.specs.Vmos.{state_with_vmos, HasCountedKeepers};
 ghost use Rattle.eager_vmos.specs.inside.Found.{IsFound};
 
 use crate::eager_vmos::EagerVmos;
@@ -30,11 +30,11 @@ impl EagerVmos {
         offset: u64,
         len: u64,
     ) -> Result<Found, Refusal>
-        requires counted { AreCounted self.now }
+        requires counted { HasCountedKeepers self.now }
         requires named { target ≡ names_of self.now.vmos name.0 }
         ensures { MatchResult result (IsFound self.now name.0 offset len)
             (λ refusal. (s : State) (owned : List ℕ)
-            → first_of (change_refusals (state_with s self.now) name.0 offset len owned) ≡ Some refusal) }
+            → first_of (change_refusals (state_with_vmos s self.now) name.0 offset len owned) ≡ Some refusal) }
     {
         let Some(target) = target else {
             return Err(Refusal::BadHandle);

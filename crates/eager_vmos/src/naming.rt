@@ -6,7 +6,7 @@ ghost use Rattle.vm_base.specs.declared.limits.TheConstants.{KOIDS};
 ghost use Rattle.vm_model.specs.declared.command.Command.{Command};
 ghost use Rattle.vm_model.specs.declared.command.ChildKind.TheVariants.{Snapshot, Slice, Reference};
 ghost use Rattle.vm_model.specs.declared.reply.Reply.{Reply};
-ghost use Rattle.eager_vmos.specs.Vmos.{content_in, Allows, AreCounted, AreSame, Does};
+ghost use Rattle.eager_vmos.specs.Vmos.{content_in, Allows, HasCountedKeepers, AreSame, CarriesOut};
 
 use crate::eager_vmos::EagerVmos;
 use vm_base::{HostMemory, VmoName};
@@ -17,9 +17,9 @@ impl EagerVmos {
     /// (`zx_vmo_create`). `HostMemory`, with nothing changed, if the host has too little memory.
     pub fn create(&mut self, name: VmoName, size: u64, resizable: bool) -> Result<(), HostMemory>
         requires allowed { Allows self.old (Command.VmoCreate name size resizable) }
-        requires parts { AreCounted self.old }
+        requires parts { HasCountedKeepers self.old }
         requires next { (content_in self.old).next < KOIDS }
-        ensures { MatchResult result (λ _. Does self.old (Command.VmoCreate name size resizable) Reply.Done self.new)
+        ensures { MatchResult result (λ _. CarriesOut self.old (Command.VmoCreate name size resizable) Reply.Done self.new)
             (λ lack. AreSame self.old self.new) }
     {
         match vmo_ops::create(&mut self.pages, &mut self.vmos, name, size, resizable) {
@@ -39,10 +39,10 @@ impl EagerVmos {
         resizable: bool,
         no_write: bool,
     ) -> Result<(), HostMemory>
-        requires parts { AreCounted self.old }
+        requires parts { HasCountedKeepers self.old }
         requires allowed { Allows self.old (Command.VmoChild name parent Snapshot offset size resizable no_write) }
         requires next { (content_in self.old).next < KOIDS }
-        ensures { MatchResult result (λ _. Does self.old (Command.VmoChild name parent Snapshot offset size resizable no_write) Reply.Done self.new)
+        ensures { MatchResult result (λ _. CarriesOut self.old (Command.VmoChild name parent Snapshot offset size resizable no_write) Reply.Done self.new)
             (λ lack. AreSame self.old self.new) }
     {
         let Some(target) = self.vmos.resolve(parent) else {
@@ -77,10 +77,10 @@ impl EagerVmos {
         resizable: bool,
         no_write: bool,
     ) -> Result<(), HostMemory>
-        requires parts { AreCounted self.old }
+        requires parts { HasCountedKeepers self.old }
         requires allowed { Allows self.old (Command.VmoChild name parent Slice offset size resizable no_write) }
         requires next { (content_in self.old).next < KOIDS }
-        ensures { MatchResult result (λ _. Does self.old (Command.VmoChild name parent Slice offset size resizable no_write) Reply.Done self.new)
+        ensures { MatchResult result (λ _. CarriesOut self.old (Command.VmoChild name parent Slice offset size resizable no_write) Reply.Done self.new)
             (λ lack. AreSame self.old self.new) }
     {
         let Some(target) = self.vmos.resolve(parent) else {
@@ -114,10 +114,10 @@ impl EagerVmos {
         resizable: bool,
         no_write: bool,
     ) -> Result<(), HostMemory>
-        requires parts { AreCounted self.old }
+        requires parts { HasCountedKeepers self.old }
         requires allowed { Allows self.old (Command.VmoChild name parent Reference offset size resizable no_write) }
         requires next { (content_in self.old).next < KOIDS }
-        ensures { MatchResult result (λ _. Does self.old (Command.VmoChild name parent Reference offset size resizable no_write) Reply.Done self.new)
+        ensures { MatchResult result (λ _. CarriesOut self.old (Command.VmoChild name parent Reference offset size resizable no_write) Reply.Done self.new)
             (λ lack. AreSame self.old self.new) }
     {
         let Some(target) = self.vmos.resolve(parent) else {
@@ -143,9 +143,9 @@ impl EagerVmos {
     /// Closes a name that is open (`zx_handle_close`). If nothing keeps its VMO any more, the VMO leaves with its pages,
     /// and its children get its parent. This takes no memory.
     pub fn close(&mut self, name: VmoName)
-        requires parts { AreCounted self.old }
+        requires parts { HasCountedKeepers self.old }
         requires allowed { Allows self.old (Command.VmoClose name) }
-        ensures { Does self.old (Command.VmoClose name) Reply.Done self.new }
+        ensures { CarriesOut self.old (Command.VmoClose name) Reply.Done self.new }
     {
         vmo_ops::close(&mut self.pages, &mut self.vmos, name);
     }

@@ -6,7 +6,7 @@ ghost use Rattle.vm_base.specs.declared.limits.TheConstants.{DATA_BYTES};
 ghost use Rattle.vm_model.specs.declared.command.Command.{Command};
 ghost use Rattle.vm_model.specs.declared.reply.Reply.{Reply};
 ghost use Rattle.vmo_table.specs.Table.{names_of};
-ghost use Rattle.eager_vmos.specs.Vmos.{Allows, AreCounted, Does};
+ghost use Rattle.eager_vmos.specs.Vmos.{Allows, HasCountedKeepers, CarriesOut};
 
 use crate::eager_vmos::EagerVmos;
 use pages::size_of_name;
@@ -23,11 +23,11 @@ impl EagerVmos {
         len: u64,
         room: &'a mut [u8],
     ) -> LentBytes<'a>
-        requires parts { AreCounted self.now }
+        requires parts { HasCountedKeepers self.now }
         requires allowed { Allows self.now (Command.VmoRead name offset len) }
         requires named { target ≡ names_of self.now.vmos name.0 }
         requires room { DATA_BYTES ≤ length room.old }
-        ensures { Does self.now (Command.VmoRead name offset len) (Reply.Bytes result) self.now }
+        ensures { CarriesOut self.now (Command.VmoRead name offset len) (Reply.Bytes result) self.now }
     {
         let Some(target) = target else { unreachable!() };
         match vmo_ops::read_into(&self.pages, &target, offset, len, room) {
@@ -38,9 +38,9 @@ impl EagerVmos {
 
     /// Returns the size in bytes of what the name stands for (`zx_vmo_get_size`).
     pub fn size(&self, name: VmoName) -> u64
-        requires parts { AreCounted self.now }
+        requires parts { HasCountedKeepers self.now }
         requires allowed { Allows self.now (Command.VmoSize name) }
-        ensures { Does self.now (Command.VmoSize name) (Reply.Number result) self.now }
+        ensures { CarriesOut self.now (Command.VmoSize name) (Reply.Number result) self.now }
     {
         let Some(target) = self.vmos.resolve(name) else {
             unreachable!()
@@ -50,9 +50,9 @@ impl EagerVmos {
 
     /// Returns what the VMO holds for which the name stands (`ZX_INFO_VMO`). The call costs its held pages.
     pub fn info(&self, name: VmoName) -> Info
-        requires parts { AreCounted self.now }
+        requires parts { HasCountedKeepers self.now }
         requires allowed { Allows self.now (Command.VmoInfo name) }
-        ensures { Does self.now (Command.VmoInfo name) (Reply.Info result) self.now }
+        ensures { CarriesOut self.now (Command.VmoInfo name) (Reply.Info result) self.now }
     {
         let Some(target) = self.vmos.resolve(name) else {
             unreachable!()
@@ -63,7 +63,7 @@ impl EagerVmos {
     /// Returns how many page frames there are, how many of them some VMO shows, how many none shows, and how many VMOs
     /// there are (`ZX_INFO_KMEM_STATS`).
     pub fn stat(&self) -> Stat
-        ensures { Does self.now Command.Stat (Reply.Stat result) self.now }
+        ensures { CarriesOut self.now Command.Stat (Reply.Stat result) self.now }
     {
         attribution::stat(&self.pages)
     }

@@ -16,7 +16,7 @@ use Rattle.vm_model.specs.Machine.Refusals.{read_refusals, write_refusals, first
 use Rattle.fault.specs.declared.writable.WritablePage.{WritablePage}
 use Rattle.fault.specs.Table.{Places, ready_of}
 use Rattle.fault.specs.Access.{IsDenied}
-use Rattle.fault.specs.inside.Needing.{LacksRoom}
+use Rattle.fault.specs.inside.Needing.{LacksRoomToWrite}
 use Rattle.fault.specs.inside.Writable.{IsWritable, fault_of}
 use Rattle.fault.proofs.CheckLaws.{access_refusal-here, access_refusal-behind, access_refusal-nil}
 use Rattle.fault.proofs.TouchingLaws.{any-read_faults}
@@ -90,7 +90,7 @@ module _ {c : Content} {entries : ℕ → Option Entry} {ps : List ℕ} {shown :
 
 module _ (c : Content) (entries : ℕ → Option Entry) (ps : List ℕ) (shown : List VmoPage) (asked : AreAsked c writing entries ps shown) where
   -- too few frames are free, or the host lacks memory
-  pub IsDenied-room : (faults : ℕ) (wants : Bool) (refusal : Refusal) → LacksRoom c (need_each c shown) faults refusal → (0 < faults → wants ≡ true)
+  pub IsDenied-room : (faults : ℕ) (wants : Bool) (refusal : Refusal) → LacksRoomToWrite c (need_each c shown) faults refusal → (0 < faults → wants ≡ true)
       → IsDenied (write_refusals c entries ps) wants refusal
   IsDenied-room faults wants refusal lacks wanted = elim lacks [
     | inl frames ↦

@@ -15,20 +15,20 @@ use Rattle.vm_base.specs.declared.names.Tag.{Tag}
 use Rattle.fault.specs.declared.translation.Translation.{Translation}
 use Rattle.fault.specs.declared.translation.Place.{Place}
 use Rattle.fault.specs.declared.translation.Link.{Link}
-use Rattle.fault.specs.Table.{Places, is_of, translation_at, translations_in}
-use Rattle.fault.specs.inside.Lists.{Links, Shown, shown_by, shown_in, place_in, led_to, previous_in, next_in, unlinked, MayHold, read_only, is_shown, restricted_beside, AreLists, AreLinked, ahead, steps_from}
-use Rattle.fault.specs.inside.Walks.{become, changed_where, dropped, restricted, HoldElsewhere}
+use Rattle.fault.specs.Table.{Places, is_translation_of, translation_at, translations_in}
+use Rattle.fault.specs.inside.Lists.{Links, Shown, page_and_frame, shown_in, place_in, led_to, previous_in, next_in, unlinked, MayHold, read_only, is_shown, restricted_beside, AreLists, AreLinkedInLists, ahead, steps_from}
+use Rattle.fault.specs.inside.Walks.{become, changed_where, dropped, left_read_only, HoldElsewhere}
 use Rattle.fault.proofs.PairLaws.{missing, with_pair-kept}
 use Rattle.fault.proofs.ListLaws.{reached, behind-shown, steps-less, AreLists-alone, alone-in_list}
-use Rattle.fault.proofs.LinkLaws.{translations-with, link-once, AreLists-alike, AreLinked-left, translations-left}
+use Rattle.fault.proofs.LinkLaws.{translations-with, link-once, AreLists-alike, AreLinkedInLists-left, translations-left}
 use Rattle.fault.proofs.FindLaws.{linked, shown-of, list-missing, translation-of, HasFrame-of}
 
 -- ---- links that say the same of pages, places and each other
 
-module _ (places lists : ℕ → ℕ → Option ℕ) (links now : Links) (count other : ℕ) (h : AreLinked places lists links count) (len : other ≡ count) where
-  pub AreLinked-alike : ((y : ℕ) → shown_in now y ≡ shown_in links y) → ((y : ℕ) → place_in now y ≡ place_in links y) → ((y : ℕ) → previous_in now y ≡ previous_in links y)
-      → ((y : ℕ) → next_in now y ≡ next_in links y) → AreLinked places lists now other
-  AreLinked-alike shown place previous next = record {
+module _ (places lists : ℕ → ℕ → Option ℕ) (links now : Links) (count other : ℕ) (h : AreLinkedInLists places lists links count) (len : other ≡ count) where
+  pub AreLinkedInLists-alike : ((y : ℕ) → shown_in now y ≡ shown_in links y) → ((y : ℕ) → place_in now y ≡ place_in links y) → ((y : ℕ) → previous_in now y ≡ previous_in links y)
+      → ((y : ℕ) → next_in now y ≡ next_in links y) → AreLinkedInLists places lists now other
+  AreLinkedInLists-alike shown place previous next = record {
     placed = record { link = λ root p x is. place x ∙ h.placed.link root p x is; place = λ x w is. h.placed.place x w (sym (place x) ∙ is) };
     listed = AreLists-alike (shown_in links) (shown_in now) (previous_in links) (previous_in now) (next_in links) (next_in now) lists count other
         (λ i y. shown y i) (λ i y. previous y i) (λ i y. next y i) len h.listed;
@@ -50,36 +50,36 @@ module _ (places lists : ℕ → ℕ → Option ℕ) (links now : Links) (count 
     ]
 
     -- the frame is the same
-    AreLinked-same : k.translation.frame ≡ t.frame → AreLinked places lists now other
-    AreLinked-same frame =
-        let same : shown_by t ≡ shown_by k.translation = λ i. ((entry i).koid.0, (entry i).page, sym frame i) in
-        AreLinked-alike
-        (put-alike (option_map (λ (j : Link). shown_by j.translation)) (ap {B = Option Shown} (λ (a : Shown). Some a) same))
+    AreLinkedInLists-same : k.translation.frame ≡ t.frame → AreLinkedInLists places lists now other
+    AreLinkedInLists-same frame =
+        let same : page_and_frame t ≡ page_and_frame k.translation = λ i. ((entry i).koid.0, (entry i).page, sym frame i) in
+        AreLinkedInLists-alike
+        (put-alike (option_map (λ (j : Link). page_and_frame j.translation)) (ap {B = Option Shown} (λ (a : Shown). Some a) same))
         (put-alike (option_map (λ (j : Link). j.place)) refl)
         (put-alike (led_to (λ j. j.previous)) refl)
         (put-alike (led_to (λ j. j.next)) refl)
 
-    shows : shown_in links x ≡ Some (shown_by k.translation)
-    shows = ap (option_map (λ (j : Link). shown_by j.translation)) is
+    shows : shown_in links x ≡ Some (page_and_frame k.translation)
+    shows = ap (option_map (λ (j : Link). page_and_frame j.translation)) is
 
     -- or the link is alone in its list
-    AreLinked-alone : k.previous ≡ None → k.next ≡ None → AreLinked places lists now other
-    AreLinked-alone previous next = record {
+    AreLinkedInLists-alone : k.previous ≡ None → k.next ≡ None → AreLinkedInLists places lists now other
+    AreLinkedInLists-alone previous next = record {
       placed = record {
         link = λ root p y at. put-alike (option_map (λ (j : Link). j.place)) refl y ∙ h.placed.link root p y at;
         place = λ y w at. h.placed.place y w (sym (put-alike (option_map (λ (j : Link). j.place)) refl y) ∙ at);
       };
       listed = AreLists-alike (shown_in now) (shown_in now) (previous_in links) (previous_in now) (next_in links) (next_in now) lists count other refl
           (λ i y. put-alike (led_to (λ j. j.previous)) refl y i) (λ i y. put-alike (led_to (λ j. j.next)) refl y i) len
-          (AreLists-alone (shown_in links) (previous_in links) (next_in links) lists count h.listed x (shown_by k.translation) (shown_by t) shows
+          (AreLists-alone (shown_in links) (previous_in links) (next_in links) lists count h.listed x (page_and_frame k.translation) (page_and_frame t) shows
           (ap (λ (e : Entry). e.koid.0) (sym entry)) (ap (λ (e : Entry). e.page) (sym entry))
           (ap (led_to (λ j. j.previous)) is ∙ previous) (ap (led_to (λ j. j.next)) is ∙ next)
-          (shown_in now) (ap (option_map (λ (j : Link). shown_by j.translation)) (put-here x refl))
-          (λ z apart. ap (option_map (λ (j : Link). shown_by j.translation)) (put-other z apart)));
+          (shown_in now) (ap (option_map (λ (j : Link). page_and_frame j.translation)) (put-here x refl))
+          (λ z apart. ap (option_map (λ (j : Link). page_and_frame j.translation)) (put-other z apart)));
     }
 
-    pub AreLinked-put : MayHold links t.frame x → AreLinked places lists now other
-    AreLinked-put may = elim (may k is) [ inl same ↦ AreLinked-same same | inr alone ↦ AreLinked-alone alone.0 alone.1 ]
+    pub AreLinkedInLists-put : MayHold links t.frame x → AreLinkedInLists places lists now other
+    AreLinkedInLists-put may = elim (may k is) [ inl same ↦ AreLinkedInLists-same same | inr alone ↦ AreLinkedInLists-alone alone.0 alone.1 ]
 
     -- then no other translation of the page of the VMO holds another frame
     pub HoldElsewhere-put : (root p : ℕ) → places root p ≡ Some x → MayHold links t.frame x → HoldElsewhere (translations_in links places) root p t
@@ -89,9 +89,9 @@ module _ (places lists : ℕ → ℕ → Option ℕ) (links now : Links) (count 
           (koid ∙ ap (λ (e : Entry). e.koid.0) entry) (page ∙ ap (λ (e : Entry). e.page) entry) ∙ same
       | inr alone ↦
           let l = linked places lists links r q u found in
-          let only = alone-in_list (shown_in links) (previous_in links) (next_in links) lists count h.listed x (shown_by k.translation) (shown_by k.translation) shows refl refl
+          let only = alone-in_list (shown_in links) (previous_in links) (next_in links) lists count h.listed x (page_and_frame k.translation) (page_and_frame k.translation) shows refl refl
           (ap (led_to (λ j. j.previous)) is ∙ alone.0) (ap (led_to (λ j. j.next)) is ∙ alone.1) (shown_in links) shows (λ z out. refl)
-          l.number (shown_by u) (shown-of places lists links count h r q u l) (koid ∙ ap (λ (e : Entry). e.koid.0) entry) (page ∙ ap (λ (e : Entry). e.page) entry) in
+          l.number (page_and_frame u) (shown-of places lists links count h r q u l) (koid ∙ ap (λ (e : Entry). e.koid.0) entry) (page ∙ ap (λ (e : Entry). e.page) entry) in
           let place = link-once places links h.placed r q root p x (l.is ∙ ap {B = Option ℕ} (λ n. Some n) only) at in
           absurd (apart place.0 place.1)
     ]
@@ -111,7 +111,7 @@ module _ (places lists : ℕ → ℕ → Option ℕ) (links now : Links) (count 
   -- ---- the links of a list are left for reading alone
 
   module _ (v p first : ℕ) (is : lists v p ≡ Some first) (now_is : now ≡ restricted_beside links first) where
-    shown-once : (test : Bool) (k : Link) → shown_by (cond test (read_only k) k).translation ≡ shown_by k.translation
+    shown-once : (test : Bool) (k : Link) → page_and_frame (cond test (read_only k) k).translation ≡ page_and_frame k.translation
     shown-once true k = refl
     shown-once false k = refl
 
@@ -131,19 +131,19 @@ module _ (places lists : ℕ → ℕ → Option ℕ) (links now : Links) (count 
     unfolding restricted_beside
     now-at y = ap (λ (m : Links). m y) now_is
 
-    restricted-alike : {B : Type 0} (f : Option Link → B) → ((test : Bool) (k : Link) → f (Some (cond test (read_only k) k)) ≡ f (Some k)) → (y : ℕ) → f (now y) ≡ f (links y)
-    restricted-alike f same y = ap f (now-at y) ∙ go (links y)
+    left_read_only-alike : {B : Type 0} (f : Option Link → B) → ((test : Bool) (k : Link) → f (Some (cond test (read_only k) k)) ≡ f (Some k)) → (y : ℕ) → f (now y) ≡ f (links y)
+    left_read_only-alike f same y = ap f (now-at y) ∙ go (links y)
       where
         go : (o : Option Link) → f (option_map (λ k. cond (is_shown (shown_in links first) k) (read_only k) k) o) ≡ f o
         go None = refl
         go (Some k) = same (is_shown (shown_in links first) k) k
 
-    pub AreLinked-restricted : AreLinked places lists now other
-    AreLinked-restricted = AreLinked-alike
-        (restricted-alike (option_map (λ (j : Link). shown_by j.translation)) (λ test k. ap {B = Option Shown} (λ (a : Shown). Some a) (shown-once test k)))
-        (restricted-alike (option_map (λ (j : Link). j.place)) (λ test k. ap {B = Option Place} (λ (w : Place). Some w) (place-once test k)))
-        (restricted-alike (led_to (λ j. j.previous)) previous-once)
-        (restricted-alike (led_to (λ j. j.next)) next-once)
+    pub AreLinkedInLists-restricted : AreLinkedInLists places lists now other
+    AreLinkedInLists-restricted = AreLinkedInLists-alike
+        (left_read_only-alike (option_map (λ (j : Link). page_and_frame j.translation)) (λ test k. ap {B = Option Shown} (λ (a : Shown). Some a) (shown-once test k)))
+        (left_read_only-alike (option_map (λ (j : Link). j.place)) (λ test k. ap {B = Option Place} (λ (w : Place). Some w) (place-once test k)))
+        (left_read_only-alike (led_to (λ j. j.previous)) previous-once)
+        (left_read_only-alike (led_to (λ j. j.next)) next-once)
 
     -- the link shows the page exactly where its translation does
     shown-of_page : (k : Link) → is_shown (shown_in links first) k ≡ shows_in v p (p + 1) k.translation.entry
@@ -152,20 +152,20 @@ module _ (places lists : ℕ → ℕ → Option ℕ) (links now : Links) (count 
         same : (w page : ℕ) → ((w == v) && (page == p)) ≡ ((w == v) && is_within p (p + 1) page)
         same w page = grind (arith, nat_tests)
 
-    pub translations-restricted : translations_in now places ≡ changed_where restricted (is_of v p (p + 1)) (translations_in links places)
+    pub translations-restricted : translations_in now places ≡ changed_where left_read_only (is_translation_of v p (p + 1)) (translations_in links places)
     unfolding changed_where
     translations-restricted = λ i r q. at r q (places r q) i
       where
-        on : (test : Bool) (k : Link) → ◌≡◌ {A = Option Translation} (Some (cond test (read_only k) k).translation) (cond test (restricted k.translation) (Some k.translation))
+        on : (test : Bool) (k : Link) → ◌≡◌ {A = Option Translation} (Some (cond test (read_only k) k).translation) (cond test (left_read_only k.translation) (Some k.translation))
         on true k = refl
         on false k = refl
 
         link : (o : Option Link) → option_map (λ (j : Link). j.translation) (option_map (λ k. cond (is_shown (shown_in links first) k) (read_only k) k) o)
-            ≡ become restricted (λ t. shows_in v p (p + 1) t.entry) (option_map (λ (j : Link). j.translation) o)
+            ≡ become left_read_only (λ t. shows_in v p (p + 1) t.entry) (option_map (λ (j : Link). j.translation) o)
         link None = refl
-        link (Some k) = on (is_shown (shown_in links first) k) k ∙ ap (λ b. cond b (restricted k.translation) (Some k.translation)) (shown-of_page k)
+        link (Some k) = on (is_shown (shown_in links first) k) k ∙ ap (λ b. cond b (left_read_only k.translation) (Some k.translation)) (shown-of_page k)
 
-        at : (r q : ℕ) (o : Option ℕ) → translation_at now o ≡ become restricted (is_of v p (p + 1) r q) (translation_at links o)
+        at : (r q : ℕ) (o : Option ℕ) → translation_at now o ≡ become left_read_only (is_translation_of v p (p + 1) r q) (translation_at links o)
         at r q None = refl
         at r q (Some y) = ap (option_map (λ (j : Link). j.translation)) (now-at y) ∙ link (links y)
 
@@ -181,8 +181,8 @@ pub record AreRestricted (old now : Links) (page : Option Shown) (at : Option �
 
 module _ (old : Links) (lists : ℕ → ℕ → Option ℕ) (count : ℕ) (h : AreLists (shown_in old) (previous_in old) (next_in old) lists count) where
   -- a link shows the page of another exactly where both are in its list
-  shown-at : (x : ℕ) (k : Link) (a : Shown) → old x ≡ Some k → shown_in old x ≡ Some a → shown_by k.translation ≡ a
-  shown-at x k a is shows = some_same (sym (ap (option_map (λ (j : Link). shown_by j.translation)) is) ∙ shows)
+  shown-at : (x : ℕ) (k : Link) (a : Shown) → old x ≡ Some k → shown_in old x ≡ Some a → page_and_frame k.translation ≡ a
+  shown-at x k a is shows = some_same (sym (ap (option_map (λ (j : Link). page_and_frame j.translation)) is) ∙ shows)
 
   module _ (v p first : ℕ) (is : lists v p ≡ Some first) where
     page-shown : (frame : Option Tag) → shown_in old first ≡ Some (v, p, frame) → (k : Link) → is_shown (shown_in old first) k ≡ true → (k.translation.entry.koid.0 ≡ v) × (k.translation.entry.page ≡ p)
@@ -204,7 +204,7 @@ module _ (old : Links) (lists : ℕ → ℕ → Option ℕ) (count : ℕ) (h : A
           other = λ x k e off. e;
           member = λ x k e on.
               let page = page-shown begin.0 begin.1 k on in
-              let way = reached (shown_in old) (previous_in old) (next_in old) lists count h x (shown_by k.translation) (ap (option_map (λ (j : Link). shown_by j.translation)) e) in
+              let way = reached (shown_in old) (previous_in old) (next_in old) lists count h x (page_and_frame k.translation) (ap (option_map (λ (j : Link). page_and_frame j.translation)) e) in
               let same : way.first ≡ first = some_same (sym way.is ∙ (ap (λ w. lists w k.translation.entry.page) page.0 ∙ (ap (lists v) page.1 ∙ is))) in
               inr (e, (way.steps, ap (λ f. ahead (next_in old) way.steps (Some f)) (sym same) ∙ way.reach));
           here = λ x e.
@@ -215,7 +215,7 @@ module _ (old : Links) (lists : ℕ → ℕ → Option ℕ) (count : ℕ) (h : A
               (k.0, k.1, shown-page begin.0 begin.1 k.0 (ap (λ (a : Shown). a.0) says) (ap (λ (a : Shown). a.1) says));
         }
       where
-        found : (o : Option Link) → IsSome (option_map (λ (j : Link). shown_by j.translation) o) → (k : Link) × (o ≡ Some k)
+        found : (o : Option Link) → IsSome (option_map (λ (j : Link). page_and_frame j.translation) o) → (k : Link) × (o ≡ Some k)
         found None e = absurd cc
         found (Some k) e = (k, refl)
 
@@ -268,15 +268,15 @@ module _ (old : Links) (lists : ℕ → ℕ → Option ℕ) (count : ℕ) (h : A
             here = λ z follows.
                 let follow : next_in old x ≡ Some z = sym (same-next j at) ∙ follows in
                 let shows = behind-shown (shown_in old) (previous_in old) (next_in old) lists count h x z follow in
-                let says : shown_in old z ≡ Some (shown_by here.0.translation) = shows ∙ ap (option_map (λ (k : Link). shown_by k.translation)) here.1 in
+                let says : shown_in old z ≡ Some (page_and_frame here.0.translation) = shows ∙ ap (option_map (λ (k : Link). page_and_frame k.translation)) here.1 in
                 let k = found (old z) (ap {B = Bool} is_some says) in
-                let same = shown-at z k.0 (shown_by here.0.translation) k.1 says in
+                let same = shown-at z k.0 (page_and_frame here.0.translation) k.1 says in
                 let begin = h.first v p first is in
                 let page = page-shown begin.0 begin.1 here.0 here.2 in
                 (k.0, k.1, shown-page begin.0 begin.1 k.0 (ap (λ (a : Shown). a.0) same ∙ page.0) (ap (λ (a : Shown). a.1) same ∙ page.1));
           }
         where
-          found : (o : Option Link) → IsSome (option_map (λ (k : Link). shown_by k.translation) o) → (k : Link) × (o ≡ Some k)
+          found : (o : Option Link) → IsSome (option_map (λ (k : Link). page_and_frame k.translation) o) → (k : Link) × (o ≡ Some k)
           found None none = absurd cc
           found (Some k) some = (k, refl)
 
@@ -289,7 +289,7 @@ module _ (old : Links) (lists : ℕ → ℕ → Option ℕ) (count : ℕ) (h : A
       AreRestricted-less j at =
           let here = r.here x refl in
           subst (λ (o : Option ℕ). steps_from (next_in old) count o < steps_from (next_in old) count (Some x)) (sym (same-next j at))
-          (steps-less (shown_in old) (previous_in old) (next_in old) lists count h count x refl (ap {B = Bool} is_some (ap (option_map (λ (k : Link). shown_by k.translation)) here.1)))
+          (steps-less (shown_in old) (previous_in old) (next_in old) lists count h count x refl (ap {B = Bool} is_some (ap (option_map (λ (k : Link). page_and_frame k.translation)) here.1)))
 
     -- and where none is left, all are
     pub AreRestricted-end : (now : Links) (at : Option ℕ) → at ≡ None → AreRestricted old now (shown_in old first) at → now ≡ restricted_beside old first
@@ -318,7 +318,7 @@ module _ (old : Links) (lists : ℕ → ℕ → Option ℕ) (count : ℕ) (h : A
 
 -- each translation is as it was, or is one of the page of the VMO and gone
 abbrev pub AreDropped : (v p : ℕ) → (old new : Places) → Type 0
-AreDropped v p old new = (r q : ℕ) → (new r q ≡ old r q) ⊎ ((new r q ≡ None) × ((x : Translation) → old r q ≡ Some x → is_of v p (p + 1) r q x ≡ true))
+AreDropped v p old new = (r q : ℕ) → (new r q ≡ old r q) ⊎ ((new r q ≡ None) × ((x : Translation) → old r q ≡ Some x → is_translation_of v p (p + 1) r q x ≡ true))
 
 -- none is gone at first
 pub AreDropped-start : (v p : ℕ) (old : Places) → AreDropped v p old old
@@ -330,7 +330,7 @@ page-of v p w page koid page_is = grind (arith, nat_tests)
 of-page : (v p w page : ℕ) → ((w == v) && is_within p (p + 1) page) ≡ true → (w ≡ v) × (page ≡ p)
 of-page v p w page e = grind (arith, nat_tests)
 
-module _ (places rest : ℕ → ℕ → Option ℕ) (links : Links) (count v p : ℕ) (at : Option ℕ) (h : AreLinked places (with_pair rest v p at) links count) where
+module _ (places rest : ℕ → ℕ → Option ℕ) (links : Links) (count v p : ℕ) (at : Option ℕ) (h : AreLinkedInLists places (with_pair rest v p at) links count) where
   -- the list begins with it
   pub lists-here : (x : ℕ) → at ≡ Some x → with_pair rest v p at v p ≡ Some x
   lists-here x is_at = elim (with_pair-cases rest v p at v p) [ inl here ↦ here.2 ∙ is_at | inr there ↦ absurd (there.0 refl refl) ]
@@ -340,7 +340,7 @@ module _ (places rest : ℕ → ℕ → Option ℕ) (links : Links) (count v p :
     page-here : (k.translation.entry.koid.0 ≡ v) × (k.translation.entry.page ≡ p)
     page-here =
         let first = h.listed.first v p x (lists-here x is_at) in
-        let says : shown_by k.translation ≡ (v, p, first.0) = some_same (sym (ap (option_map (λ (j : Link). shown_by j.translation)) is) ∙ first.1) in
+        let says : page_and_frame k.translation ≡ (v, p, first.0) = some_same (sym (ap (option_map (λ (j : Link). page_and_frame j.translation)) is) ∙ first.1) in
         (ap (λ (a : Shown). a.0) says, ap (λ (a : Shown). a.1) says)
 
     place-here : places k.place.root.0 k.place.page ≡ Some x
@@ -353,8 +353,8 @@ module _ (places rest : ℕ → ℕ → Option ℕ) (links : Links) (count v p :
     place-there = ap {B = Bool} is_some place-here
 
     module _ (fewer : ℕ → ℕ → Option ℕ) (fewer_is : fewer ≡ with_pair places k.place.root.0 k.place.page None) (now : Links) (now_is : now ≡ unlinked links x) (len : ℕ) (one_less : len + 1 ≡ count) where
-      pub AreLinked-next : AreLinked fewer (with_pair rest v p k.next) now len
-      AreLinked-next = AreLinked-left places (with_pair rest v p at) links count h x k is k.place.root.0 k.place.page place-here fewer fewer_is now now_is len one_less
+      pub AreLinkedInLists-next : AreLinkedInLists fewer (with_pair rest v p k.next) now len
+      AreLinkedInLists-next = AreLinkedInLists-left places (with_pair rest v p at) links count h x k is k.place.root.0 k.place.page place-here fewer fewer_is now now_is len one_less
           (with_pair rest v p k.next)
           (λ first. sym (with_pair-over rest v p at k.next) ∙ (λ i. with_pair (with_pair rest v p at) (sym page-here.0 i) (sym page-here.1 i) (sym (ap (led_to (λ j. j.next)) is) i)))
           (λ y before. absurd (missing before previous-none))
@@ -381,34 +381,34 @@ module _ (places rest : ℕ → ℕ → Option ℕ) (links : Links) (count v p :
           gone = translations-left places (with_pair rest v p at) links count h x k is k.place.root.0 k.place.page place-here fewer fewer_is now now_is len one_less
 
   -- where no link is left, all translations of the page are gone
-  pub AreDropped-end : at ≡ None → (old : Places) → AreDropped v p old (translations_in links places) → translations_in links places ≡ changed_where dropped (is_of v p (p + 1)) old
+  pub AreDropped-end : at ≡ None → (old : Places) → AreDropped v p old (translations_in links places) → translations_in links places ≡ changed_where dropped (is_translation_of v p (p + 1)) old
   unfolding changed_where
   AreDropped-end none old done = λ i r q. at_place r q i
     where
       lists-none : with_pair rest v p at v p ≡ None
       lists-none = elim (with_pair-cases rest v p at v p) [ inl here ↦ here.2 ∙ none | inr there ↦ absurd (there.0 refl refl) ]
 
-      stays : (r q : ℕ) (o : Option Translation) → old r q ≡ o → translations_in links places r q ≡ old r q → translations_in links places r q ≡ become dropped (is_of v p (p + 1) r q) o
+      stays : (r q : ℕ) (o : Option Translation) → old r q ≡ o → translations_in links places r q ≡ old r q → translations_in links places r q ≡ become dropped (is_translation_of v p (p + 1) r q) o
       stays r q None e same = same ∙ e
-      stays r q (Some t) e same = elim (cases_Bool (is_of v p (p + 1) r q t)) [
+      stays r q (Some t) e same = elim (cases_Bool (is_translation_of v p (p + 1) r q t)) [
         | inl on ↦
             let page = of-page v p t.entry.koid.0 t.entry.page on in
             absurd (list-missing places (with_pair rest v p at) links count h v p r q t lists-none (same ∙ e) page.0 page.1)
         | inr off ↦ rw off (same ∙ e)
       ]
 
-      goes : (r q : ℕ) (o : Option Translation) → old r q ≡ o → translations_in links places r q ≡ None → ((t : Translation) → old r q ≡ Some t → is_of v p (p + 1) r q t ≡ true)
-          → translations_in links places r q ≡ become dropped (is_of v p (p + 1) r q) o
+      goes : (r q : ℕ) (o : Option Translation) → old r q ≡ o → translations_in links places r q ≡ None → ((t : Translation) → old r q ≡ Some t → is_translation_of v p (p + 1) r q t ≡ true)
+          → translations_in links places r q ≡ become dropped (is_translation_of v p (p + 1) r q) o
       goes r q None e gone on = gone
       goes r q (Some t) e gone on = gone ∙ rw (on t e) refl
 
-      at_place : (r q : ℕ) → translations_in links places r q ≡ become dropped (is_of v p (p + 1) r q) (old r q)
+      at_place : (r q : ℕ) → translations_in links places r q ≡ become dropped (is_translation_of v p (p + 1) r q) (old r q)
       at_place r q = elim (done r q) [
         | inl same ↦ stays r q (old r q) refl same
         | inr gone ↦ goes r q (old r q) refl gone.0 gone.1
       ]
 
 -- the row of a list, as it is
-pub AreLinked-at : (places lists : ℕ → ℕ → Option ℕ) (links : Links) (count v p : ℕ) (at : Option ℕ) → AreLinked places lists links count → lists v p ≡ at
-    → AreLinked places (with_pair lists v p at) links count
-AreLinked-at places lists links count v p at h is = subst (λ (m : ℕ → ℕ → Option ℕ). AreLinked places m links count) (with_pair-kept lists v p at is) h
+pub AreLinkedInLists-at : (places lists : ℕ → ℕ → Option ℕ) (links : Links) (count v p : ℕ) (at : Option ℕ) → AreLinkedInLists places lists links count → lists v p ≡ at
+    → AreLinkedInLists places (with_pair lists v p at) links count
+AreLinkedInLists-at places lists links count v p at h is = subst (λ (m : ℕ → ℕ → Option ℕ). AreLinkedInLists places m links count) (with_pair-kept lists v p at is) h

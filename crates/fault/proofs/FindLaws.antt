@@ -8,8 +8,8 @@ use Rattle.balanced_tree.specs.Pairs.{IsNext}
 use Rattle.fault.specs.declared.translation.Translation.{Translation}
 use Rattle.fault.specs.declared.translation.Link.{Link}
 use Rattle.fault.specs.Table.{translation_at, translations_in}
-use Rattle.fault.specs.inside.Lists.{Links, Shown, Holds, shown_by, shown_in, previous_in, next_in, AreLinked}
-use Rattle.fault.specs.inside.Walks.{HasFrame, HasNoList, IsNextList, HasNoPlace, IsNextPlace}
+use Rattle.fault.specs.inside.Lists.{Links, Shown, Holds, page_and_frame, shown_in, previous_in, next_in, AreLinkedInLists}
+use Rattle.fault.specs.inside.Walks.{HasFrame, HasNoList, IsNextList, HasNoTranslation, IsNextPlace}
 use Rattle.fault.proofs.PairLaws.{missing}
 use Rattle.fault.proofs.ListLaws.{reached}
 use Rattle.fault.proofs.LinkLaws.{link-there}
@@ -41,7 +41,7 @@ module _ (places lists : ℕ → ℕ → Option ℕ) (links : Links) where
   pub translation-none : (root p : ℕ) → places root p ≡ None → translations_in links places root p ≡ None
   translation-none root p e = ap (translation_at links) e
 
-  module _ (count : ℕ) (h : AreLinked places lists links count) where
+  module _ (count : ℕ) (h : AreLinkedInLists places lists links count) where
     -- a page with a translation has a link
     pub place-some : (root p : ℕ) → IsSome (translations_in links places root p) → IsSome (places root p)
     place-some root p some =
@@ -62,15 +62,15 @@ module _ (places lists : ℕ → ℕ → Option ℕ) (links : Links) where
         go (Some x) e = absurd (let no = sym (translation-some root p x e) ∙ ap {B = Bool} is_some none in cc)
 
     -- what the link of a translation shows
-    pub shown-of : (root p : ℕ) (t : Translation) (l : IsLinked places links root p t) → shown_in links l.number ≡ Some (shown_by t)
-    shown-of root p t l = ap (option_map (λ (k : Link). shown_by k.translation)) l.there ∙ ap {B = Option Shown} (λ (u : Translation). Some (shown_by u)) l.holds
+    pub shown-of : (root p : ℕ) (t : Translation) (l : IsLinked places links root p t) → shown_in links l.number ≡ Some (page_and_frame t)
+    shown-of root p t l = ap (option_map (λ (k : Link). page_and_frame k.translation)) l.there ∙ ap {B = Option Shown} (λ (u : Translation). Some (page_and_frame u)) l.holds
 
     -- the page that a translation shows has a list, whose first link shows it
     pub list-of : (root p : ℕ) (t : Translation) → translations_in links places root p ≡ Some t
-        → (first : ℕ) × (lists t.entry.koid.0 t.entry.page ≡ Some first) × (shown_in links first ≡ Some (shown_by t))
+        → (first : ℕ) × (lists t.entry.koid.0 t.entry.page ≡ Some first) × (shown_in links first ≡ Some (page_and_frame t))
     list-of root p t found =
         let l = linked root p t found in
-        let at = reached (shown_in links) (previous_in links) (next_in links) lists count h.listed l.number (shown_by t) (shown-of root p t l) in
+        let at = reached (shown_in links) (previous_in links) (next_in links) lists count h.listed l.number (page_and_frame t) (shown-of root p t l) in
         (at.first, at.is, at.shows)
 
     -- so no list is missing
@@ -83,7 +83,7 @@ module _ (places lists : ℕ → ℕ → Option ℕ) (links : Links) where
     HasFrame-first v p x k is there root q t found koid page =
         let list = list-of root q t found in
         let first : list.0 ≡ x = some_same (sym list.1 ∙ (ap (λ w. lists w t.entry.page) koid ∙ (ap (lists v) page ∙ is))) in
-        let same : shown_by t ≡ shown_by k.translation = some_same (sym list.2 ∙ (ap (shown_in links) first ∙ ap (option_map (λ (j : Link). shown_by j.translation)) there)) in
+        let same : page_and_frame t ≡ page_and_frame k.translation = some_same (sym list.2 ∙ (ap (shown_in links) first ∙ ap (option_map (λ (j : Link). page_and_frame j.translation)) there)) in
         ap (λ (a : Shown). a.2) same
 
     -- so each translation has the frame of all of its page
@@ -93,14 +93,14 @@ module _ (places lists : ℕ → ℕ → Option ℕ) (links : Links) where
         let one = list-of root p t found in
         let two = list-of r q u also in
         let first : two.0 ≡ one.0 = some_same (sym two.1 ∙ (ap (λ w. lists w u.entry.page) koid ∙ (ap (lists t.entry.koid.0) page ∙ one.1))) in
-        let same : shown_by u ≡ shown_by t = some_same (sym two.2 ∙ (ap (shown_in links) first ∙ one.2)) in
+        let same : page_and_frame u ≡ page_and_frame t = some_same (sym two.2 ∙ (ap (shown_in links) first ∙ one.2)) in
         ap (λ (a : Shown). a.2) same
 
     -- and the first link that of the translations
     pub Holds-first : (v p x : ℕ) (frame : Option Tag) → lists v p ≡ Some x → HasFrame (translations_in links places) v p frame → Holds links frame x
     Holds-first v p x frame is has k there =
         let first = h.listed.first v p x is in
-        let same : shown_by k.translation ≡ (v, p, first.0) = some_same (sym (ap (option_map (λ (j : Link). shown_by j.translation)) there) ∙ first.1) in
+        let same : page_and_frame k.translation ≡ (v, p, first.0) = some_same (sym (ap (option_map (λ (j : Link). page_and_frame j.translation)) there) ∙ first.1) in
         let at = h.placed.place x k.place (ap (option_map (λ (j : Link). j.place)) there) in
         has k.place.root.0 k.place.page k.translation (translation-of k.place.root.0 k.place.page x k at there)
         (ap (λ (a : Shown). a.0) same) (ap (λ (a : Shown). a.1) same)
@@ -110,15 +110,15 @@ module _ (places lists : ℕ → ℕ → Option ℕ) (links : Links) where
     Holds-all v p (Some x) frame is has = Holds-first v p x frame is has
 
     -- so a translation of the page with this frame shows what the first link shows
-    pub shown-first : (t : Translation) (x : ℕ) → lists t.entry.koid.0 t.entry.page ≡ Some x → Holds links t.frame x → shown_in links x ≡ Some (shown_by t)
+    pub shown-first : (t : Translation) (x : ℕ) → lists t.entry.koid.0 t.entry.page ≡ Some x → Holds links t.frame x → shown_in links x ≡ Some (page_and_frame t)
     shown-first t x is holds =
         let first = h.listed.first t.entry.koid.0 t.entry.page x is in
         let k = some_is (links x) (some-link (links x) (ap {B = Bool} is_some first.1)) in
-        let same : shown_by k.0.translation ≡ (t.entry.koid.0, t.entry.page, first.0) = some_same (sym (ap (option_map (λ (j : Link). shown_by j.translation)) k.1) ∙ first.1) in
+        let same : page_and_frame k.0.translation ≡ (t.entry.koid.0, t.entry.page, first.0) = some_same (sym (ap (option_map (λ (j : Link). page_and_frame j.translation)) k.1) ∙ first.1) in
         let frame : first.0 ≡ t.frame = sym (ap (λ (a : Shown). a.2) same) ∙ holds k.0 k.1 in
         first.1 ∙ ap {B = Option Shown} (λ (f : Option Tag). Some (t.entry.koid.0, t.entry.page, f)) frame
       where
-        some-link : (o : Option Link) → IsSome (option_map (λ (j : Link). shown_by j.translation) o) → IsSome o
+        some-link : (o : Option Link) → IsSome (option_map (λ (j : Link). page_and_frame j.translation) o) → IsSome o
         some-link None e = e
         some-link (Some j) e = refl
 
@@ -147,10 +147,10 @@ module _ (places lists : ℕ → ℕ → Option ℕ) (links : Links) where
           least = λ root q t found of. list-missing v t.entry.page root q t (least.2 t.entry.page of.order of.below) found of.koid refl;
         }
 
-    pub no-place : (root from end : ℕ) → IsNext (places root) from None → HasNoPlace (translations_in links places) root from end
+    pub no-place : (root from end : ℕ) → IsNext (places root) from None → HasNoTranslation (translations_in links places) root from end
     no-place root from end none p low high = translation-none root p (none.none refl p low)
 
-    pub far-place : (root from end page : ℕ) → IsNext (places root) from (Some page) → end ≤ page → HasNoPlace (translations_in links places) root from end
+    pub far-place : (root from end page : ℕ) → IsNext (places root) from (Some page) → end ≤ page → HasNoTranslation (translations_in links places) root from end
     far-place root from end page next far p low high =
         let least = next.least page refl in translation-none root p (least.2 p low (omega arith))
 

@@ -4,18 +4,18 @@ use Rattle.std.specs.Option.{option_map}
 use Rattle.vm_base.specs.declared.limits.TheConstants.{PAGE}
 use Rattle.vm_base.specs.declared.names.Tag.{Tag}
 use Rattle.vm_model.specs.Contents.Content.{Content, Page, shown, bytes_of}
-use Rattle.vm_model.specs.Space.Readiness.{frame_at}
-use Rattle.page_store.specs.Pages.{frame_of, AreBytesOf}
+use Rattle.vm_model.specs.Space.Readiness.{frame_at, frame_number}
+use Rattle.page_store.specs.Pages.{tag_held, AreBytesOf}
 use Rattle.fault.specs.declared.translation.Translation.{Translation}
-use Rattle.fault.specs.Table.{number_of, frame_in}
+use Rattle.fault.specs.Table.{translated_frame}
 use Rattle.page_store.proofs.PartLaws.{part_of_zeros}
 
 -- the frame that a store answers for a page
-pub number-frame : (o : Option Page) → number_of (frame_of o) ≡ option_map (λ (held : Page). held.tag) o
+pub number-frame : (o : Option Page) → frame_number (tag_held o) ≡ option_map (λ (held : Page). held.tag) o
 number-frame None = refl
 number-frame (Some held) = refl
 
-module _ (c : Content) (v p at n : ℕ) (x : Translation) (frame : frame_in x ≡ frame_at c v p) where
+module _ (c : Content) (v p at n : ℕ) (x : Translation) (frame : translated_frame x ≡ frame_at c v p) where
   -- bytes of the frame
   pub shown-frame : (tag : Tag) (bytes : List ℕ) → x.frame ≡ Some tag → AreBytesOf c tag.0 at bytes → length bytes ≡ n
       → bytes ≡ take n (drop at (shown c v p))

@@ -15,7 +15,7 @@ use Rattle.fault.specs.declared.translation.Translation.{Translation}
 use Rattle.fault.specs.declared.translation.Place.{Place}
 use Rattle.fault.specs.declared.translation.Link.{Link}
 use Rattle.fault.specs.Table.{translation_at, translations_in}
-use Rattle.fault.specs.inside.Lists.{Links, Shown, place_at, shown_by, shown_in, place_in, led_to, previous_in, next_in, set_in, to_next, to_previous, link_between, linked_behind, unlinked, first_behind, first_after, AreLists, ArePlaced, AreLinked}
+use Rattle.fault.specs.inside.Lists.{Links, Shown, place_in_space, page_and_frame, shown_in, place_in, led_to, previous_in, next_in, set_in, to_next, to_previous, link_between, linked_behind, unlinked, first_behind, first_after, AreLists, ArePlaced, AreLinkedInLists}
 use Rattle.fault.proofs.PairLaws.{missing, pair-left, pair-other, pair-here, pair-cases}
 use Rattle.fault.proofs.ListLaws.{leads, AreLists-first, AreLists-behind, AreLists-left}
 
@@ -102,11 +102,11 @@ set-none change links at e = sym (ap (λ (o : Option ℕ). set_in change o links
 
 -- ---- what a link says, as it is changed
 
-next-shown : (n : Option ℕ) (o : Option Link) → option_map (λ (k : Link). shown_by k.translation) (option_map (to_next n) o) ≡ option_map (λ (k : Link). shown_by k.translation) o
+next-shown : (n : Option ℕ) (o : Option Link) → option_map (λ (k : Link). page_and_frame k.translation) (option_map (to_next n) o) ≡ option_map (λ (k : Link). page_and_frame k.translation) o
 next-shown n None = refl
 next-shown n (Some k) = refl
 
-previous-shown : (b : Option ℕ) (o : Option Link) → option_map (λ (k : Link). shown_by k.translation) (option_map (to_previous b) o) ≡ option_map (λ (k : Link). shown_by k.translation) o
+previous-shown : (b : Option ℕ) (o : Option Link) → option_map (λ (k : Link). page_and_frame k.translation) (option_map (to_previous b) o) ≡ option_map (λ (k : Link). page_and_frame k.translation) o
 previous-shown b None = refl
 previous-shown b (Some k) = refl
 
@@ -149,8 +149,8 @@ module _ (links : Links) (b n : Option ℕ) (to from : Option ℕ) where
 
   pub relinked-shown : (x : ℕ) → shown_in relinked x ≡ shown_in links x
   relinked-shown x =
-      set-same (to_previous from) (set_in (to_next to) b links) (option_map (λ (k : Link). shown_by k.translation)) (previous-shown from) n x
-      ∙ set-same (to_next to) links (option_map (λ (k : Link). shown_by k.translation)) (next-shown to) b x
+      set-same (to_previous from) (set_in (to_next to) b links) (option_map (λ (k : Link). page_and_frame k.translation)) (previous-shown from) n x
+      ∙ set-same (to_next to) links (option_map (λ (k : Link). page_and_frame k.translation)) (next-shown to) b x
 
   pub relinked-place : (x : ℕ) → place_in relinked x ≡ place_in links x
   relinked-place x =
@@ -189,12 +189,12 @@ place-some : (o : Option Link) (w : Place) → option_map (λ (k : Link). k.plac
 place-some None w e = absurd cc
 place-some (Some k) w e = refl
 
-some-shown : (o : Option Link) → IsSome (option_map (λ (k : Link). shown_by k.translation) o) → IsSome o
+some-shown : (o : Option Link) → IsSome (option_map (λ (k : Link). page_and_frame k.translation) o) → IsSome o
 some-shown None e = e
 some-shown (Some k) e = refl
 
-none-shown : (o : Option Link) → o ≡ None → option_map (λ (k : Link). shown_by k.translation) o ≡ None
-none-shown o e = ap (option_map (λ (k : Link). shown_by k.translation)) e
+none-shown : (o : Option Link) → o ≡ None → option_map (λ (k : Link). page_and_frame k.translation) o ≡ None
+none-shown o e = ap (option_map (λ (k : Link). page_and_frame k.translation)) e
 
 module _ (places : ℕ → ℕ → Option ℕ) (links : Links) (h : ArePlaced places (place_in links)) where
   -- the link of a page is there
@@ -204,7 +204,7 @@ module _ (places : ℕ → ℕ → Option ℕ) (links : Links) (h : ArePlaced pl
   -- and is that of no other page
   pub link-once : (r q s p x : ℕ) → places r q ≡ Some x → places s p ≡ Some x → (r ≡ s) × (q ≡ p)
   link-once r q s p x one two =
-      let same : place_at r q ≡ place_at s p = some_same (sym (h.link r q x one) ∙ h.link s p x two) in
+      let same : place_in_space r q ≡ place_in_space s p = some_same (sym (h.link r q x one) ∙ h.link s p x two) in
       (ap (λ (w : Place). w.root.0) same, ap (λ (w : Place). w.page) same)
 
   -- a page with a link comes
@@ -217,7 +217,7 @@ module _ (places : ℕ → ℕ → Option ℕ) (links : Links) (h : ArePlaced pl
     ArePlaced-joined = record {
       link = λ root p y is. elim (pair-cases places more w.root.0 w.page x more_is root p y is) [
         | inl is_new ↦
-            ap (place_in now) (sym is_new.2) ∙ (here ∙ (λ i. Some (place_at (sym is_new.0 i) (sym is_new.1 i))))
+            ap (place_in now) (sym is_new.2) ∙ (here ∙ (λ i. Some (place_in_space (sym is_new.0 i) (sym is_new.1 i))))
         | inr old ↦ other y (old-link root p y old.1) ∙ h.link root p y old.1
       ];
       place = λ y v is. elim (cases_eq y x) [
@@ -283,7 +283,7 @@ AreLists-alike shown more previous back next on lists count other s b n c h =
     (subst (λ (m : ℕ → Option ℕ). AreLists shown previous m lists other) (sym n)
     (subst (λ m. AreLists shown previous next lists m) (sym c) h)))
 
-module _ (places lists : ℕ → ℕ → Option ℕ) (links : Links) (count : ℕ) (h : AreLinked places lists links count) where
+module _ (places lists : ℕ → ℕ → Option ℕ) (links : Links) (count : ℕ) (h : AreLinkedInLists places lists links count) where
   -- what the link of a page leads to is there
   pub previous-there : (x y : ℕ) → previous_in links x ≡ Some y → IsSome (links y)
   previous-there x y e = some-shown (links y) (ap {B = Bool} is_some (h.listed.before x y e).1 ∙ h.listed.there x y e)
@@ -322,7 +322,7 @@ module _ (places lists : ℕ → ℕ → Option ℕ) (links : Links) (count : �
   -- a link without one before it is the first of its list
   pub head-there : (x : ℕ) (k : Link) → links x ≡ Some k → k.previous ≡ None → IsSome (lists k.translation.entry.koid.0 k.translation.entry.page)
   head-there x k is none = ap {B = Bool} is_some (h.listed.head k.translation.entry.koid.0 k.translation.entry.page x k.translation.frame
-      (ap (option_map (λ (j : Link). shown_by j.translation)) is) (ap (led_to (λ j. j.previous)) is ∙ none))
+      (ap (option_map (λ (j : Link). page_and_frame j.translation)) is) (ap (led_to (λ j. j.previous)) is ∙ none))
 
   -- the first link of a list is there
   pub first-there : (v p x : ℕ) → lists v p ≡ Some x → IsSome (links x)
@@ -341,13 +341,13 @@ module _ (places lists : ℕ → ℕ → Option ℕ) (links : Links) (count : �
       new-other : (y : ℕ) → y ≢ x → now y ≡ links y
       new-other y apart = ap (λ (m : Links). m y) now_is ∙ with_key-other links x (link_between t w None None) y apart
 
-      pub AreLinked-first : AreLinked more also now (count + 1)
-      AreLinked-first = record {
+      pub AreLinkedInLists-first : AreLinkedInLists more also now (count + 1)
+      AreLinkedInLists-first = record {
         placed = ArePlaced-joined places links h.placed x free w absent more more_is now (ap (option_map (λ (k : Link). k.place)) new-here)
             (λ y apart. ap (option_map (λ (k : Link). k.place)) (new-other y apart));
-        listed = AreLists-first (shown_in links) (previous_in links) (next_in links) lists count h.listed x (shown_by t) (none-shown (links x) free)
-            (shown_in now) (previous_in now) (next_in now) (ap (option_map (λ (k : Link). shown_by k.translation)) new-here)
-            (λ y apart. ap (option_map (λ (k : Link). shown_by k.translation)) (new-other y apart)) none
+        listed = AreLists-first (shown_in links) (previous_in links) (next_in links) lists count h.listed x (page_and_frame t) (none-shown (links x) free)
+            (shown_in now) (previous_in now) (next_in now) (ap (option_map (λ (k : Link). page_and_frame k.translation)) new-here)
+            (λ y apart. ap (option_map (λ (k : Link). page_and_frame k.translation)) (new-other y apart)) none
             (ap (led_to (λ k. k.previous)) new-here) (λ y apart. ap (led_to (λ k. k.previous)) (new-other y apart))
             (ap (led_to (λ k. k.next)) new-here) (λ y apart. ap (led_to (λ k. k.next)) (new-other y apart)) also also_is;
       }
@@ -358,7 +358,7 @@ module _ (places lists : ℕ → ℕ → Option ℕ) (links : Links) (count : �
           (ap (option_map (λ (k : Link). k.place)) new-here) (λ z out. ap (option_map (λ (k : Link). k.place)) (new-other z out)) r q y found)))
 
     -- it stands behind the first of its list
-    module _ (f : ℕ) (is_first : lists t.entry.koid.0 t.entry.page ≡ Some f) (shows : shown_in links f ≡ Some (shown_by t)) (now : Links) (now_is : now ≡ linked_behind links f x t w) where
+    module _ (f : ℕ) (is_first : lists t.entry.koid.0 t.entry.page ≡ Some f) (shows : shown_in links f ≡ Some (page_and_frame t)) (now : Links) (now_is : now ≡ linked_behind links f x t w) where
       abbrev with_new : Links
       with_new = with_key links x (link_between t w (Some f) (next_in links f))
 
@@ -395,12 +395,12 @@ module _ (places lists : ℕ → ℕ → Option ℕ) (links : Links) (count : �
       placed-other : (y : ℕ) → y ≢ x → place_in now y ≡ place_in links y
       placed-other y apart = now-place y ∙ ap (option_map (λ (k : Link). k.place)) (added-other y apart)
 
-      pub AreLinked-behind : AreLinked more lists now (count + 1)
-      AreLinked-behind = record {
+      pub AreLinkedInLists-behind : AreLinkedInLists more lists now (count + 1)
+      AreLinkedInLists-behind = record {
         placed = ArePlaced-joined places links h.placed x free w absent more more_is now placed-here placed-other;
-        listed = AreLists-behind (shown_in links) (previous_in links) (next_in links) lists count h.listed x (shown_by t) (none-shown (links x) free)
-            (shown_in now) (previous_in now) (next_in now) (now-shown x ∙ ap (option_map (λ (k : Link). shown_by k.translation)) added-here)
-            (λ y apart. now-shown y ∙ ap (option_map (λ (k : Link). shown_by k.translation)) (added-other y apart))
+        listed = AreLists-behind (shown_in links) (previous_in links) (next_in links) lists count h.listed x (page_and_frame t) (none-shown (links x) free)
+            (shown_in now) (previous_in now) (next_in now) (now-shown x ∙ ap (option_map (λ (k : Link). page_and_frame k.translation)) added-here)
+            (λ y apart. now-shown y ∙ ap (option_map (λ (k : Link). page_and_frame k.translation)) (added-other y apart))
             f shows
             (ap (λ (m : Links). previous_in m x) now_is ∙ (relinked-previous_other with_new (Some f) (next_in links f) (Some x) (Some x) x (λ e. next-out x e refl)
             ∙ ap (led_to (λ k. k.previous)) added-here))
@@ -456,13 +456,13 @@ module _ (places lists : ℕ → ℕ → Option ℕ) (links : Links) (count : �
     -- with these first links of lists the others are lists
     module _ (also : ℕ → ℕ → Option ℕ) (also_first : previous_in links x ≡ None → also ≡ with_pair lists k.translation.entry.koid.0 k.translation.entry.page (next_in links x))
         (also_other : (y : ℕ) → previous_in links x ≡ Some y → also ≡ lists) where
-      pub AreLinked-left : AreLinked fewer also now len
-      AreLinked-left = record {
+      pub AreLinkedInLists-left : AreLinkedInLists fewer also now len
+      AreLinkedInLists-left = record {
         placed = ArePlaced-left places links h.placed x root p at fewer fewer_is now gone-place other-place;
-        listed = AreLists-left (shown_in links) (previous_in links) (next_in links) lists count h.listed x (shown_by k.translation)
-            (ap (option_map (λ (j : Link). shown_by j.translation)) is_here) (shown_in now) (previous_in now) (next_in now) also len one_less
+        listed = AreLists-left (shown_in links) (previous_in links) (next_in links) lists count h.listed x (page_and_frame k.translation)
+            (ap (option_map (λ (j : Link). page_and_frame j.translation)) is_here) (shown_in now) (previous_in now) (next_in now) also len one_less
             (left-shown x ∙ none-shown (without x) gone-here)
-            (λ y apart. left-shown y ∙ ap (option_map (λ (j : Link). shown_by j.translation)) (gone-other y apart))
+            (λ y apart. left-shown y ∙ ap (option_map (λ (j : Link). page_and_frame j.translation)) (gone-other y apart))
             (ap (λ (m : Links). previous_in m x) now_is ∙ (relinked-previous_other without (previous_in links x) (next_in links x) (next_in links x) (previous_in links x) x
             (λ e. next-apart x x e refl) ∙ ap (led_to (λ j. j.previous)) gone-here))
             (λ y apart e. ap (λ (m : Links). previous_in m y) now_is
@@ -479,8 +479,8 @@ module _ (places lists : ℕ → ℕ → Option ℕ) (links : Links) (count : �
       }
 
     -- those where the list goes on with the link behind
-    pub AreLinked-after : (also : ℕ → ℕ → Option ℕ) → also ≡ first_after lists k → AreLinked fewer also now len
-    AreLinked-after also also_is = AreLinked-left also
+    pub AreLinkedInLists-after : (also : ℕ → ℕ → Option ℕ) → also ≡ first_after lists k → AreLinkedInLists fewer also now len
+    AreLinkedInLists-after also also_is = AreLinkedInLists-left also
         (λ none. also_is ∙ (ap (λ o. first_behind o lists k) (sym (ap (led_to (λ j. j.previous)) is_here) ∙ none)
         ∙ ap (with_pair lists k.translation.entry.koid.0 k.translation.entry.page) (sym (ap (led_to (λ j. j.next)) is_here))))
         (λ y before. also_is ∙ ap (λ o. first_behind o lists k) (sym (ap (led_to (λ j. j.previous)) is_here) ∙ before))
@@ -543,21 +543,21 @@ unlinked-written links x k is = λ i.
 
 -- ---- more room
 
-pub AreLinked-roomy : (places wider lists longer : ℕ → ℕ → Option ℕ) (old new : Slab Link) → wider ≡ places → longer ≡ lists → new.slots ≡ old.slots
-    → AreLinked places lists (get old) (slab_len old) → AreLinked wider longer (get new) (slab_len new)
-AreLinked-roomy places wider lists longer old new p l s h =
-    subst (λ (m : ℕ → ℕ → Option ℕ). AreLinked m longer (get new) (slab_len new)) (sym p)
-    (subst (λ (m : ℕ → ℕ → Option ℕ). AreLinked places m (get new) (slab_len new)) (sym l)
-    (subst (λ (slots : List (Option Link)). AreLinked places lists (λ x. slice_index_or slots x None) (count_by is_some slots)) (sym s) h))
+pub AreLinkedInLists-roomy : (places wider lists longer : ℕ → ℕ → Option ℕ) (old new : Slab Link) → wider ≡ places → longer ≡ lists → new.slots ≡ old.slots
+    → AreLinkedInLists places lists (get old) (slab_len old) → AreLinkedInLists wider longer (get new) (slab_len new)
+AreLinkedInLists-roomy places wider lists longer old new p l s h =
+    subst (λ (m : ℕ → ℕ → Option ℕ). AreLinkedInLists m longer (get new) (slab_len new)) (sym p)
+    (subst (λ (m : ℕ → ℕ → Option ℕ). AreLinkedInLists places m (get new) (slab_len new)) (sym l)
+    (subst (λ (slots : List (Option Link)). AreLinkedInLists places lists (λ x. slice_index_or slots x None) (count_by is_some slots)) (sym s) h))
 
 pub translations-roomy : (places wider : ℕ → ℕ → Option ℕ) (old new : Slab Link) → wider ≡ places → new.slots ≡ old.slots → translations_in (get new) wider ≡ translations_in (get old) places
 translations-roomy places wider old new p s = λ i. translations_in (λ x. slice_index_or (s i) x None) (p i)
 
 -- ---- no link
 
-pub AreLinked-none : (places lists : ℕ → ℕ → Option ℕ) (links : Links) (count : ℕ) → places ≡ (λ r p. None) → lists ≡ (λ v p. None) → ((x : ℕ) → links x ≡ None)
-    → AreLinked places lists links count
-AreLinked-none places lists links count bare empty none = record {
+pub AreLinkedInLists-none : (places lists : ℕ → ℕ → Option ℕ) (links : Links) (count : ℕ) → places ≡ (λ r p. None) → lists ≡ (λ v p. None) → ((x : ℕ) → links x ≡ None)
+    → AreLinkedInLists places lists links count
+AreLinkedInLists-none places lists links count bare empty none = record {
   placed = record {
     link = λ root p x is. absurd (missing is (ap (λ (m : ℕ → ℕ → Option ℕ). m root p) bare));
     place = λ x w is. absurd (missing is (ap (option_map (λ (k : Link). k.place)) (none x)));

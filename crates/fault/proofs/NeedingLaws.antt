@@ -3,7 +3,7 @@ use Rattle.std.proofs.Common.{◌≡◌, ℕ, ◌<◌, ◌≤◌, Bool, true, fa
 use Rattle.vm_base.specs.declared.refusal.Refusal.{Refusal}
 use Rattle.vm_model.specs.Contents.Content.{Content, used, sole}
 use Rattle.vm_model.specs.Contents.Owning.{need_from, need_each}
-use Rattle.fault.specs.inside.Needing.{FitsAs, LacksRoom}
+use Rattle.fault.specs.inside.Needing.{FitsAs, LacksRoomToWrite}
 
 -- a count that is the need fits in as it does
 pub FitsAs-same : (c : Content) (count need : ℕ) → count ≡ need → FitsAs c count need
@@ -25,8 +25,8 @@ FitsAs-free c v p free = record {
     at-most-one = bit (sole c v p)
 
 -- why there is no room for the count is why there is none for the need
-pub LacksRoom-as : (c : Content) (count need faults : ℕ) (refusal : Refusal) → FitsAs c count need → LacksRoom c count faults refusal → LacksRoom c need faults refusal
-LacksRoom-as c count need faults refusal fits lacks = elim lacks [
+pub LacksRoomToWrite-as : (c : Content) (count need faults : ℕ) (refusal : Refusal) → FitsAs c count need → LacksRoomToWrite c count faults refusal → LacksRoomToWrite c need faults refusal
+LacksRoomToWrite-as c count need faults refusal fits lacks = elim lacks [
   | inl frames ↦ inl (fits.lack frames.0, frames.1)
   | inr host ↦ inr (fits.enough host.0, host.1, host.2)
 ]

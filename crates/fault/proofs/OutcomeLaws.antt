@@ -10,18 +10,18 @@ use Rattle.vm_model.specs.Machine.Access.{access_refusal, bytes_through, page_sh
 use Rattle.vm_model.proofs.OwningLaws.{length-shown}
 use Rattle.fault.specs.declared.checking.TouchedPage.{TouchedPage}
 use Rattle.fault.specs.Table.{Places, ready_of}
-use Rattle.fault.specs.Access.{Reads}
+use Rattle.fault.specs.Access.{ReadsSpace}
 use Rattle.fault.specs.inside.Touching.{IsTouched, ReadsPage, missing_in}
 use Rattle.fault.proofs.AskedLaws.{AreAsked, AreAsked-one, AreAsked-two, none-refuses_read}
 use Rattle.fault.proofs.TouchingLaws.{refusal_at-touched, read_faults-more, read_faults-nil}
 use Rattle.vm_model.proofs.ThroughLaws.{bytes_through-page, bytes_through-append}
 
 -- no page
-pub Reads-none : (c : Content) (table : ℕ → ℕ → Option Entry) (root addr : ℕ) (old : Places) (out : List ℕ) → length out ≡ 0
-    → Reads c table root addr (length out) old 0 out old
+pub ReadsSpace-none : (c : Content) (table : ℕ → ℕ → Option Entry) (root addr : ℕ) (old : Places) (out : List ℕ) → length out ≡ 0
+    → ReadsSpace c table root addr (length out) old 0 out old
 unfolding touched access_refusal read_faults bytes_through after_reading
-Reads-none c table root addr old [] none = record { free = refl; faults_are = refl; bytes_are = refl; ready = refl }
-Reads-none c table root addr old (b ∷ bs) none = absurd (omega arith)
+ReadsSpace-none c table root addr old [] none = record { free = refl; faults_are = refl; bytes_are = refl; ready = refl }
+ReadsSpace-none c table root addr old (b ∷ bs) none = absurd (omega arith)
 
 module _ {c : Content} {table : ℕ → ℕ → Option Entry} {old : Places} {root p : ℕ} {first : TouchedPage} (is : IsTouched c table old reading root p first) where
   -- ---- one page
@@ -33,11 +33,11 @@ module _ {c : Content} {table : ℕ → ℕ → Option Entry} {old : Places} {ro
   faults-one = omega (arith, read_faults-more old root p [] first is.translation, read_faults-nil old root)
 
   -- it was read
-  pub Reads-one : {addr len : ℕ} {mid new : Places} (faults : ℕ) (bytes : List ℕ) → p ≡ addr / PAGE → touched addr len ≡ p ∷ [] → addr % PAGE + len ≤ PAGE
+  pub ReadsSpace-one : {addr len : ℕ} {mid new : Places} (faults : ℕ) (bytes : List ℕ) → p ≡ addr / PAGE → touched addr len ≡ p ∷ [] → addr % PAGE + len ≤ PAGE
       → IsGood c → mid ≡ old → faults ≡ missing_in first → bytes ≡ take len (drop (addr % PAGE) (shown c first.entry.koid.0 first.entry.page))
-      → ReadsPage c root p first mid new → Reads c table root addr len old faults bytes new
+      → ReadsPage c root p first mid new → ReadsSpace c table root addr len old faults bytes new
   unfolding after_reading
-  Reads-one {addr} {len} faults bytes start one fits good same count read reads = record {
+  ReadsSpace-one {addr} {len} faults bytes start one fits good same count read reads = record {
     free = rw one (none-refuses_read asked-one);
     faults_are = rw one (count ∙ sym faults-one);
     bytes_are =
@@ -75,14 +75,14 @@ module _ {c : Content} {table : ℕ → ℕ → Option Entry} {old : Places} {ro
         bytes_through-append c (table root) addr n m ∙ rw (here, behind, at) refl
 
     -- they were read
-    pub Reads-two : {addr len : ℕ} {mid between new : Places} (faults : ℕ) (here behind : List ℕ) (n m : ℕ) → p ≡ addr / PAGE
+    pub ReadsSpace-two : {addr len : ℕ} {mid between new : Places} (faults : ℕ) (here behind : List ℕ) (n m : ℕ) → p ≡ addr / PAGE
         → touched addr len ≡ p ∷ (p + 1) ∷ [] → len ≤ PAGE → IsGood c → mid ≡ old → addr % PAGE + n ≡ PAGE → n + m ≡ len
         → faults ≡ missing_in first + missing_in second
         → here ≡ take n (drop (addr % PAGE) (shown c first.entry.koid.0 first.entry.page))
         → behind ≡ take m (drop 0 (shown c second.entry.koid.0 second.entry.page))
-        → ReadsPage c root p first mid between → ReadsPage c root (p + 1) second between new → Reads c table root addr len old faults (here ++ behind) new
+        → ReadsPage c root p first mid between → ReadsPage c root (p + 1) second between new → ReadsSpace c table root addr len old faults (here ++ behind) new
     unfolding after_reading
-    Reads-two {addr} {new = new} faults here behind n m start two few good same whole both count read next_read reads next_reads = record {
+    ReadsSpace-two {addr} {new = new} faults here behind n m start two few good same whole both count read next_read reads next_reads = record {
       free = rw two (none-refuses_read asked-two);
       faults_are = rw two (count ∙ sym faults-two);
       bytes_are = rw (read, next_read, ← both) (sym (bytes-two addr n m start (omega (arith, both, few)) good whole));

@@ -10,10 +10,10 @@ use Rattle.vm_model.specs.Space.Readiness.{shows_in}
 use Rattle.balanced_tree.specs.Pairs.{with_pair}
 use Rattle.mapping_set.proofs.TableLaws.{with_pair-cases}
 use Rattle.fault.specs.declared.translation.Translation.{Translation}
-use Rattle.fault.specs.Table.{Places, without, with_translation, with_read_only, is_of, restricted as restrict_one}
+use Rattle.fault.specs.Table.{Places, translations_without, with_translation, with_read_only, is_translation_of, restricted as restrict_one}
 use Rattle.fault.specs.declared.translation.Change.{Change}
 use Rattle.fault.specs.declared.translation.Change.TheVariants.{Forget, Restrict}
-use Rattle.fault.specs.inside.Walks.{become, changed_where, dropped, restricted, change_by, is_place}
+use Rattle.fault.specs.inside.Walks.{become, changed_where, dropped, left_read_only, change_by, is_place}
 
 -- a change that leaves what it made
 abbrev pub IsOnce : (Translation → Option Translation) → Type 0
@@ -24,17 +24,17 @@ pub dropped-once : IsOnce dropped
 dropped-once k test = refl
 
 -- what is for reading alone stays so
-restricted-once : IsOnce restricted
-restricted-once k test = cases (test (record k { readiness = Read }))
+left_read_only-once : IsOnce left_read_only
+left_read_only-once k test = cases (test (record k { readiness = Read }))
   where
-    cases : (b : Bool) → cond b (restricted k) (restricted k) ≡ restricted k
+    cases : (b : Bool) → cond b (left_read_only k) (left_read_only k) ≡ left_read_only k
     cases true = refl
     cases false = refl
 
 -- so is each change
 pub change_by-once : (change : Change) → IsOnce (change_by change)
 change_by-once Forget = dropped-once
-change_by-once Restrict = restricted-once
+change_by-once Restrict = left_read_only-once
 
 -- ---- changes in a row
 
@@ -150,8 +150,8 @@ module _ (change : Translation → Option Translation) (new old : Places) (test 
 -- ---- the changes that callers see
 
 -- the translations without those that are dropped
-pub places-without : (goes : ℕ → ℕ → Translation → Bool) (new old : Places) → new ≡ changed_where dropped goes old → new ≡ without goes old
-unfolding changed_where without passes
+pub places-without : (goes : ℕ → ℕ → Translation → Bool) (new old : Places) → new ≡ changed_where dropped goes old → new ≡ translations_without goes old
+unfolding changed_where translations_without passes
 places-without goes new old e = e ∙ (λ i r p. seen (goes r p) (old r p) i)
   where
     seen : (test : Translation → Bool) (o : Option Translation) → become dropped test o ≡ cond (passes test o) None o
@@ -159,11 +159,11 @@ places-without goes new old e = e ∙ (λ i r p. seen (goes r p) (old r p) i)
     seen test (Some x) = refl
 
 -- those that show the range for reading alone
-pub places-read_only : (v first end : ℕ) (new old : Places) → new ≡ changed_where restricted (is_of v first end) old → new ≡ with_read_only v first end old
+pub places-read_only : (v first end : ℕ) (new old : Places) → new ≡ changed_where left_read_only (is_translation_of v first end) old → new ≡ with_read_only v first end old
 unfolding changed_where with_read_only
 places-read_only v first end new old e = e ∙ (λ i r p. seen (old r p) i)
   where
-    seen : (o : Option Translation) → become restricted (λ x. shows_in v first end x.entry) o ≡ option_map (restrict_one v first end) o
+    seen : (o : Option Translation) → become left_read_only (λ x. shows_in v first end x.entry) o ≡ option_map (restrict_one v first end) o
     seen None = refl
     seen (Some x) = elim (cases_Bool (shows_in v first end x.entry)) [ inl here ↦ rw here refl | inr there ↦ rw there refl ]
 

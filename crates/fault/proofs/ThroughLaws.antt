@@ -9,7 +9,7 @@ use Rattle.vm_model.specs.Space.Rights.{writing}
 use Rattle.vm_model.specs.Machine.Access.{Memory, WritesPage, WritesThrough, page_shown, write_fault}
 use Rattle.fault.specs.declared.writable.WritablePage.{WritablePage}
 use Rattle.fault.specs.Table.{Places, AreTrue, IsOfEntry}
-use Rattle.fault.specs.Access.{Writes}
+use Rattle.fault.specs.Access.{WritesSpace}
 use Rattle.fault.specs.inside.Writable.{IsWritable, WritesTo, fault_of}
 use Rattle.pages.specs.Needs.{MayOwn}
 use Rattle.vm_base.proofs.SearchLaws.{count_below_le}
@@ -46,10 +46,10 @@ module _ (c : Content) (table : ℕ → ℕ → Option Entry) (old : Places) (ro
     (good : IsGood c) (are : AreTrue c table old) (is : IsWritable c table old root p first) (fits : at + length part ≤ PAGE)
     (w : WritesTo root p first at part c old mid between) where
   -- it was the only one
-  pub Writes-one : (addr : ℕ) (bytes : List ℕ) → touched addr (length bytes) ≡ p ∷ [] → AreAsked c writing (table root) (p ∷ []) (page_shown first.entry ∷ [])
+  pub WritesSpace-one : (addr : ℕ) (bytes : List ℕ) → touched addr (length bytes) ≡ p ∷ [] → AreAsked c writing (table root) (p ∷ []) (page_shown first.entry ∷ [])
       → used c + need_each c (page_shown first.entry ∷ []) ≤ c.frames → at ≡ part_at addr p → part ≡ part_bytes addr bytes p
-      → Writes c table root addr bytes old (fault_of first) mid between
-  Writes-one addr bytes one asked free place same = record {
+      → WritesSpace c table root addr bytes old (fault_of first) mid between
+  WritesSpace-one addr bytes one asked free place same = record {
     free = rw one (none-refuses c (table root) (p ∷ []) _ asked free);
     writes = rw one (WritesThrough-one table root addr bytes p _ _ (fault_of first)
         (WritesPage-written c table old root p first at part mid between good are is fits w addr bytes place same) (fault-found c table old root p first is));
@@ -76,11 +76,11 @@ module _ (c : Content) (table : ℕ → ℕ → Option Entry) (old : Places) (ro
     module _ (then_at : ℕ) (then_part : List ℕ) (d : Content) (new : Places) (then_fits : then_at + length then_part ≤ PAGE)
         (then_w : WritesTo root (p + 1) second then_at then_part mid between d new) where
       -- both parts were written, and the translations are true
-      pub Writes-two : (addr : ℕ) (bytes : List ℕ) → touched addr (length bytes) ≡ p ∷ (p + 1) ∷ []
+      pub WritesSpace-two : (addr : ℕ) (bytes : List ℕ) → touched addr (length bytes) ≡ p ∷ (p + 1) ∷ []
           → AreAsked c writing (table root) (p ∷ (p + 1) ∷ []) (page_shown first.entry ∷ page_shown second.entry ∷ [])
           → at ≡ part_at addr p → part ≡ part_bytes addr bytes p → then_at ≡ part_at addr (p + 1) → then_part ≡ part_bytes addr bytes (p + 1)
-          → Writes c table root addr bytes old (fault_of first + fault_of second) d new × AreTrue d table new
-      Writes-two addr bytes two asked place same then_place then_same =
+          → WritesSpace c table root addr bytes old (fault_of first + fault_of second) d new × AreTrue d table new
+      WritesSpace-two addr bytes two asked place same then_place then_same =
           let now = IsBetween-written in (
             record {
               free = rw two (none-refuses c (table root) (p ∷ (p + 1) ∷ []) _ asked free);
@@ -93,9 +93,9 @@ module _ (c : Content) (table : ℕ → ℕ → Option Entry) (old : Places) (ro
           )
 
 -- no bytes
-pub Writes-none : (c : Content) (table : ℕ → ℕ → Option Entry) (old : Places) (root addr : ℕ) (bytes : List ℕ) → length bytes ≡ 0 → Writes c table root addr bytes old 0 c old
+pub WritesSpace-none : (c : Content) (table : ℕ → ℕ → Option Entry) (old : Places) (root addr : ℕ) (bytes : List ℕ) → length bytes ≡ 0 → WritesSpace c table root addr bytes old 0 c old
 unfolding used need_from
-Writes-none c table old root addr bytes empty =
+WritesSpace-none c table old root addr bytes empty =
     let none : touched addr (length bytes) ≡ [] = rw empty (touched-nil addr) in
     record {
       free = rw none (none-refuses c (table root) [] [] (AreAsked-none c writing (table root)) (omega (arith, count_below_le c.frames (in_use c))));

@@ -15,21 +15,21 @@ use Rattle.vm_model.proofs.ReadinessLaws.{is_same_frame-same}
 use Rattle.vm_model.specs.Machine.Access.{refusal_at, read_faults}
 use Rattle.fault.specs.declared.translation.Translation.{Translation}
 use Rattle.fault.specs.declared.checking.TouchedPage.{TouchedPage}
-use Rattle.fault.specs.Table.{Places, AreTrue, ready_of, frame_in, with_translation, without, is_outdated}
-use Rattle.fault.specs.inside.Touching.{IsTouched, IsOf, IsFound, ReadsPage, missing_in}
+use Rattle.fault.specs.Table.{Places, AreTrue, ready_of, translated_frame, with_translation, translations_without, is_outdated}
+use Rattle.fault.specs.inside.Touching.{IsTouched, IsTranslationOf, IsFoundPage, ReadsPage, missing_in}
 use Rattle.fault.proofs.CheckLaws.{below-free}
 use Rattle.fault.proofs.TranslationLaws.{AreTrue-with_translation, ready_of-with_translation, with_translation-other}
 
 -- each translation of the page that an entry shows holds its frame, where translations are true
 alike-from_AreTrue : {c : Content} {table : ℕ → ℕ → Option Entry} {places : Places} → AreTrue c table places → (entry : Entry) (r q : ℕ) (x : Translation)
-    → places r q ≡ Some x → x.entry.koid.0 ≡ entry.koid.0 → x.entry.page ≡ entry.page → frame_in x ≡ frame_at c entry.koid.0 entry.page
+    → places r q ≡ Some x → x.entry.koid.0 ≡ entry.koid.0 → x.entry.page ≡ entry.page → translated_frame x ≡ frame_at c entry.koid.0 entry.page
 alike-from_AreTrue {c} are entry r q x stands koid page = are.frame r q x stands ∙ (λ i. frame_at c (koid i) (page i))
 
 -- what was found of a page, where translations are true
-pub IsFound-from_IsTouched : {c : Content} {table : ℕ → ℕ → Option Entry} {places same_places : Places} {right root page : ℕ} {touched : TouchedPage}
-    → same_places ≡ places → AreTrue c table places → IsTouched c table places right root page touched → IsFound c same_places root page touched
-IsFound-from_IsTouched {c} {places} {right} {root} {page} {touched} same_places are is =
-    subst (λ (p : Places). IsFound c p root page touched) (sym same_places) (record {
+pub IsFoundPage-from_IsTouched : {c : Content} {table : ℕ → ℕ → Option Entry} {places same_places : Places} {right root page : ℕ} {touched : TouchedPage}
+    → same_places ≡ places → AreTrue c table places → IsTouched c table places right root page touched → IsFoundPage c same_places root page touched
+IsFoundPage-from_IsTouched {c} {places} {right} {root} {page} {touched} same_places are is =
+    subst (λ (p : Places). IsFoundPage c p root page touched) (sym same_places) (record {
       translation = is.translation;
       below = below-free c right touched.entry is.free;
       of_entry = λ x found.
@@ -41,9 +41,9 @@ IsFound-from_IsTouched {c} {places} {right} {root} {page} {touched} same_places 
     })
 
 -- and where its translation stays, and they are true then
-pub IsFound-stays : {c : Content} (table : ℕ → ℕ → Option Entry) {old new : Places} {root page : ℕ} {touched : TouchedPage}
-    → AreTrue c table new → new root page ≡ old root page → IsFound c old root page touched → IsFound c new root page touched
-IsFound-stays table {touched = touched} are same is = record {
+pub IsFoundPage-stays : {c : Content} (table : ℕ → ℕ → Option Entry) {old new : Places} {root page : ℕ} {touched : TouchedPage}
+    → AreTrue c table new → new root page ≡ old root page → IsFoundPage c old root page touched → IsFoundPage c new root page touched
+IsFoundPage-stays table {touched = touched} are same is = record {
   translation = same ∙ is.translation;
   below = is.below;
   of_entry = is.of_entry;
@@ -51,34 +51,34 @@ IsFound-stays table {touched = touched} are same is = record {
 }
 
 -- nothing is forgotten where no translation of the page holds another frame
-without-same : (c : Content) (places : Places) (root page : ℕ) (touched : TouchedPage) (x : Translation) → IsFound c places root page touched → IsOf c touched.entry x
-    → without (is_outdated x.entry.koid.0 x.entry.page (frame_in x)) places ≡ places
-unfolding without passes
-without-same c places root page touched x found of_entry = λ i r q. go r q (places r q) refl i where
+translations_without-same : (c : Content) (places : Places) (root page : ℕ) (touched : TouchedPage) (x : Translation) → IsFoundPage c places root page touched → IsTranslationOf c touched.entry x
+    → translations_without (is_outdated x.entry.koid.0 x.entry.page (translated_frame x)) places ≡ places
+unfolding translations_without passes
+translations_without-same c places root page touched x found of_entry = λ i r q. go r q (places r q) refl i where
   shows : (v p w q : ℕ) → ((w == v) && is_within p (p + 1) q) ≡ true → (w ≡ v) × (q ≡ p)
   shows v p w q e = grind (arith, nat_tests)
 
-  holds : (r q : ℕ) (y : Translation) → places r q ≡ Some y → is_outdated x.entry.koid.0 x.entry.page (frame_in x) r q y ≡ false
+  holds : (r q : ℕ) (y : Translation) → places r q ≡ Some y → is_outdated x.entry.koid.0 x.entry.page (translated_frame x) r q y ≡ false
   holds r q y stands = elim (cases_Bool (shows_in x.entry.koid.0 x.entry.page (x.entry.page + 1) y.entry)) [
     | inl here ↦
         let page_is = shows x.entry.koid.0 x.entry.page y.entry.koid.0 y.entry.page here in
         let koid = page_is.0 ∙ ap (λ (entry : Entry). entry.koid.0) of_entry.same in
         let page = page_is.1 ∙ ap (λ (entry : Entry). entry.page) of_entry.same in
-        let same : frame_in y ≡ frame_in x = found.alike r q y stands koid page ∙ sym of_entry.frame in
-        rw (here, same, is_same_frame-same (frame_in x)) refl
+        let same : translated_frame y ≡ translated_frame x = found.alike r q y stands koid page ∙ sym of_entry.frame in
+        rw (here, same, is_same_frame-same (translated_frame x)) refl
     | inr other ↦ rw other refl
   ]
 
-  go : (r q : ℕ) (o : Option Translation) → places r q ≡ o → without (is_outdated x.entry.koid.0 x.entry.page (frame_in x)) places r q ≡ places r q
+  go : (r q : ℕ) (o : Option Translation) → places r q ≡ o → translations_without (is_outdated x.entry.koid.0 x.entry.page (translated_frame x)) places r q ≡ places r q
   go r q None e = rw e refl
   go r q (Some y) e = rw e (rw (holds r q y e) refl)
 
 -- a page that had no translation gets one for reading
 pub ReadsPage-translated : (c : Content) (root page : ℕ) (touched : TouchedPage) (old new : Places) (x : Translation)
-    → IsFound c old root page touched → touched.translation ≡ None → IsOf c touched.entry x → x.readiness ≡ Read
-    → new ≡ with_translation (without (is_outdated x.entry.koid.0 x.entry.page (frame_in x)) old) root page x → ReadsPage c root page touched old new
+    → IsFoundPage c old root page touched → touched.translation ≡ None → IsTranslationOf c touched.entry x → x.readiness ≡ Read
+    → new ≡ with_translation (translations_without (is_outdated x.entry.koid.0 x.entry.page (translated_frame x)) old) root page x → ReadsPage c root page touched old new
 ReadsPage-translated c root page touched old new x found none of_entry readiness e =
-    let is = e ∙ ap (λ (m : Places). with_translation m root page x) (without-same c old root page touched x found of_entry) in
+    let is = e ∙ ap (λ (m : Places). with_translation m root page x) (translations_without-same c old root page touched x found of_entry) in
     subst (ReadsPage c root page touched old) (sym is) (record {
       ready =
           let free : old root page ≡ None = found.translation ∙ none in

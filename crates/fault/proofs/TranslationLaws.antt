@@ -10,7 +10,7 @@ use Rattle.vm_model.specs.declared.space.Readiness.TheVariants.{Write}
 use Rattle.vm_model.specs.Contents.Content.{Content, pages_of, sole}
 use Rattle.vm_model.specs.Space.Readiness.{frame_at, with_ready}
 use Rattle.fault.specs.declared.translation.Translation.{Translation}
-use Rattle.fault.specs.Table.{Places, AreTrue, IsOfEntry, ready_of, frame_in, with_translation}
+use Rattle.fault.specs.Table.{Places, AreTrue, IsOfEntry, ready_of, translated_frame, with_translation}
 
 -- a page that is not translated is not so for another entry
 pub IsOfEntry-none : (places : Places) (root page : ℕ) (entry : Entry) → places root page ≡ None → IsOfEntry places root page entry
@@ -43,12 +43,12 @@ module _ (places : Places) (root page : ℕ) (x : Translation) where
 
 -- translations stay true with one more that is true
 pub AreTrue-with_translation : (c : Content) (table : ℕ → ℕ → Option Entry) (places : Places) (root page : ℕ) (x : Translation)
-    → table root page ≡ Some x.entry → frame_in x ≡ frame_at c x.entry.koid.0 x.entry.page → x.entry.page < pages_of c x.entry.koid.0
+    → table root page ≡ Some x.entry → translated_frame x ≡ frame_at c x.entry.koid.0 x.entry.page → x.entry.page < pages_of c x.entry.koid.0
     → (x.readiness ≡ Write → sole c x.entry.koid.0 x.entry.page ≡ true)
     → AreTrue c table places → AreTrue c table (with_translation places root page x)
 AreTrue-with_translation c table places root page x entry frame below alone old = record {
   entry = each (λ r p y. table r p ≡ Some y.entry) entry old.entry;
-  frame = each (λ r p y. frame_in y ≡ frame_at c y.entry.koid.0 y.entry.page) frame old.frame;
+  frame = each (λ r p y. translated_frame y ≡ frame_at c y.entry.koid.0 y.entry.page) frame old.frame;
   below = each (λ r p y. y.entry.page < pages_of c y.entry.koid.0) below old.below;
   alone = each (λ r p y. y.readiness ≡ Write → sole c y.entry.koid.0 y.entry.page ≡ true) alone old.alone;
 } where

@@ -6,7 +6,7 @@ use Rattle.vm_model.specs.Contents.Zeroing.{is_within}
 use Rattle.vm_model.specs.Space.Readiness.{shows_in}
 use Rattle.fault.specs.declared.translation.Translation.{Translation}
 use Rattle.fault.specs.Table.{Places}
-use Rattle.fault.specs.inside.Walks.{changed_where, is_place, HasNoPlace, IsNextPlace, HasNoList, IsNextList}
+use Rattle.fault.specs.inside.Walks.{changed_where, is_place, HasNoTranslation, IsNextPlace, HasNoList, IsNextList}
 use Rattle.fault.proofs.PairLaws.{missing}
 use Rattle.fault.proofs.PlaceLaws.{IsOnce, changed-none, changed-then, changed-rest}
 
@@ -118,7 +118,7 @@ module _ (change : Translation → Option Translation) (once : IsOnce change) (r
         step r p low order gap e = grind (arith, nat_tests)
 
     -- where no page is left, all of the range are changed
-    pub places-end : from ≤ end → HasNoPlace mid root from end → mid ≡ changed_where change (place_below root first end) old
+    pub places-end : from ≤ end → HasNoTranslation mid root from end → mid ≡ changed_where change (place_below root first end) old
     places-end le none = changed-rest change once old mid (place_below root first from) is (place_below root first end)
         (λ r p k h. more r p h)
         (λ r p k at h. rest r p (λ one lower upper. missing (ap (λ n. mid n p) (sym one) ∙ at) (none p lower upper)) h)

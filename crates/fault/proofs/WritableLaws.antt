@@ -16,7 +16,7 @@ use Rattle.vm_model.proofs.ContentLaws.{sole_held}
 use Rattle.fault.specs.declared.translation.Translation.{Translation}
 use Rattle.fault.specs.declared.checking.TouchedPage.{TouchedPage}
 use Rattle.fault.specs.declared.writable.WritablePage.{WritablePage}
-use Rattle.fault.specs.Table.{Places, AreTrue, ready_of, frame_in, IsOfEntry}
+use Rattle.fault.specs.Table.{Places, AreTrue, ready_of, translated_frame, IsOfEntry}
 use Rattle.fault.specs.inside.Touching.{IsTouched}
 use Rattle.fault.specs.inside.Writable.{writing_frame, IsAbsent, IsSoleWith, IsWritable}
 use Rattle.pages.specs.Needs.{MayOwn}
@@ -54,11 +54,11 @@ module _ (c : Content) (table : ℕ → ℕ → Option Entry) (places : Places) 
   module _ (right : ℕ) (touched : TouchedPage) (frame : Option Tag) (is : IsTouched c table places right root p touched) (same : frame ≡ writing_frame touched.translation) where
     -- where it is translated for writing, the page of the VMO is sole, with the frame of the translation
     sole_with : (x : Translation) → places root p ≡ Some x → x.readiness ≡ Write
-        → (sole c touched.entry.koid.0 touched.entry.page ≡ true) × (frame_in x ≡ frame_at c touched.entry.koid.0 touched.entry.page)
+        → (sole c touched.entry.koid.0 touched.entry.page ≡ true) × (translated_frame x ≡ frame_at c touched.entry.koid.0 touched.entry.page)
     sole_with x e writes =
         let one : x.entry ≡ touched.entry = some_same (sym (are.entry root p x e) ∙ is.entry) in (
           subst (λ (entry : Entry). sole c entry.koid.0 entry.page ≡ true) one (are.alone root p x e writes),
-          subst (λ (entry : Entry). frame_in x ≡ frame_at c entry.koid.0 entry.page) one (are.frame root p x e),
+          subst (λ (entry : Entry). translated_frame x ≡ frame_at c entry.koid.0 entry.page) one (are.frame root p x e),
         )
 
     -- there is a frame exactly where the page is ready for writing

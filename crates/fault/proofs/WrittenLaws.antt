@@ -24,7 +24,7 @@ use Rattle.vm_model.proofs.AccessLaws.{frame_at-other, frame_at-sole}
 use Rattle.vm_model.proofs.ReadinessLaws.{keeps_frame-from, keeps_frame-parts, settled-same, settled-kept, settled-some, with_ready-same, with_ready-other}
 use Rattle.fault.specs.declared.translation.Translation.{Translation}
 use Rattle.fault.specs.declared.writable.WritablePage.{WritablePage}
-use Rattle.fault.specs.Table.{Places, AreTrue, ready_of, without, is_outdated}
+use Rattle.fault.specs.Table.{Places, AreTrue, ready_of, translations_without, is_outdated}
 use Rattle.fault.specs.inside.Writable.{IsSoleWith, IsWritable, WritesTo}
 use Rattle.page_store.proofs.PartLaws.{WritesPiece-from_parts}
 use Rattle.fault.proofs.OwnedLaws.{frame_at-overwritten}
@@ -65,10 +65,10 @@ keeps_frame-below old new entry below = rw (lt-ltb entry.page (pages_of new entr
   go false = refl
 
 -- a translation that is left stood before, and does not pass
-pub without-some : (goes : ℕ → ℕ → Translation → Bool) (places : Places) (r s : ℕ) (x : Translation) → without goes places r s ≡ Some x
+pub translations_without-some : (goes : ℕ → ℕ → Translation → Bool) (places : Places) (r s : ℕ) (x : Translation) → translations_without goes places r s ≡ Some x
     → (places r s ≡ Some x) × (goes r s x ≡ false)
-unfolding without passes
-without-some goes places r s x e = go (places r s) e where
+unfolding translations_without passes
+translations_without-some goes places r s x e = go (places r s) e where
   go : (o : Option Translation) → cond (passes (goes r s) o) None o ≡ Some x → (o ≡ Some x) × (goes r s x ≡ false)
   go None f = absurd cc
   go (Some y) f = elim (cases_Bool (goes r s y)) [
@@ -138,14 +138,14 @@ module _ (old : Content) (part : Piece) (new : Content) (good : IsGood old) (h :
       ]
 
       -- what is ready by those that are left
-      pub ready_of-left : ready_of (without stale places) ≡ settled old new table (ready_of places)
-      unfolding without settled passes
+      pub ready_of-left : ready_of (translations_without stale places) ≡ settled old new table (ready_of places)
+      unfolding translations_without settled passes
       ready_of-left = λ i r s. at r s (places r s) refl i where
         none : (b : Bool) → ◌≡◌ {A = Option Readiness} None (cond b None None)
         none true = refl
         none false = refl
 
-        at : (r s : ℕ) (o : Option Translation) → places r s ≡ o → ready_of (without stale places) r s ≡ settled old new table (ready_of places) r s
+        at : (r s : ℕ) (o : Option Translation) → places r s ≡ o → ready_of (translations_without stale places) r s ≡ settled old new table (ready_of places) r s
         at r s None e = rw e (none (passes (keeps_frame old new) (table r s)))
         at r s (Some x) e = rw (e, are.entry r s x e, stale-is r s x e) (elim (cases_Bool (keeps_frame old new x.entry)) [
           | inl stays ↦ rw stays refl
@@ -153,10 +153,10 @@ module _ (old : Content) (part : Piece) (new : Content) (good : IsGood old) (h :
         ])
 
       -- those that are left are true
-      pub AreTrue-left : AreTrue new table (without stale places)
+      pub AreTrue-left : AreTrue new table (translations_without stale places)
       AreTrue-left =
-          let was = λ (r s : ℕ) (x : Translation) (e : without stale places r s ≡ Some x). without-some stale places r s x e in
-          let still = λ (r s : ℕ) (x : Translation) (e : without stale places r s ≡ Some x).
+          let was = λ (r s : ℕ) (x : Translation) (e : translations_without stale places r s ≡ Some x). translations_without-some stale places r s x e in
+          let still = λ (r s : ℕ) (x : Translation) (e : translations_without stale places r s ≡ Some x).
           keeps_frame-parts old new x.entry (not-false (keeps_frame old new x.entry) (sym (stale-is r s x (was r s x e).0) ∙ (was r s x e).1)) in
           record {
             entry = λ r s x e. are.entry r s x (was r s x e).0;

@@ -36,7 +36,7 @@ RefusesWrite c table root addr len old d new refusal =
 
 -- Nothing refuses the read. It gave these bytes with so many page faults, and the translations are those of what is
 -- ready afterwards.
-pub record Reads (c : Content) (table : ℕ → ℕ → Option Entry) (root addr len : ℕ) (old : Places) (faults : ℕ) (bytes : List ℕ) (new : Places) : Type 0 where
+pub record ReadsSpace (c : Content) (table : ℕ → ℕ → Option Entry) (root addr len : ℕ) (old : Places) (faults : ℕ) (bytes : List ℕ) (new : Places) : Type 0 where
   pub free : first_of (read_refusals c (table root) (touched addr len)) ≡ None
   pub faults_are : faults ≡ read_faults (ready_of old root) (touched addr len)
   pub bytes_are : bytes ≡ bytes_through c (table root) addr len
@@ -45,14 +45,14 @@ pub record Reads (c : Content) (table : ℕ → ℕ → Option Entry) (root addr
 -- A read of `len` bytes has this answer: how many page faults it took, with these bytes, or why it is refused.
 abbrev pub AnswersRead : Content → (ℕ → ℕ → Option Entry) → (root addr len : ℕ) → (old : Places) → List ℕ → (new : Places) → Result ℕ Refusal → Type 0
 AnswersRead c table root addr len old bytes new answer =
-    MatchResult answer (λ faults. Reads c table root addr len old faults bytes new) (RefusesRead c table root addr len old new)
+    MatchResult answer (λ faults. ReadsSpace c table root addr len old faults bytes new) (RefusesRead c table root addr len old new)
 
 -- Nothing refuses the write. It was done page by page with so many page faults.
-pub record Writes (c : Content) (table : ℕ → ℕ → Option Entry) (root addr : ℕ) (bytes : List ℕ) (old : Places) (faults : ℕ) (d : Content) (new : Places) : Type 0 where
+pub record WritesSpace (c : Content) (table : ℕ → ℕ → Option Entry) (root addr : ℕ) (bytes : List ℕ) (old : Places) (faults : ℕ) (d : Content) (new : Places) : Type 0 where
   pub free : first_of (write_refusals c (table root) (touched addr (length bytes))) ≡ None
   pub writes : WritesThrough table root addr bytes (touched addr (length bytes)) (record { content = c; ready = ready_of old }) faults (record { content = d; ready = ready_of new })
 
 -- A write of these bytes has this answer: how many page faults it took, or why it is refused.
 abbrev pub AnswersWrite : Content → (ℕ → ℕ → Option Entry) → (root addr : ℕ) → List ℕ → (old : Places) → Content → (new : Places) → Result ℕ Refusal → Type 0
 AnswersWrite c table root addr bytes old d new answer =
-    MatchResult answer (λ faults. Writes c table root addr bytes old faults d new) (RefusesWrite c table root addr (length bytes) old d new)
+    MatchResult answer (λ faults. WritesSpace c table root addr bytes old faults d new) (RefusesWrite c table root addr (length bytes) old d new)

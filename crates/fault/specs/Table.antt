@@ -2,16 +2,15 @@
 use Rattle.std.specs.Prelude.{◌≡◌, ℕ, ◌+◌, ◌<◌, Bool, true, not, ◌&&◌, ◌==◌, if◌then◌else◌, Option, None, Some, IfSome}
 use Rattle.std.specs.Option.{option_map}
 use Rattle.vm_base.specs.Entries.{passes}
-use Rattle.vm_base.specs.declared.names.Tag.{Tag}
 use Rattle.vm_model.specs.declared.space.Entry.{Entry}
 use Rattle.vm_model.specs.declared.space.Readiness.TheVariants.{Read, Write}
 use Rattle.vm_model.specs.Contents.Content.{Content, sole, pages_of}
 use Rattle.vm_model.specs.Contents.Zeroing.{is_within}
-use Rattle.vm_model.specs.Space.Readiness.{Ready, frame_at, is_same_frame, shows_in}
+use Rattle.vm_model.specs.Space.Readiness.{Ready, frame_at, is_same_frame, shows_in, frame_number}
 use Rattle.slab.specs.Slab.{Slab, get}
 use Rattle.fault.specs.declared.translation.Translation.{Translation}
 use Rattle.fault.specs.declared.translation.Link.{Link}
-use Rattle.fault.specs.inside.Pages.{Pages, links_of}
+use Rattle.fault.specs.inside.Pages.{Pages, link_numbers}
 
 -- the translation of each page of each address space
 abbrev pub Places : Type 0
@@ -35,16 +34,16 @@ abbrev pub translations_in : (ℕ → Option Link) → (ℕ → ℕ → Option �
 translations_in links rows root p = translation_at links (rows root p)
 
 -- the translation of each page of each address space
-abbrev pub places_of : Table → Places
-places_of t = translations_in (get t.links) (links_of t.rows)
+abbrev pub translations_of : Table → Places
+translations_of t = translations_in (get t.links) (link_numbers t.rows)
 
 -- the number of the link of each page
 abbrev pub link_of : Table → ℕ → ℕ → Option ℕ
-link_of t = links_of t.rows
+link_of t = link_numbers t.rows
 
 -- the number of the first link of each page of a VMO
-abbrev pub list_of : Table → ℕ → ℕ → Option ℕ
-list_of t = links_of t.lists
+abbrev pub first_links_of : Table → ℕ → ℕ → Option ℕ
+first_links_of t = link_numbers t.lists
 
 -- how many more translations fit with no memory from the host
 abbrev pub room_of : Table → ℕ
@@ -54,19 +53,15 @@ room_of t = t.room
 abbrev pub ready_of : Places → Ready
 ready_of places root p = option_map (λ (x : Translation). x.readiness) (places root p)
 
--- the number of a frame, if there is one
-abbrev pub number_of : Option Tag → Option ℕ
-number_of frame = option_map (λ (tag : Tag). tag.0) frame
-
 -- the number of the frame that a translation holds
-abbrev pub frame_in : Translation → Option ℕ
-frame_in x = number_of x.frame
+abbrev pub translated_frame : Translation → Option ℕ
+translated_frame x = frame_number x.frame
 
 -- Each translation is of an entry of the table, and holds the frame that the page of the VMO has. That page lies in its
 -- VMO. If the translation may be written by, the page is sole.
 pub record AreTrue (c : Content) (table : ℕ → ℕ → Option Entry) (places : Places) : Type 0 where
   pub entry : (root p : ℕ) (x : Translation) → places root p ≡ Some x → table root p ≡ Some x.entry
-  pub frame : (root p : ℕ) (x : Translation) → places root p ≡ Some x → frame_in x ≡ frame_at c x.entry.koid.0 x.entry.page
+  pub frame : (root p : ℕ) (x : Translation) → places root p ≡ Some x → translated_frame x ≡ frame_at c x.entry.koid.0 x.entry.page
   pub below : (root p : ℕ) (x : Translation) → places root p ≡ Some x → x.entry.page < pages_of c x.entry.koid.0
   pub alone : (root p : ℕ) (x : Translation) → places root p ≡ Some x → x.readiness ≡ Write → sole c x.entry.koid.0 x.entry.page ≡ true
 
@@ -79,20 +74,20 @@ unfoldable pub with_translation : Places → (root p : ℕ) → Translation → 
 with_translation places root p x r q = if (r == root) && (q == p) then Some x else places r q
 
 -- the translations, without those that pass
-unfoldable pub without : (ℕ → ℕ → Translation → Bool) → Places → Places
-without goes places root p = if passes (goes root p) (places root p) then None else places root p
+unfoldable pub translations_without : (ℕ → ℕ → Translation → Bool) → Places → Places
+translations_without goes places root p = if passes (goes root p) (places root p) then None else places root p
 
 -- the translation is of a page of the VMO v from `first` to below `end`
-abbrev pub is_of : (v first end : ℕ) → ℕ → ℕ → Translation → Bool
-is_of v first end root p x = shows_in v first end x.entry
+abbrev pub is_translation_of : (v first end : ℕ) → ℕ → ℕ → Translation → Bool
+is_translation_of v first end root p x = shows_in v first end x.entry
 
 -- the translation is of such a page, and the page has another frame than the translation holds
 abbrev pub is_stale : Content → (v first end : ℕ) → ℕ → ℕ → Translation → Bool
-is_stale c v first end root p x = shows_in v first end x.entry && not (is_same_frame (frame_in x) (frame_at c v x.entry.page))
+is_stale c v first end root p x = shows_in v first end x.entry && not (is_same_frame (translated_frame x) (frame_at c v x.entry.page))
 
 -- the translation is of page p of the VMO v, and holds another frame than this one
 abbrev pub is_outdated : (v p : ℕ) → Option ℕ → ℕ → ℕ → Translation → Bool
-is_outdated v p frame root q x = shows_in v p (p + 1) x.entry && not (is_same_frame (frame_in x) frame)
+is_outdated v p frame root q x = shows_in v p (p + 1) x.entry && not (is_same_frame (translated_frame x) frame)
 
 -- the translation is of a page of the address space from `first` to below `end`
 abbrev pub is_at : (root first end : ℕ) → ℕ → ℕ → Translation → Bool

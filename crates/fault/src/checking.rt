@@ -5,7 +5,7 @@ ghost use Rattle.mapping_set.specs.Tables.{table_of};
 ghost use Rattle.vm_model.specs.Machine.Access.{refusal_at};
 ghost use Rattle.vm_base.specs.declared.refusal.Refusal.TheVariants as Refusal;
 ghost use Rattle.mapping_set.specs.Backed.{AreBacked};
-ghost use Rattle.fault.specs.Table.{AreTrue, places_of, room_of};
+ghost use Rattle.fault.specs.Table.{AreTrue, translations_of, room_of};
 ghost use Rattle.fault.specs.inside.Touching.{IsTouched, missing_in};
 
 use crate::translation::Translation;
@@ -52,9 +52,9 @@ impl Translations {
         right: Perm,
     ) -> Result<TouchedPage, Refusal>
         requires backed { AreBacked (P.content store.now) (table_of maps.now) }
-        requires translations { AreTrue (P.content store.now) (table_of maps.now) (places_of self.now) }
+        requires translations { AreTrue (P.content store.now) (table_of maps.now) (translations_of self.now) }
         ensures { MatchResult result
-            (λ touched. IsTouched (P.content store.now) (table_of maps.now) (places_of self.now) right.0 root.0 page touched)
+            (λ touched. IsTouched (P.content store.now) (table_of maps.now) (translations_of self.now) right.0 root.0 page touched)
             (λ refusal. refusal_at (P.content store.now) right.0 (table_of maps.now root.0 page) ≡ Some refusal) }
     {
         match self.find(root, page) {
@@ -86,9 +86,9 @@ impl Translations {
         right: Perm,
     ) -> Result<TouchedPage, Refusal>
         requires backed { AreBacked (P.content store.now) (table_of maps.now) }
-        requires absent { places_of self.now root.0 page ≡ None }
+        requires absent { translations_of self.now root.0 page ≡ None }
         ensures { MatchResult result
-            (λ touched. IsTouched (P.content store.now) (table_of maps.now) (places_of self.now) right.0 root.0 page touched)
+            (λ touched. IsTouched (P.content store.now) (table_of maps.now) (translations_of self.now) right.0 root.0 page touched)
             (λ refusal. refusal_at (P.content store.now) right.0 (table_of maps.now root.0 page) ≡ Some refusal) }
     {
         let Some(entry) = maps.at(root, page) else {
@@ -110,7 +110,7 @@ impl Translations {
     /// Makes room for `n` translations more. `n` may be 0. `HostMemory` if the host has too little memory.
     pub(crate) fn reserve_missing(&mut self, n: usize) -> Result<(), Refusal>
         ensures room { MatchResult result (λ done. n ≤ room_of self.new) (λ refusal. (refusal ≡ Refusal.HostMemory) × (0 < n)) }
-        ensures same { places_of self.new ≡ places_of self.old }
+        ensures same { translations_of self.new ≡ translations_of self.old }
     {
         if n == 0 {
             return Ok(());

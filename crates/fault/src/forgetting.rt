@@ -3,7 +3,8 @@
 ghost use Rattle.std.specs.Prelude.{◌≡◌, ◌+◌, ◌≤◌, Some, IsSome};
 ghost use Rattle.vm_base.specs.declared.limits.TheConstants.{PAGES_END};
 ghost use Rattle.vm_model.specs.Contents.Content.{pages_of};
-ghost use Rattle.fault.specs.Table.{number_of, places_of, list_of, room_of, without, is_of, is_stale, is_outdated, is_at, with_read_only};
+ghost use Rattle.fault.specs.Table.{translations_of, first_links_of, room_of, translations_without, is_translation_of, is_stale, is_outdated, is_at, with_read_only};
+ghost use Rattle.vm_model.specs.Space.Readiness.{frame_number};
 ghost use Rattle.fault.specs.inside.Walks.{HasFrame, changed_where, change_by, dropped};
 
 use crate::frames::{frame_of, have_same_frame};
@@ -20,7 +21,7 @@ impl Translations {
     pub fn forget_changed<P: PageStore>(&mut self, store: &P, v: Koid, first: PageNo, count: u64)
         requires vmo { IsSome ((P.content store.now).count v.0) }
         requires range { first + count ≤ pages_of (P.content store.now) v.0 }
-        ensures at { places_of self.new ≡ without (is_stale (P.content store.now) v.0 first (first + count)) (places_of self.old) }
+        ensures at { translations_of self.new ≡ translations_without (is_stale (P.content store.now) v.0 first (first + count)) (translations_of self.old) }
         ensures room { room_of self.old ≤ room_of self.new }
     {
         // A VMO has no more pages than fit a number.
@@ -41,10 +42,10 @@ impl Translations {
         page: PageNo,
         frame: Option<Tag>,
     ) -> Option<usize>
-        ensures at { places_of self.new
-            ≡ changed_where dropped (is_outdated v.0 page (number_of frame)) (places_of self.old) }
-        ensures first { list_of self.new v.0 page ≡ result }
-        ensures frame { HasFrame (places_of self.new) v.0 page frame }
+        ensures at { translations_of self.new
+            ≡ changed_where dropped (is_outdated v.0 page (frame_number frame)) (translations_of self.old) }
+        ensures first { first_links_of self.new v.0 page ≡ result }
+        ensures frame { HasFrame (translations_of self.new) v.0 page frame }
         ensures room { room_of self.old ≤ room_of self.new }
     {
         match self.list_at(v, page) {
@@ -64,12 +65,12 @@ impl Translations {
         list: FrameList,
         frame: Option<Tag>,
     ) -> Option<usize>
-        requires first { list_of self.old v.0 page ≡ Some list.first }
-        requires frame { HasFrame (places_of self.old) v.0 page list.frame }
-        ensures at { places_of self.new
-            ≡ changed_where dropped (is_outdated v.0 page (number_of frame)) (places_of self.old) }
-        ensures first { list_of self.new v.0 page ≡ result }
-        ensures frame { HasFrame (places_of self.new) v.0 page frame }
+        requires first { first_links_of self.old v.0 page ≡ Some list.first }
+        requires frame { HasFrame (translations_of self.old) v.0 page list.frame }
+        ensures at { translations_of self.new
+            ≡ changed_where dropped (is_outdated v.0 page (frame_number frame)) (translations_of self.old) }
+        ensures first { first_links_of self.new v.0 page ≡ result }
+        ensures frame { HasFrame (translations_of self.new) v.0 page frame }
         ensures room { room_of self.old ≤ room_of self.new }
     {
         if have_same_frame(list.frame, frame) {
@@ -82,7 +83,7 @@ impl Translations {
     /// Forgets the translations of `count` pages of a VMO from the page `first` on.
     pub fn forget(&mut self, v: Koid, first: PageNo, count: u64)
         requires range { first + count ≤ PAGES_END }
-        ensures at { places_of self.new ≡ without (is_of v.0 first (first + count)) (places_of self.old) }
+        ensures at { translations_of self.new ≡ translations_without (is_translation_of v.0 first (first + count)) (translations_of self.old) }
         ensures room { room_of self.old ≤ room_of self.new }
     {
         self.change_pages(v, first, count, Change::Forget);
@@ -91,7 +92,7 @@ impl Translations {
     /// Forgets the translations of `count` pages of an address space from the page `first` on.
     pub fn forget_at(&mut self, root: RegionName, first: PageNo, count: u64)
         requires range { first + count ≤ PAGES_END }
-        ensures at { places_of self.new ≡ without (is_at root.0 first (first + count)) (places_of self.old) }
+        ensures at { translations_of self.new ≡ translations_without (is_at root.0 first (first + count)) (translations_of self.old) }
         ensures room { room_of self.old ≤ room_of self.new }
     {
         let end = first + count;
@@ -106,7 +107,7 @@ impl Translations {
     /// each of them, and one that may not be written costs no change.
     pub fn make_readonly(&mut self, v: Koid, first: PageNo, count: u64)
         requires range { first + count ≤ PAGES_END }
-        ensures at { places_of self.new ≡ with_read_only v.0 first (first + count) (places_of self.old) }
+        ensures at { translations_of self.new ≡ with_read_only v.0 first (first + count) (translations_of self.old) }
         ensures room { room_of self.old ≤ room_of self.new }
     {
         self.change_pages(v, first, count, Change::Restrict);
@@ -115,8 +116,8 @@ impl Translations {
     // Changes the translations of `count` pages of a VMO from the page `first` on.
     fn change_pages(&mut self, v: Koid, first: PageNo, count: u64, change: Change)
         requires range { first + count ≤ PAGES_END }
-        ensures at { places_of self.new
-            ≡ changed_where (change_by change) (is_of v.0 first (first + count)) (places_of self.old) }
+        ensures at { translations_of self.new
+            ≡ changed_where (change_by change) (is_translation_of v.0 first (first + count)) (translations_of self.old) }
         ensures room { room_of self.old ≤ room_of self.new }
     {
         let end = first + count;

@@ -2,8 +2,7 @@
 
 ghost use Rattle.std.specs.Prelude.{◌≡◌, ◌<◌};
 ghost use Rattle.vm_model.specs.Contents.Content.{pages_of};
-ghost use Rattle.vm_model.specs.Space.Readiness.{frame_at, is_same_frame};
-ghost use Rattle.fault.specs.Table.{number_of};
+ghost use Rattle.vm_model.specs.Space.Readiness.{frame_at, is_same_frame, frame_number};
 
 use page_store::PageStore;
 use vm_base::{Koid, PageNo, Tag};
@@ -12,14 +11,14 @@ use vm_base::{Koid, PageNo, Tag};
 #[inline(always)]
 pub(crate) fn frame_of<P: PageStore>(store: &P, v: Koid, page: PageNo) -> Option<Tag>
     requires { page < pages_of (P.content store.now) v.0 }
-    ensures { number_of result ≡ frame_at (P.content store.now) v.0 page }
+    ensures { frame_number result ≡ frame_at (P.content store.now) v.0 page }
 {
     store.frame(v, page)
 }
 
 /// Returns whether two translations with these frames hold the same one.
 pub(crate) fn have_same_frame(frame: Option<Tag>, other: Option<Tag>) -> bool
-    ensures { result ≡ is_same_frame (number_of frame) (number_of other) }
+    ensures { result ≡ is_same_frame (frame_number frame) (frame_number other) }
 {
     frame == other
 }

@@ -3,10 +3,10 @@
 ghost use Rattle.std.specs.Prelude.{◌≡◌, ◌≢◌, ◌+◌, ◌≤◌, ◌⊎◌, true, false, None, Some, IsSome, IfSome};
 ghost use Rattle.slab.specs.Slab.{get, slab_len, ContainsKey, HasRoomFor};
 ghost use Rattle.balanced_tree.specs.Pairs.{with_pair};
-ghost use Rattle.fault.specs.inside.Pages.{links_of, room_left};
-ghost use Rattle.vm_model.specs.Space.Readiness.{is_same_frame};
-ghost use Rattle.fault.specs.Table.{is_of, number_of, translations_in};
-ghost use Rattle.fault.specs.inside.Lists.{AreLinked, IsFirst, Holds, place_at, place_in, previous_in, next_in, set_in, to_previous, to_next, linked_behind, unlinked, first_after, restricted_beside, room_in};
+ghost use Rattle.fault.specs.inside.Pages.{link_numbers, room_left};
+ghost use Rattle.vm_model.specs.Space.Readiness.{is_same_frame, frame_number};
+ghost use Rattle.fault.specs.Table.{is_translation_of, translations_in};
+ghost use Rattle.fault.specs.inside.Lists.{AreLinkedInLists, IsFirst, Holds, place_in_space, place_in, previous_in, next_in, set_in, to_previous, to_next, linked_behind, unlinked, first_after, restricted_beside, room_in};
 ghost use Rattle.fault.specs.inside.Walks.{changed_where, dropped};
 
 use crate::frames::have_same_frame;
@@ -27,14 +27,14 @@ pub(crate) fn join(
     translation: Translation,
     place: Place,
 )
-    requires linked { AreLinked (links_of places.old) (links_of lists.old) (get links.old) (slab_len links.old) }
-    requires first { links_of lists.old translation.entry.koid.0 translation.entry.page ≡ first }
+    requires linked { AreLinkedInLists (link_numbers places.old) (link_numbers lists.old) (get links.old) (slab_len links.old) }
+    requires first { link_numbers lists.old translation.entry.koid.0 translation.entry.page ≡ first }
     requires frame { IfSome first (Holds (get links.old) translation.frame) }
-    requires absent { links_of places.old place.root.0 place.page ≡ None }
+    requires absent { link_numbers places.old place.root.0 place.page ≡ None }
     requires room { 1 ≤ room_in places.old lists.old links.old }
-    ensures linked { AreLinked (links_of places.new) (links_of lists.new) (get links.new) (slab_len links.new) }
-    ensures at { translations_in (get links.new) (links_of places.new)
-        ≡ with_pair (translations_in (get links.old) (links_of places.old)) place.root.0 place.page (Some translation) }
+    ensures linked { AreLinkedInLists (link_numbers places.new) (link_numbers lists.new) (get links.new) (slab_len links.new) }
+    ensures at { translations_in (get links.new) (link_numbers places.new)
+        ≡ with_pair (translations_in (get links.old) (link_numbers places.old)) place.root.0 place.page (Some translation) }
     ensures room { room_in places.old lists.old links.old ≤ room_in places.new lists.new links.new + 1 }
 {
     match first {
@@ -65,11 +65,11 @@ pub(crate) fn leave(
     root: RegionName,
     page: PageNo,
 )
-    requires linked { AreLinked (links_of places.old) (links_of lists.old) (get links.old) (slab_len links.old) }
-    requires there { IsSome (links_of places.old root.0 page) }
-    ensures linked { AreLinked (links_of places.new) (links_of lists.new) (get links.new) (slab_len links.new) }
-    ensures at { translations_in (get links.new) (links_of places.new)
-        ≡ with_pair (translations_in (get links.old) (links_of places.old)) root.0 page None }
+    requires linked { AreLinkedInLists (link_numbers places.old) (link_numbers lists.old) (get links.old) (slab_len links.old) }
+    requires there { IsSome (link_numbers places.old root.0 page) }
+    ensures linked { AreLinkedInLists (link_numbers places.new) (link_numbers lists.new) (get links.new) (slab_len links.new) }
+    ensures at { translations_in (get links.new) (link_numbers places.new)
+        ≡ with_pair (translations_in (get links.old) (link_numbers places.old)) root.0 page None }
     ensures room { room_in places.old lists.old links.old ≤ room_in places.new lists.new links.new }
 {
     let at = places.remove(root.0 as u64, page);
@@ -87,12 +87,12 @@ pub(crate) fn drop_list(
     page: PageNo,
     first: usize,
 )
-    requires linked { AreLinked (links_of places.old) (links_of lists.old) (get links.old) (slab_len links.old) }
-    requires first { links_of lists.old v.0 page ≡ Some first }
-    ensures linked { AreLinked (links_of places.new) (links_of lists.new) (get links.new) (slab_len links.new) }
-    ensures lists { links_of lists.new v.0 page ≡ None }
-    ensures at { translations_in (get links.new) (links_of places.new)
-        ≡ changed_where dropped (is_of v.0 page (page + 1)) (translations_in (get links.old) (links_of places.old)) }
+    requires linked { AreLinkedInLists (link_numbers places.old) (link_numbers lists.old) (get links.old) (slab_len links.old) }
+    requires first { link_numbers lists.old v.0 page ≡ Some first }
+    ensures linked { AreLinkedInLists (link_numbers places.new) (link_numbers lists.new) (get links.new) (slab_len links.new) }
+    ensures lists { link_numbers lists.new v.0 page ≡ None }
+    ensures at { translations_in (get links.new) (link_numbers places.new)
+        ≡ changed_where dropped (is_translation_of v.0 page (page + 1)) (translations_in (get links.old) (link_numbers places.old)) }
     ensures room { room_in places.old lists.old links.old ≤ room_in places.new lists.new links.new }
 {
     let mut at = Some(first);
@@ -106,7 +106,7 @@ pub(crate) fn drop_list(
 
 /// Returns whether a link with this number is there, and is of this page of an address space.
 pub(crate) fn is_link_of(links: &Slab<Link>, link: usize, root: RegionName, page: PageNo) -> bool
-    ensures { result ≡ true → place_in (get links.now) link ≡ Some (place_at root.0 page) }
+    ensures { result ≡ true → place_in (get links.now) link ≡ Some (place_in_space root.0 page) }
 {
     match links.get(link) {
         Some(it) => it.place.root.0 == root.0 && it.place.page == page,
@@ -117,7 +117,7 @@ pub(crate) fn is_link_of(links: &Slab<Link>, link: usize, root: RegionName, page
 /// Returns whether a link holds this frame, or is alone in its list.
 pub(crate) fn may_hold(link: &Link, frame: Option<Tag>) -> bool
     ensures may { result ≡ true → (link.now.translation.frame ≡ frame) ⊎ ((link.now.previous ≡ None) × (link.now.next ≡ None)) }
-    ensures other { result ≡ false → is_same_frame (number_of link.now.translation.frame) (number_of frame) ≡ false }
+    ensures other { result ≡ false → is_same_frame (frame_number link.now.translation.frame) (frame_number frame) ≡ false }
 {
     if have_same_frame(link.translation.frame, frame) {
         return true;
@@ -189,8 +189,8 @@ fn unlink(links: &mut Slab<Link>, at: usize) -> Link
 
 // Lets the list of a link that went begin with the link behind it, if it was the first. Removes the list if there is none.
 fn lead_on(lists: &mut PageMap, gone: Link)
-    requires { gone.previous ≡ None → IsSome (links_of lists.old gone.translation.entry.koid.0 gone.translation.entry.page) }
-    ensures lists { links_of lists.new ≡ first_after (links_of lists.old) gone }
+    requires { gone.previous ≡ None → IsSome (link_numbers lists.old gone.translation.entry.koid.0 gone.translation.entry.page) }
+    ensures lists { link_numbers lists.new ≡ first_after (link_numbers lists.old) gone }
     ensures room { room_left lists.old ≤ room_left lists.new }
 {
     let entry = gone.translation.entry;

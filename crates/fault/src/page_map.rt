@@ -7,7 +7,7 @@ ghost use Rattle.balanced_tree.specs.Pairs.{with_pair, IsNext};
 ghost use Rattle.pair_map.specs.Maps.{values_of};
 ghost use Rattle.vm_base.specs.Entries.{with_key};
 ghost use Rattle.fault.specs.declared.page_map.Block.{Block};
-ghost use Rattle.fault.specs.inside.Pages.{ArePages, links_of, links_in, room_left, entry_of, with_entry};
+ghost use Rattle.fault.specs.inside.Pages.{ArePages, link_numbers, links_in, room_left, block_entry, with_entry};
 
 use pair_map::PairMap;
 use slab::Slab;
@@ -21,7 +21,7 @@ pub(crate) struct Block {
 }
 
 /// Numbers of links, each under a list and a page. The pages of a list stand in blocks of eight, so that pages that lie side
-/// by side have one row of the tree. Contracts see the number of each list and page (`links_of`), and `room_left`, how many
+/// by side have one row of the tree. Contracts see the number of each list and page (`link_numbers`), and `room_left`, how many
 /// more fit with no memory from the host. No call but `reserve` asks the host for memory.
 #[derive(Drop)]
 pub(crate) struct PageMap {
@@ -42,9 +42,9 @@ impl Model for PageMap {
 
 impl PageMap {
     /// Makes a map with no number and no room.
-    #[tactic(auto, unfolding(crate::specs::inside::Pages::links_of))]
+    #[tactic(auto, unfolding(crate::specs::inside::Pages::link_numbers))]
     pub(crate) fn new(alloc: Global) -> PageMap
-        ensures { links_of result ≡ λ a p. None }
+        ensures { link_numbers result ≡ λ a p. None }
     {
         PageMap {
             rows: PairMap::new(alloc),
@@ -53,10 +53,10 @@ impl PageMap {
     }
 
     /// Makes room for `n` numbers more. Fails if the host has too little memory.
-    #[tactic(auto, unfolding(crate::specs::inside::Pages::links_of))]
+    #[tactic(auto, unfolding(crate::specs::inside::Pages::link_numbers))]
     pub(crate) fn reserve(&mut self, n: usize) -> Result<(), AllocError>
         ensures room { OnOk result (n ≤ room_left self.new) }
-        ensures links { links_of self.new ≡ links_of self.old }
+        ensures links { link_numbers self.new ≡ link_numbers self.old }
         ensures kept { room_left self.old ≤ room_left self.new }
     {
         self.rows.reserve(n)?;
@@ -64,18 +64,18 @@ impl PageMap {
     }
 
     /// Returns whether no page has a number.
-    #[tactic(auto, unfolding(crate::specs::inside::Pages::links_of))]
+    #[tactic(auto, unfolding(crate::specs::inside::Pages::link_numbers))]
     pub(crate) fn is_empty(&self) -> bool
-        ensures { IsTrue result ↔ ((a p : ℕ) → links_of self.now a p ≡ None) }
+        ensures { IsTrue result ↔ ((a p : ℕ) → link_numbers self.now a p ≡ None) }
     {
         self.rows.len() == 0
     }
 
     /// Returns the number of a page of a list. `None` if it has none.
     #[inline(always)]
-    #[tactic(auto, unfolding(crate::specs::inside::Pages::links_of))]
+    #[tactic(auto, unfolding(crate::specs::inside::Pages::link_numbers))]
     pub(crate) fn find(&self, list: u64, page: u64) -> Option<usize>
-        ensures { result ≡ links_of self.now list page }
+        ensures { result ≡ link_numbers self.now list page }
     {
         match self.rows.find(list, block_of(page)) {
             Some(at) => self.blocks[at].entries[place_of(page)],
@@ -84,10 +84,10 @@ impl PageMap {
     }
 
     /// Returns the least page of a list from `from` on that has a number, and the number. `None` if there is none.
-    #[tactic(auto, unfolding(crate::specs::inside::Pages::links_of))]
+    #[tactic(auto, unfolding(crate::specs::inside::Pages::link_numbers))]
     pub(crate) fn next(&self, list: u64, from: u64) -> Option<(u64, usize)>
-        ensures next { IsNext (links_of self.now list) from (option_map (λ pair. pair.0) result) }
-        ensures value { IfSome result (λ pair. links_of self.now list pair.0 ≡ Some pair.1) }
+        ensures next { IsNext (link_numbers self.now list) from (option_map (λ pair. pair.0) result) }
+        ensures value { IfSome result (λ pair. link_numbers self.now list pair.0 ≡ Some pair.1) }
     {
         let first = block_of(from);
         match self.rows.next(list, first) {
@@ -109,11 +109,11 @@ impl PageMap {
     }
 
     /// Gives a page that has no number one.
-    #[tactic(auto, unfolding(crate::specs::inside::Pages::links_of))]
+    #[tactic(auto, unfolding(crate::specs::inside::Pages::link_numbers))]
     pub(crate) fn insert(&mut self, list: u64, page: u64, link: usize)
-        requires absent { links_of self.old list page ≡ None }
+        requires absent { link_numbers self.old list page ≡ None }
         requires room { 1 ≤ room_left self.old }
-        ensures links { links_of self.new ≡ with_pair (links_of self.old) list page (Some link) }
+        ensures links { link_numbers self.new ≡ with_pair (link_numbers self.old) list page (Some link) }
         ensures room { room_left self.old ≤ room_left self.new + 1 }
     {
         match self.rows.find(list, block_of(page)) {
@@ -128,10 +128,10 @@ impl PageMap {
     }
 
     /// Gives a page that has a number another.
-    #[tactic(auto, unfolding(crate::specs::inside::Pages::links_of))]
+    #[tactic(auto, unfolding(crate::specs::inside::Pages::link_numbers))]
     pub(crate) fn replace(&mut self, list: u64, page: u64, link: usize)
-        requires { IsSome (links_of self.old list page) }
-        ensures links { links_of self.new ≡ with_pair (links_of self.old) list page (Some link) }
+        requires { IsSome (link_numbers self.old list page) }
+        ensures links { link_numbers self.new ≡ with_pair (link_numbers self.old) list page (Some link) }
         ensures room { room_left self.new ≡ room_left self.old }
     {
         if let Some(at) = self.rows.find(list, block_of(page)) {
@@ -140,11 +140,11 @@ impl PageMap {
     }
 
     /// Takes the number of a page away, and answers it.
-    #[tactic(auto, unfolding(crate::specs::inside::Pages::links_of))]
+    #[tactic(auto, unfolding(crate::specs::inside::Pages::link_numbers))]
     pub(crate) fn remove(&mut self, list: u64, page: u64) -> usize
-        requires { IsSome (links_of self.old list page) }
-        ensures value { links_of self.old list page ≡ Some result }
-        ensures links { links_of self.new ≡ with_pair (links_of self.old) list page None }
+        requires { IsSome (link_numbers self.old list page) }
+        ensures value { link_numbers self.old list page ≡ Some result }
+        ensures links { link_numbers self.new ≡ with_pair (link_numbers self.old) list page None }
         ensures room { room_left self.old ≤ room_left self.new }
     {
         match self.rows.find(list, block_of(page)) {
@@ -202,8 +202,8 @@ fn set_entry(blocks: &mut Slab<Block>, at: usize, place: usize, link: Option<usi
 // Returns the first place of a block from `start` on that has a number, and the number.
 fn first_entry(block: &Block, start: usize) -> Option<(usize, usize)>
     requires { length block.now.entries ≡ 8 }
-    ensures next { IsNext (entry_of block.now) start (option_map (λ pair. pair.0) result) }
-    ensures value { IfSome result (λ pair. (entry_of block.now pair.0 ≡ Some pair.1) × (pair.0 < 8)) }
+    ensures next { IsNext (block_entry block.now) start (option_map (λ pair. pair.0) result) }
+    ensures value { IfSome result (λ pair. (block_entry block.now pair.0 ≡ Some pair.1) × (pair.0 < 8)) }
 {
     let mut place = start;
     while place < 8 {

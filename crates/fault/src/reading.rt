@@ -6,9 +6,9 @@ ghost use Rattle.vm_model.specs.declared.space.Readiness.TheVariants as Readines
 ghost use Rattle.vm_model.specs.Contents.Content.{shown, pages_of};
 ghost use Rattle.mapping_set.specs.Tables.{table_of};
 ghost use Rattle.mapping_set.specs.Backed.{AreBacked};
-ghost use Rattle.fault.specs.Table.{AreTrue, places_of, room_of};
-ghost use Rattle.fault.specs.Access.{Reads, RefusesRead, AnswersRead};
-ghost use Rattle.fault.specs.inside.Touching.{IsFound, IsOf, ReadsPage, missing_in};
+ghost use Rattle.fault.specs.Table.{AreTrue, translations_of, room_of};
+ghost use Rattle.fault.specs.Access.{ReadsSpace, RefusesRead, AnswersRead};
+ghost use Rattle.fault.specs.inside.Touching.{IsFoundPage, IsTranslationOf, ReadsPage, missing_in};
 
 use crate::checking::TouchedPage;
 use crate::frames::frame_of;
@@ -34,12 +34,12 @@ impl Translations {
         len: u64,
     ) -> Result<(u64, Bytes4k), Refusal>
         requires backed { AreBacked (P.content store.now) (table_of maps.now) }
-        requires translations { AreTrue (P.content store.now) (table_of maps.now) (places_of self.old) }
+        requires translations { AreTrue (P.content store.now) (table_of maps.now) (translations_of self.old) }
         requires len { len ≤ DATA_BYTES }
         ensures outcome { MatchResult result
-            (λ pair. Reads (P.content store.now) (table_of maps.now) root.0 addr len (places_of self.old) pair.0 pair.1 (places_of self.new))
-            (RefusesRead (P.content store.now) (table_of maps.now) root.0 addr len (places_of self.old) (places_of self.new)) }
-        ensures translations { AreTrue (P.content store.now) (table_of maps.now) (places_of self.new) }
+            (λ pair. ReadsSpace (P.content store.now) (table_of maps.now) root.0 addr len (translations_of self.old) pair.0 pair.1 (translations_of self.new))
+            (RefusesRead (P.content store.now) (table_of maps.now) root.0 addr len (translations_of self.old) (translations_of self.new)) }
+        ensures translations { AreTrue (P.content store.now) (table_of maps.now) (translations_of self.new) }
     {
         let mut room = [0; DATA_BYTES];
         match self.mem_read_into(store, maps, root, addr, len, &mut room) {
@@ -60,13 +60,13 @@ impl Translations {
         room: &'a mut [u8],
     ) -> Result<(u64, LentBytes<'a>), Refusal>
         requires backed { AreBacked (P.content store.now) (table_of maps.now) }
-        requires translations { AreTrue (P.content store.now) (table_of maps.now) (places_of self.old) }
+        requires translations { AreTrue (P.content store.now) (table_of maps.now) (translations_of self.old) }
         requires len { len ≤ DATA_BYTES }
         requires room { DATA_BYTES ≤ length room.old }
         ensures outcome { MatchResult result
-            (λ pair. Reads (P.content store.now) (table_of maps.now) root.0 addr len (places_of self.old) pair.0 pair.1 (places_of self.new))
-            (RefusesRead (P.content store.now) (table_of maps.now) root.0 addr len (places_of self.old) (places_of self.new)) }
-        ensures translations { AreTrue (P.content store.now) (table_of maps.now) (places_of self.new) }
+            (λ pair. ReadsSpace (P.content store.now) (table_of maps.now) root.0 addr len (translations_of self.old) pair.0 pair.1 (translations_of self.new))
+            (RefusesRead (P.content store.now) (table_of maps.now) root.0 addr len (translations_of self.old) (translations_of self.new)) }
+        ensures translations { AreTrue (P.content store.now) (table_of maps.now) (translations_of self.new) }
     {
         let out = &mut room[..len as usize];
         match self.read_bytes(store, maps, root, addr, out) {
@@ -85,11 +85,11 @@ impl Translations {
         out: &mut [u8],
     ) -> Result<u64, Refusal>
         requires backed { AreBacked (P.content store.now) (table_of maps.now) }
-        requires translations { AreTrue (P.content store.now) (table_of maps.now) (places_of self.old) }
+        requires translations { AreTrue (P.content store.now) (table_of maps.now) (translations_of self.old) }
         requires len { length out.old ≤ DATA_BYTES }
-        ensures outcome { AnswersRead (P.content store.now) (table_of maps.now) root.0 addr (length out.old) (places_of self.old)
-            out.new (places_of self.new) result }
-        ensures translations { AreTrue (P.content store.now) (table_of maps.now) (places_of self.new) }
+        ensures outcome { AnswersRead (P.content store.now) (table_of maps.now) root.0 addr (length out.old) (translations_of self.old)
+            out.new (translations_of self.new) result }
+        ensures translations { AreTrue (P.content store.now) (table_of maps.now) (translations_of self.new) }
     {
         if out.is_empty() {
             Ok(0)
@@ -110,12 +110,12 @@ impl Translations {
         out: &mut [u8],
     ) -> Result<u64, Refusal>
         requires backed { AreBacked (P.content store.now) (table_of maps.now) }
-        requires translations { AreTrue (P.content store.now) (table_of maps.now) (places_of self.old) }
+        requires translations { AreTrue (P.content store.now) (table_of maps.now) (translations_of self.old) }
         requires some { 0 < length out.old }
         requires one { addr % PAGE + length out.old ≤ PAGE }
-        ensures outcome { AnswersRead (P.content store.now) (table_of maps.now) root.0 addr (length out.old) (places_of self.old)
-            out.new (places_of self.new) result }
-        ensures translations { AreTrue (P.content store.now) (table_of maps.now) (places_of self.new) }
+        ensures outcome { AnswersRead (P.content store.now) (table_of maps.now) root.0 addr (length out.old) (translations_of self.old)
+            out.new (translations_of self.new) result }
+        ensures translations { AreTrue (P.content store.now) (table_of maps.now) (translations_of self.new) }
     {
         let page = page_of(addr);
         let touched = self.check(store, maps, root, page, Perm::READ)?;
@@ -133,12 +133,12 @@ impl Translations {
         out: &mut [u8],
     ) -> Result<u64, Refusal>
         requires backed { AreBacked (P.content store.now) (table_of maps.now) }
-        requires translations { AreTrue (P.content store.now) (table_of maps.now) (places_of self.old) }
+        requires translations { AreTrue (P.content store.now) (table_of maps.now) (translations_of self.old) }
         requires two { PAGE < addr % PAGE + length out.old }
         requires len { length out.old ≤ DATA_BYTES }
-        ensures outcome { AnswersRead (P.content store.now) (table_of maps.now) root.0 addr (length out.old) (places_of self.old)
-            out.new (places_of self.new) result }
-        ensures translations { AreTrue (P.content store.now) (table_of maps.now) (places_of self.new) }
+        ensures outcome { AnswersRead (P.content store.now) (table_of maps.now) root.0 addr (length out.old) (translations_of self.old)
+            out.new (translations_of self.new) result }
+        ensures translations { AreTrue (P.content store.now) (table_of maps.now) (translations_of self.new) }
     {
         let page = page_of(addr);
         let next = page + 1;
@@ -163,12 +163,12 @@ impl Translations {
         at: u64,
         out: &mut [u8],
     ) -> u64
-        requires found { IsFound (P.content store.now) (places_of self.old) root.0 page touched }
+        requires found { IsFoundPage (P.content store.now) (translations_of self.old) root.0 page touched }
         requires room { missing_in touched ≤ room_of self.old }
         requires range { at + length out.old ≤ PAGE }
         ensures faults { result ≡ missing_in touched }
         ensures bytes { out.new ≡ take (length out.old) (drop at (shown (P.content store.now) touched.entry.koid.0 touched.entry.page)) }
-        ensures places { ReadsPage (P.content store.now) root.0 page touched (places_of self.old) (places_of self.new) }
+        ensures places { ReadsPage (P.content store.now) root.0 page touched (translations_of self.old) (translations_of self.new) }
         ensures room { room_of self.old ≤ room_of self.new + missing_in touched }
     {
         match touched.translation {
@@ -191,7 +191,7 @@ impl Translations {
 #[inline(never)]
 fn to_read<P: PageStore>(store: &P, entry: Entry) -> Translation
     requires { entry.page < pages_of (P.content store.now) entry.koid.0 }
-    ensures of_entry { IsOf (P.content store.now) entry result }
+    ensures of_entry { IsTranslationOf (P.content store.now) entry result }
     ensures readiness { result.readiness ≡ Readiness.Read }
 {
     Translation {
@@ -204,7 +204,7 @@ fn to_read<P: PageStore>(store: &P, entry: Entry) -> Translation
 // Reads bytes of the frame of a translation, from `at` bytes into the page on. If the translation has no frame, they
 // are zeros.
 fn read_frame<P: PageStore>(store: &P, translation: Translation, at: u64, out: &mut [u8])
-    requires of_entry { IsOf (P.content store.now) translation.entry translation }
+    requires of_entry { IsTranslationOf (P.content store.now) translation.entry translation }
     requires range { at + length out.old ≤ PAGE }
     ensures { out.new ≡ take (length out.old) (drop at (shown (P.content store.now) translation.entry.koid.0 translation.entry.page)) }
 {

@@ -4,8 +4,9 @@ ghost use Rattle.std.specs.Prelude.{◌≡◌, ◌↔◌, ℕ, IsTrue, ◌+◌, 
 ghost use Rattle.std.specs.Option.{MatchOption};
 ghost use Rattle.balanced_tree.specs.Pairs.{with_pair};
 ghost use Rattle.slab.specs.Slab.{get};
-ghost use Rattle.fault.specs.Table.{places_of, link_of, list_of, room_of, number_of, frame_in, with_translation, without, is_of, is_outdated, IsOfEntry};
-ghost use Rattle.fault.specs.inside.Walks.{changed_where, change_by, dropped, is_place, HasNoPlace, IsNextPlace};
+ghost use Rattle.fault.specs.Table.{translations_of, link_of, first_links_of, room_of, translated_frame, with_translation, translations_without, is_translation_of, is_outdated, IsOfEntry};
+ghost use Rattle.vm_model.specs.Space.Readiness.{frame_number};
+ghost use Rattle.fault.specs.inside.Walks.{changed_where, change_by, dropped, is_place, HasNoTranslation, IsNextPlace};
 ghost use Rattle.fault.specs.inside.Walks.{HasNoList, IsNextList, HasFrame, HoldElsewhere, HoldsOther};
 ghost use Rattle.fault.specs.inside.Lists.{MayHold, translation_in};
 
@@ -38,17 +39,17 @@ impl Model for Translations {
 
     ghost Value = { Table };
 
-    ghost use Rattle.fault.specs.inside.Fields.{table_of, IsTable};
+    ghost use Rattle.fault.specs.inside.Fields.{translation_table_of, IsTranslationTable};
 
-    ghost view = { table_of };
+    ghost view = { translation_table_of };
 
-    ghost invariant = { IsTable };
+    ghost invariant = { IsTranslationTable };
 }
 
 impl Translations {
     /// Makes an empty set of translations: no page is translated.
     pub fn new(alloc: Global) -> Translations
-        ensures { places_of result ≡ λ root p. None }
+        ensures { translations_of result ≡ λ root p. None }
     {
         Translations {
             places: PageMap::new(alloc),
@@ -59,7 +60,7 @@ impl Translations {
 
     /// Returns whether no page of any address space is translated.
     pub fn is_empty(&self) -> bool
-        ensures { IsTrue result ↔ ((root p : ℕ) → places_of self.now root p ≡ None) }
+        ensures { IsTrue result ↔ ((root p : ℕ) → translations_of self.now root p ≡ None) }
     {
         self.places.is_empty()
     }
@@ -67,7 +68,7 @@ impl Translations {
     /// Returns the translation of a page of an address space, with the number of its link. `None` if it has none.
     #[inline(always)]
     pub(crate) fn find(&self, root: RegionName, page: PageNo) -> Option<Kept>
-        ensures { places_of self.now root.0 page ≡ translation_in result }
+        ensures { translations_of self.now root.0 page ≡ translation_in result }
     {
         match self.places.find(root.0 as u64, page) {
             Some(link) => Some(Kept {
@@ -81,7 +82,7 @@ impl Translations {
     /// Makes room for `n` translations more. `HostMemory` if the host has too little memory.
     pub(crate) fn reserve(&mut self, n: usize) -> Result<(), HostMemory>
         ensures room { OnOk result (n ≤ room_of self.new) }
-        ensures same { places_of self.new ≡ places_of self.old }
+        ensures same { translations_of self.new ≡ translations_of self.old }
         ensures kept { room_of self.old ≤ room_of self.new }
     {
         let Ok(()) = self.places.reserve(n) else {
@@ -106,11 +107,11 @@ impl Translations {
         link: usize,
         translation: Translation,
     )
-        requires same { IsOfEntry (places_of self.old) root.0 page translation.entry }
+        requires same { IsOfEntry (translations_of self.old) root.0 page translation.entry }
         requires room { 1 ≤ room_of self.old }
-        ensures at { places_of self.new
+        ensures at { translations_of self.new
             ≡ with_translation
-            (without (is_outdated translation.entry.koid.0 translation.entry.page (frame_in translation)) (places_of self.old))
+            (translations_without (is_outdated translation.entry.koid.0 translation.entry.page (translated_frame translation)) (translations_of self.old))
             root.0 page translation }
         ensures room { room_of self.old ≤ room_of self.new + 1 }
     {
@@ -124,12 +125,12 @@ impl Translations {
     /// of the VMO that hold another frame. There is room. The call costs a look-up of the list of that page, an
     /// insertion, another one if the page has no list, and a step for each translation that is forgotten.
     pub(crate) fn translate(&mut self, root: RegionName, page: PageNo, translation: Translation)
-        requires same { IsOfEntry (places_of self.old) root.0 page translation.entry }
-        requires other { HoldsOther (frame_in translation) (places_of self.old root.0 page) }
+        requires same { IsOfEntry (translations_of self.old) root.0 page translation.entry }
+        requires other { HoldsOther (translated_frame translation) (translations_of self.old root.0 page) }
         requires room { 1 ≤ room_of self.old }
-        ensures at { places_of self.new
+        ensures at { translations_of self.new
             ≡ with_translation
-            (without (is_outdated translation.entry.koid.0 translation.entry.page (frame_in translation)) (places_of self.old))
+            (translations_without (is_outdated translation.entry.koid.0 translation.entry.page (translated_frame translation)) (translations_of self.old))
             root.0 page translation }
         ensures room { room_of self.old ≤ room_of self.new + 1 }
     {
@@ -149,7 +150,7 @@ impl Translations {
     ) -> Option<usize>
         ensures some { IfSome result (λ at. link_of self.now root.0 page ≡ Some at) }
         ensures may { IfSome result (MayHold (get self.now.links) frame) }
-        ensures none { IfNone result (HoldsOther (number_of frame) (places_of self.now root.0 page)) }
+        ensures none { IfNone result (HoldsOther (frame_number frame) (translations_of self.now root.0 page)) }
     {
         match self.link_at(root, page, link) {
             Some(at) => {
@@ -178,10 +179,10 @@ impl Translations {
     // translation forgotten: each other one of the page of the VMO holds it. The call makes no look-up.
     fn put(&mut self, root: RegionName, page: PageNo, link: usize, translation: Translation)
         requires link { link_of self.old root.0 page ≡ Some link }
-        requires same { IsOfEntry (places_of self.old) root.0 page translation.entry }
+        requires same { IsOfEntry (translations_of self.old) root.0 page translation.entry }
         requires may { MayHold (get self.old.links) translation.frame link }
-        ensures at { places_of self.new ≡ with_pair (places_of self.old) root.0 page (Some translation) }
-        ensures others { HoldElsewhere (places_of self.old) root.0 page translation }
+        ensures at { translations_of self.new ≡ with_pair (translations_of self.old) root.0 page (Some translation) }
+        ensures others { HoldElsewhere (translations_of self.old) root.0 page translation }
         ensures room { room_of self.new ≡ room_of self.old }
     {
         self.links[link].translation = translation;
@@ -196,11 +197,11 @@ impl Translations {
         translation: Translation,
         first: Option<usize>,
     )
-        requires absent { places_of self.old root.0 page ≡ None }
-        requires first { list_of self.old translation.entry.koid.0 translation.entry.page ≡ first }
-        requires frame { HasFrame (places_of self.old) translation.entry.koid.0 translation.entry.page translation.frame }
+        requires absent { translations_of self.old root.0 page ≡ None }
+        requires first { first_links_of self.old translation.entry.koid.0 translation.entry.page ≡ first }
+        requires frame { HasFrame (translations_of self.old) translation.entry.koid.0 translation.entry.page translation.frame }
         requires room { 1 ≤ room_of self.old }
-        ensures at { places_of self.new ≡ with_pair (places_of self.old) root.0 page (Some translation) }
+        ensures at { translations_of self.new ≡ with_pair (translations_of self.old) root.0 page (Some translation) }
         ensures room { room_of self.old ≤ room_of self.new + 1 }
     {
         let place = Place { root, page };
@@ -216,8 +217,8 @@ impl Translations {
 
     /// Forgets the translation of a page that has one.
     pub(crate) fn drop_place(&mut self, root: RegionName, page: PageNo)
-        requires { IsSome (places_of self.old root.0 page) }
-        ensures at { places_of self.new ≡ changed_where dropped (λ r p x. is_place root.0 page r p) (places_of self.old) }
+        requires { IsSome (translations_of self.old root.0 page) }
+        ensures at { translations_of self.new ≡ changed_where dropped (λ r p x. is_place root.0 page r p) (translations_of self.old) }
         ensures room { room_of self.old ≤ room_of self.new }
     {
         leave(
@@ -231,8 +232,8 @@ impl Translations {
 
     /// Changes the translations of a page of a VMO, whose list begins with the link `first`.
     pub(crate) fn change_list(&mut self, v: Koid, page: PageNo, first: usize, change: Change)
-        requires first { list_of self.old v.0 page ≡ Some first }
-        ensures at { places_of self.new ≡ changed_where (change_by change) (is_of v.0 page (page + 1)) (places_of self.old) }
+        requires first { first_links_of self.old v.0 page ≡ Some first }
+        ensures at { translations_of self.new ≡ changed_where (change_by change) (is_translation_of v.0 page (page + 1)) (translations_of self.old) }
         ensures room { room_of self.old ≤ room_of self.new }
     {
         match change {
@@ -243,9 +244,9 @@ impl Translations {
 
     /// Forgets the translations of a page of a VMO, whose list begins with the link `first`.
     pub(crate) fn drop_list(&mut self, v: Koid, page: PageNo, first: usize)
-        requires first { list_of self.old v.0 page ≡ Some first }
-        ensures at { places_of self.new ≡ changed_where dropped (is_of v.0 page (page + 1)) (places_of self.old) }
-        ensures list { list_of self.new v.0 page ≡ None }
+        requires first { first_links_of self.old v.0 page ≡ Some first }
+        ensures at { translations_of self.new ≡ changed_where dropped (is_translation_of v.0 page (page + 1)) (translations_of self.old) }
+        ensures list { first_links_of self.new v.0 page ≡ None }
         ensures room { room_of self.old ≤ room_of self.new }
     {
         drop_list(
@@ -260,8 +261,8 @@ impl Translations {
 
     /// Returns the first page of an address space from `from` to below `end` that is translated.
     pub(crate) fn place_below(&self, root: RegionName, from: PageNo, end: PageNo) -> Option<PageNo>
-        ensures { MatchOption result (HasNoPlace (places_of self.now) root.0 from end)
-            (IsNextPlace (places_of self.now) root.0 from end) }
+        ensures { MatchOption result (HasNoTranslation (translations_of self.now) root.0 from end)
+            (IsNextPlace (translations_of self.now) root.0 from end) }
     {
         match self.places.next(root.0 as u64, from) {
             Some((page, _)) if page < end => Some(page),
@@ -272,8 +273,8 @@ impl Translations {
     /// Returns the list of the translations of a page of a VMO. `None` if it has none.
     #[inline(always)]
     pub(crate) fn list_at(&self, v: Koid, page: PageNo) -> Option<FrameList>
-        ensures { MatchOption result ((list_of self.now v.0 page ≡ None) × HasNoList (places_of self.now) v.0 page (page + 1))
-            (λ list. (list_of self.now v.0 page ≡ Some list.first) × HasFrame (places_of self.now) v.0 page list.frame) }
+        ensures { MatchOption result ((first_links_of self.now v.0 page ≡ None) × HasNoList (translations_of self.now) v.0 page (page + 1))
+            (λ list. (first_links_of self.now v.0 page ≡ Some list.first) × HasFrame (translations_of self.now) v.0 page list.frame) }
     {
         match self.lists.find(v.0, page) {
             Some(first) => Some(FrameList {
@@ -293,9 +294,9 @@ impl Translations {
         from: PageNo,
         end: PageNo,
     ) -> Option<(PageNo, FrameList)>
-        ensures { MatchOption result (HasNoList (places_of self.now) v.0 from end)
-            (λ found. IsNextList (places_of self.now) v.0 from end found.0
-            × (list_of self.now v.0 found.0 ≡ Some found.1.first) × HasFrame (places_of self.now) v.0 found.0 found.1.frame) }
+        ensures { MatchOption result (HasNoList (translations_of self.now) v.0 from end)
+            (λ found. IsNextList (translations_of self.now) v.0 from end found.0
+            × (first_links_of self.now v.0 found.0 ≡ Some found.1.first) × HasFrame (translations_of self.now) v.0 found.0 found.1.frame) }
     {
         if end <= from {
             return None;
@@ -317,9 +318,9 @@ impl Translations {
         from: PageNo,
         end: PageNo,
     ) -> Option<(PageNo, FrameList)>
-        ensures { MatchOption result (HasNoList (places_of self.now) v.0 from end)
-            (λ found. IsNextList (places_of self.now) v.0 from end found.0
-            × (list_of self.now v.0 found.0 ≡ Some found.1.first) × HasFrame (places_of self.now) v.0 found.0 found.1.frame) }
+        ensures { MatchOption result (HasNoList (translations_of self.now) v.0 from end)
+            (λ found. IsNextList (translations_of self.now) v.0 from end found.0
+            × (first_links_of self.now v.0 found.0 ≡ Some found.1.first) × HasFrame (translations_of self.now) v.0 found.0 found.1.frame) }
     {
         match self.lists.next(v.0, from) {
             Some((page, first)) if page < end => {

@@ -7,7 +7,7 @@ ghost use Rattle.vm_model.specs.Contents.Content.{pages_of};
 ghost use Rattle.vm_model.specs.Space.Rights.{writing};
 ghost use Rattle.vm_model.specs.Machine.Access.{refusal_at};
 ghost use Rattle.mapping_set.specs.Backed.{AreBacked};
-ghost use Rattle.fault.specs.Table.{AreTrue, places_of};
+ghost use Rattle.fault.specs.Table.{AreTrue, translations_of};
 ghost use Rattle.fault.specs.inside.Writable.{IsInStore, IsWritable, fault_of, writing_frame};
 
 use crate::translation::Translation;
@@ -54,9 +54,9 @@ impl Translations {
         page: PageNo,
     ) -> Result<WritablePage, Refusal>
         requires backed { AreBacked (P.content store.now) (table_of maps.now) }
-        requires translations { AreTrue (P.content store.now) (table_of maps.now) (places_of self.now) }
+        requires translations { AreTrue (P.content store.now) (table_of maps.now) (translations_of self.now) }
         ensures { MatchResult result
-            (λ found. IsWritable (P.content store.now) (table_of maps.now) (places_of self.now) root.0 page found
+            (λ found. IsWritable (P.content store.now) (table_of maps.now) (translations_of self.now) root.0 page found
             × (refusal_at (P.content store.now) writing (table_of maps.now root.0 page) ≡ None))
             (λ refusal. refusal_at (P.content store.now) writing (table_of maps.now root.0 page) ≡ Some refusal) }
     {

@@ -7,12 +7,12 @@ ghost use Rattle.vm_model.specs.declared.space.Entry.{Entry};
 ghost use Rattle.vm_model.specs.Contents.Content.{IsGood};
 ghost use Rattle.vm_model.specs.Contents.Owning.{Owns};
 ghost use Rattle.mapping_set.specs.Backed.{AreBacked};
-ghost use Rattle.fault.specs.Table.{AreTrue, IsOfEntry, places_of, room_of};
-ghost use Rattle.fault.specs.Access.{AnswersWrite, Writes};
-ghost use Rattle.fault.specs.inside.Both.{AreFound, Finds, RefusesTwo};
+ghost use Rattle.fault.specs.Table.{AreTrue, IsOfEntry, translations_of, room_of};
+ghost use Rattle.fault.specs.Access.{AnswersWrite, WritesSpace};
+ghost use Rattle.fault.specs.inside.Both.{AreFound, FindsWritable, RefusesTwo};
 ghost use Rattle.fault.specs.inside.Writable.{IsInStore, IsAbsent, WritesTo, fault_of, faulted};
 ghost use Rattle.pages.specs.Needs.{MayOwn};
-ghost use Rattle.fault.specs.inside.Needing.{IsReady, LacksRoom};
+ghost use Rattle.fault.specs.inside.Needing.{HasRoomToWrite, LacksRoomToWrite};
 
 use crate::needing::{frames_for_one, frames_needed};
 use crate::translation::Translation;
@@ -41,11 +41,11 @@ impl Translations {
         bytes: &[u8],
     ) -> Result<u64, Refusal>
         requires backed { AreBacked (P.content store.old) (table_of maps.now) }
-        requires translations { AreTrue (P.content store.old) (table_of maps.now) (places_of self.old) }
+        requires translations { AreTrue (P.content store.old) (table_of maps.now) (translations_of self.old) }
         requires len { length bytes.now ≤ DATA_BYTES }
-        ensures outcome { AnswersWrite (P.content store.old) (table_of maps.now) root.0 addr bytes.now (places_of self.old)
-            (P.content store.new) (places_of self.new) result }
-        ensures translations { AreTrue (P.content store.new) (table_of maps.now) (places_of self.new) }
+        ensures outcome { AnswersWrite (P.content store.old) (table_of maps.now) root.0 addr bytes.now (translations_of self.old)
+            (P.content store.new) (translations_of self.new) result }
+        ensures translations { AreTrue (P.content store.new) (table_of maps.now) (translations_of self.new) }
     {
         if bytes.is_empty() {
             return Ok(0);
@@ -67,12 +67,12 @@ impl Translations {
         bytes: &[u8],
     ) -> Result<u64, Refusal>
         requires backed { AreBacked (P.content store.old) (table_of maps.now) }
-        requires translations { AreTrue (P.content store.old) (table_of maps.now) (places_of self.old) }
+        requires translations { AreTrue (P.content store.old) (table_of maps.now) (translations_of self.old) }
         requires some { 0 < length bytes.now }
         requires one { addr % PAGE + length bytes.now ≤ PAGE }
-        ensures outcome { AnswersWrite (P.content store.old) (table_of maps.now) root.0 addr bytes.now (places_of self.old)
-            (P.content store.new) (places_of self.new) result }
-        ensures translations { AreTrue (P.content store.new) (table_of maps.now) (places_of self.new) }
+        ensures outcome { AnswersWrite (P.content store.old) (table_of maps.now) root.0 addr bytes.now (translations_of self.old)
+            (P.content store.new) (translations_of self.new) result }
+        ensures translations { AreTrue (P.content store.new) (table_of maps.now) (translations_of self.new) }
     {
         let page = page_of(addr);
         let found = match self.check_write(store, maps, root, page) {
@@ -99,12 +99,12 @@ impl Translations {
         bytes: &[u8],
     ) -> Result<u64, Refusal>
         requires backed { AreBacked (P.content store.old) (table_of maps.now) }
-        requires translations { AreTrue (P.content store.old) (table_of maps.now) (places_of self.old) }
+        requires translations { AreTrue (P.content store.old) (table_of maps.now) (translations_of self.old) }
         requires len { length bytes.now ≤ DATA_BYTES }
         requires two { PAGE < addr % PAGE + length bytes.now }
-        ensures outcome { AnswersWrite (P.content store.old) (table_of maps.now) root.0 addr bytes.now (places_of self.old)
-            (P.content store.new) (places_of self.new) result }
-        ensures translations { AreTrue (P.content store.new) (table_of maps.now) (places_of self.new) }
+        ensures outcome { AnswersWrite (P.content store.old) (table_of maps.now) root.0 addr bytes.now (translations_of self.old)
+            (P.content store.new) (translations_of self.new) result }
+        ensures translations { AreTrue (P.content store.new) (table_of maps.now) (translations_of self.new) }
     {
         let (first, second) = match self.check_two(store, maps, root, page_of(addr)) {
             Ok(found) => found,
@@ -129,11 +129,11 @@ impl Translations {
         page: PageNo,
     ) -> Result<(WritablePage, WritablePage), Refusal>
         requires backed { AreBacked (P.content store.now) (table_of maps.now) }
-        requires translations { AreTrue (P.content store.now) (table_of maps.now) (places_of self.now) }
+        requires translations { AreTrue (P.content store.now) (table_of maps.now) (translations_of self.now) }
         requires page { page < PAGES_END }
         ensures { MatchResult result
-            (λ found. Finds (P.content store.now) (table_of maps.now) (places_of self.now) root.0 page found.0
-            × Finds (P.content store.now) (table_of maps.now) (places_of self.now) root.0 (page + 1) found.1)
+            (λ found. FindsWritable (P.content store.now) (table_of maps.now) (translations_of self.now) root.0 page found.0
+            × FindsWritable (P.content store.now) (table_of maps.now) (translations_of self.now) root.0 (page + 1) found.1)
             (λ refusal. RefusesTwo (P.content store.now) (table_of maps.now) root.0 page refusal) }
     {
         let first = match self.check_write(store, maps, root, page) {
@@ -158,16 +158,16 @@ impl Translations {
         second: WritablePage,
     )
         requires found { (table : ℕ → ℕ → Option Entry)
-            × AreFound (P.content store.old) table (places_of self.old) root.0 (addr / PAGE) first second }
+            × AreFound (P.content store.old) table (translations_of self.old) root.0 (addr / PAGE) first second }
         requires len { length bytes.now ≤ DATA_BYTES }
         requires two { PAGE < addr % PAGE + length bytes.now }
         requires spare { fault_of first + fault_of second ≤ P.spare store.old }
         requires room { fault_of first + fault_of second ≤ room_of self.old }
         ensures writes { (table : ℕ → ℕ → Option Entry)
-            → AreFound (P.content store.old) table (places_of self.old) root.0 (addr / PAGE) first second
-            → Writes (P.content store.old) table root.0 addr bytes.now (places_of self.old) (fault_of first + fault_of second)
-            (P.content store.new) (places_of self.new)
-            × AreTrue (P.content store.new) table (places_of self.new) }
+            → AreFound (P.content store.old) table (translations_of self.old) root.0 (addr / PAGE) first second
+            → WritesSpace (P.content store.old) table root.0 addr bytes.now (translations_of self.old) (fault_of first + fault_of second)
+            (P.content store.new) (translations_of self.new)
+            × AreTrue (P.content store.new) table (translations_of self.new) }
     {
         let page = page_of(addr);
         let at = in_page(addr);
@@ -185,9 +185,9 @@ impl Translations {
         faults: u64,
     ) -> Result<(), Refusal>
         ensures content { P.content store.new ≡ P.content store.old }
-        ensures places { places_of self.new ≡ places_of self.old }
-        ensures ok { OnOk result (IsReady (P.content store.old) need faults (P.spare store.new) (room_of self.new)) }
-        ensures err { IfErr result (LacksRoom (P.content store.old) need faults) }
+        ensures places { translations_of self.new ≡ translations_of self.old }
+        ensures ok { OnOk result (HasRoomToWrite (P.content store.old) need faults (P.spare store.new) (room_of self.new)) }
+        ensures err { IfErr result (LacksRoomToWrite (P.content store.old) need faults) }
     {
         if need > u64::from(store.free()) {
             return Err(Refusal::NoMemory);
@@ -216,14 +216,14 @@ impl Translations {
     )
         requires good { IsGood (P.content store.old) }
         requires found { IsInStore (P.content store.old) found }
-        requires same { IsOfEntry (places_of self.old) root.0 page found.entry }
-        requires absent { IsAbsent (places_of self.old) root.0 page found }
+        requires same { IsOfEntry (translations_of self.old) root.0 page found.entry }
+        requires absent { IsAbsent (translations_of self.old) root.0 page found }
         requires within { at + length bytes.now ≤ PAGE }
         requires free { MayOwn (P.content store.old) found.entry.koid.0 found.entry.page }
         requires spare { fault_of found ≤ P.spare store.old }
         requires room { fault_of found ≤ room_of self.old }
-        ensures writes { WritesTo root.0 page found at bytes.now (P.content store.old) (places_of self.old)
-            (P.content store.new) (places_of self.new) }
+        ensures writes { WritesTo root.0 page found at bytes.now (P.content store.old) (translations_of self.old)
+            (P.content store.new) (translations_of self.new) }
         ensures spare { P.spare store.old ≤ P.spare store.new + fault_of found }
         ensures room { room_of self.old ≤ room_of self.new + fault_of found }
     {
@@ -243,14 +243,14 @@ impl Translations {
     ) -> Tag
         requires good { IsGood (P.content store.old) }
         requires found { IsInStore (P.content store.old) found }
-        requires same { IsOfEntry (places_of self.old) root.0 page found.entry }
-        requires absent { IsAbsent (places_of self.old) root.0 page found }
+        requires same { IsOfEntry (translations_of self.old) root.0 page found.entry }
+        requires absent { IsAbsent (translations_of self.old) root.0 page found }
         requires free { MayOwn (P.content store.old) found.entry.koid.0 found.entry.page }
         requires spare { fault_of found ≤ P.spare store.old }
         requires room { fault_of found ≤ room_of self.old }
         ensures owns { Owns (P.content store.old) (P.content store.new) found.entry.koid.0 found.entry.page result.0 }
-        ensures places { places_of self.new ≡ (if is_some found.frame then places_of self.old
-            else faulted (places_of self.old) root.0 page found.entry result) }
+        ensures places { translations_of self.new ≡ (if is_some found.frame then translations_of self.old
+            else faulted (translations_of self.old) root.0 page found.entry result) }
         ensures spare { P.spare store.old ≤ P.spare store.new + fault_of found }
         ensures room { room_of self.old ≤ room_of self.new + fault_of found }
     {
@@ -271,13 +271,13 @@ impl Translations {
     ) -> Tag
         requires good { IsGood (P.content store.old) }
         requires found { IsInStore (P.content store.old) found }
-        requires same { IsOfEntry (places_of self.old) root.0 page found.entry }
-        requires absent { IsAbsent (places_of self.old) root.0 page found }
+        requires same { IsOfEntry (translations_of self.old) root.0 page found.entry }
+        requires absent { IsAbsent (translations_of self.old) root.0 page found }
         requires free { MayOwn (P.content store.old) found.entry.koid.0 found.entry.page }
         requires spare { 1 ≤ P.spare store.old }
         requires room { 1 ≤ room_of self.old }
         ensures owns { Owns (P.content store.old) (P.content store.new) found.entry.koid.0 found.entry.page result.0 }
-        ensures places { places_of self.new ≡ faulted (places_of self.old) root.0 page found.entry result }
+        ensures places { translations_of self.new ≡ faulted (translations_of self.old) root.0 page found.entry result }
         ensures spare { P.spare store.old ≤ P.spare store.new + 1 }
         ensures room { room_of self.old ≤ room_of self.new + 1 }
     {
@@ -288,10 +288,10 @@ impl Translations {
 
     // Translates a page for writing, with the frame of the page of the VMO.
     fn translate_to_write(&mut self, root: RegionName, page: PageNo, found: WritablePage, tag: Tag)
-        requires same { IsOfEntry (places_of self.old) root.0 page found.entry }
-        requires absent { IsAbsent (places_of self.old) root.0 page found }
+        requires same { IsOfEntry (translations_of self.old) root.0 page found.entry }
+        requires absent { IsAbsent (translations_of self.old) root.0 page found }
         requires room { 1 ≤ room_of self.old }
-        ensures places { places_of self.new ≡ faulted (places_of self.old) root.0 page found.entry tag }
+        ensures places { translations_of self.new ≡ faulted (translations_of self.old) root.0 page found.entry tag }
         ensures room { room_of self.old ≤ room_of self.new + 1 }
     {
         let translation = Translation {

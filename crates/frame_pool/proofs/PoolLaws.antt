@@ -15,8 +15,8 @@ use Rattle.vm_base.specs.Search.{count_below}
 use Rattle.vm_base.proofs.SearchLaws.{count_below_same, bit-true}
 use Rattle.vm_base.proofs.EntryLaws.{some_is, with_key-same, with_key-other, with_key-stays, entry_count-empty, entry_count-change, entry_count-with_key, entry_count-without_key}
 use Rattle.frame_pool.specs.declared.frame_pool.FramePool.TheInside.{Inside}
-use Rattle.frame_pool.specs.inside.PoolFields.{shown, pool_of, ArePool}
-use Rattle.frame_pool.proofs.ShownLaws.{length-shown, shown_blank, shown_plain, shown-marked, shown-unmarked, shown-written}
+use Rattle.frame_pool.specs.inside.PoolFields.{frames_shown, pool_of, ArePool}
+use Rattle.frame_pool.proofs.ShownLaws.{length-shown, shown_blank, shown_plain, frames_shown-marked, frames_shown-unmarked, frames_shown-written}
 use Rattle.frame_pool.specs.declared.frame_pool.Backlink.{Backlink}
 use Rattle.frame_pool.specs.Pool.{Pool, is_idle, taken_frames, frame_bytes, taken_count, links_of, no_link, Takes, AreDistinctBelow, IsPool}
 
@@ -337,7 +337,7 @@ module _ (a : Inside) (t : ℕ) (are : ArePool a) (taken : IsSome (taken_frames 
   -- it is marked
   pub ArePool-marked : ArePool (record a { blank = with_item a.blank t true })
   ArePool-marked = record {
-    pool = rw (shown-marked a.buffer.items a.blank.items t (as_many_marks a are))
+    pool = rw (frames_shown-marked a.buffer.items a.blank.items t (as_many_marks a are))
         (IsPool-written (pool_of a) t zeros are.pool taken);
     marked = are.marked;
     buffer_room = are.buffer_room;
@@ -348,7 +348,7 @@ module _ (a : Inside) (t : ℕ) (are : ArePool a) (taken : IsSome (taken_frames 
 
   pub taken_frames-marked :
       taken_frames (pool_of (record a { blank = with_item a.blank t true })) ≡ with_key (taken_frames (pool_of a)) t zeros
-  taken_frames-marked = rw (shown-marked a.buffer.items a.blank.items t (as_many_marks a are))
+  taken_frames-marked = rw (frames_shown-marked a.buffer.items a.blank.items t (as_many_marks a are))
       (taken_frames-written (pool_of a) t zeros are.pool taken)
 
   -- it gets other bytes, and no mark
@@ -358,7 +358,7 @@ module _ (a : Inside) (t : ℕ) (are : ArePool a) (taken : IsSome (taken_frames 
 
     pub ArePool-unmarked : ArePool unmarked
     ArePool-unmarked = record {
-      pool = rw (shown-unmarked a.buffer.items a.blank.items t bytes (as_many_marks a are))
+      pool = rw (frames_shown-unmarked a.buffer.items a.blank.items t bytes (as_many_marks a are))
           (IsPool-written (pool_of a) t bytes are.pool taken);
       marked = are.marked;
       buffer_room = are.buffer_room;
@@ -368,13 +368,13 @@ module _ (a : Inside) (t : ℕ) (are : ArePool a) (taken : IsSome (taken_frames 
     }
 
     pub taken_frames-unmarked : taken_frames (pool_of unmarked) ≡ with_key (taken_frames (pool_of a)) t bytes
-    taken_frames-unmarked = rw (shown-unmarked a.buffer.items a.blank.items t bytes (as_many_marks a are))
+    taken_frames-unmarked = rw (frames_shown-unmarked a.buffer.items a.blank.items t bytes (as_many_marks a are))
         (taken_frames-written (pool_of a) t bytes are.pool taken)
 
   -- it has no mark, and gets other bytes
   module _ (bytes : List ℕ) (mark : Bool) (read : mark ≡ get_or a.blank.items t mark) (plain : mark ≡ false) where
-    seen : shown (set a.buffer.items t bytes) a.blank.items ≡ set (pool_of a).buffer t bytes
-    seen = shown-written a.buffer.items a.blank.items t bytes mark in_frames (as_many_marks a are) read plain
+    seen : frames_shown (set a.buffer.items t bytes) a.blank.items ≡ set (pool_of a).buffer t bytes
+    seen = frames_shown-written a.buffer.items a.blank.items t bytes mark in_frames (as_many_marks a are) read plain
 
     pub ArePool-plain : ArePool (record a { buffer = with_item a.buffer t bytes })
     ArePool-plain = record {

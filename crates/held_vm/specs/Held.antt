@@ -18,8 +18,8 @@ abbrev pub state_held : {S I T : Type 0} → (S → Content) → (I → Content 
 state_held content state h = state h.interpreter (content h.store)
 
 -- the machine of one that answers as `run` does
-abbrev pub machine_in : {S : Type 0} → (S → Content) → Held S Parts → Machine
-machine_in content h = machine_of (content h.store) h.interpreter
+abbrev pub held_machine : {S : Type 0} → (S → Content) → Held S Parts → Machine
+held_machine content h = machine_of (content h.store) h.interpreter
 
 -- an interpreter and its store stand together for a good state
 pub record StandTogether {S I T : Type 0} (Agrees : I → Content → Type 0) (IsGood : T → Type 0) (content : S → Content) (state : I → Content → T)

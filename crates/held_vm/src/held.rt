@@ -4,7 +4,7 @@ ghost use Rattle.std.specs.Prelude.{◌≡◌, ◌<◌, ◌≤◌, length, IfOk,
 ghost use Rattle.vm_base.specs.declared.limits.TheConstants.{FRAMES, KOIDS};
 ghost use Rattle.vm_model.specs.Contents.Content.{nothing};
 ghost use Rattle.vm_model.specs.Machine.Machine.{empty_machine};
-ghost use Rattle.held_vm.specs.Held.{machine_in, state_held, Answers};
+ghost use Rattle.held_vm.specs.Held.{held_machine, state_held, Answers};
 
 use page_store::PageStore;
 use script_io::BoundedSink;
@@ -52,7 +52,7 @@ impl<P: PageStore> HeldVm<P> {
     pub fn new(alloc: Global, frames: u32, store: P) -> Result<HeldVm<P>, HostMemory>
         requires frames { 1 ≤ frames × frames ≤ FRAMES }
         requires empty { P.content store ≡ nothing }
-        ensures machine { IfOk result (λ h. machine_in P.content h ≡ empty_machine frames) }
+        ensures machine { IfOk result (λ h. held_machine P.content h ≡ empty_machine frames) }
     {
         HeldVm::hold(alloc, frames, store, VmInterpreter::new(alloc))
     }

@@ -11,9 +11,9 @@ use Rattle.script_io.specs.Faults.{HasFailed}
 use Rattle.script_io.specs.Memory.{Bounded, bounded_faults}
 use Rattle.script_io.specs.declared.status.Status.{Status}
 use Rattle.script_io.specs.declared.status.Status.TheVariants.{Done, Usage, ReadFault, WriteFault, ScriptLimit}
-use Rattle.served.specs.Answering.{Run}
+use Rattle.served.specs.Answering.{AnsweringRun}
 use Rattle.served.specs.Outcome.{AnswersPart, BreaksOff, EndsAs}
-use Rattle.served.proofs.RunLaws.{Run-more}
+use Rattle.served.proofs.RunLaws.{AnsweringRun-more}
 use Rattle.vm_session.specs.Plain.{plain}
 use Rattle.held_vm.proofs.AnswerLaws.{full_by}
 use Rattle.kept_vm.specs.Kept.{IsRun, IsLongRun}
@@ -44,7 +44,7 @@ whole_lines-front (b ∷ bytes) behind =
 
 -- what `answered_lines_are_a_legal_run` says
 abbrev RunsAreLegal : Type 0
-RunsAreLegal = (frames : ℕ) (lines : List (List ℕ)) (out : List ℕ) (last : Machine) → Run plain (plain.start frames) lines out last ↔ Legal frames lines out last
+RunsAreLegal = (frames : ℕ) (lines : List (List ℕ)) (out : List ℕ) (last : Machine) → AnsweringRun plain (plain.start frames) lines out last ↔ Legal frames lines out last
 
 module _ (legal : RunsAreLegal) (frames limit : ℕ) (script left taken : List ℕ) (room room' : ℕ) (content : Content) where
   long_part : (lines behind : List (List ℕ)) → lines_of script ≡ lines ++ behind
@@ -55,7 +55,7 @@ module _ (legal : RunsAreLegal) (frames limit : ℕ) (script left taken : List �
       let out : taken ≡ some.before ++ some.part = ap (drop 1) some.written in
       let text : some.before ++ some.text ≡ taken ++ some.rest = ap (λ xs. some.before ++ xs) some.cut
       ∙ (sym (append_assoc some.before some.part some.rest) ∙ ap (λ xs. xs ++ some.rest) (sym out)) in
-      let run = Run-more plain (plain.start frames) some.mid some.last done some.line some.before some.text some.run some.gives in (
+      let run = AnsweringRun-more plain (plain.start frames) some.mid some.last done some.line some.before some.text some.run some.gives in (
         ap (λ (xs : List ℕ). get_or xs 0 0) some.written,
         record {
           lines = done ++ some.line ∷ [];

@@ -3,17 +3,17 @@ use Rattle.std.specs.Prelude.{◌≡◌, ℕ, ◌<◌, ◌≤◌, List, ◌++◌
 use Rattle.vm_base.specs.declared.limits.TheConstants.{FRAMES}
 use Rattle.vm_model.specs.Machine.Machine.{Machine, empty_machine}
 use Rattle.vm_model.specs.Scripts.Run.{lines_of, Legal}
-use Rattle.cow_forest.specs.Store.{content_of}
+use Rattle.cow_forest.specs.Store.{forest_content}
 use Rattle.vm_session.specs.Plain.{plain}
 use Rattle.held_vm.specs.declared.held.AnswerError.{AnswerError}
-use Rattle.held_vm.specs.Held.{machine_in, Answers}
+use Rattle.held_vm.specs.Held.{held_machine, Answers}
 use Rattle.kept_vm.specs.declared.opening.KeptVm.{KeptVm}
 use Rattle.kept_vm.specs.declared.opening.OpenError.{OpenError}
 use Rattle.kept_vm.specs.declared.script.ScriptError.{ScriptError}
 
 -- the machine that is kept
 abbrev pub machine_kept : KeptVm → Machine
-machine_kept kept = machine_in content_of kept.held
+machine_kept kept = held_machine forest_content kept.held
 
 -- ---- opening
 

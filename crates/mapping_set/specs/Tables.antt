@@ -26,8 +26,8 @@ abbrev pub table_of : Mappings → ℕ → ℕ → Option Entry
 table_of m = table_in (values_of m.pieces)
 
 -- how many more pieces or places fit with no memory from the host
-abbrev pub spare_of : Mappings → ℕ
-spare_of m = m.spare
+abbrev pub mapping_spare : Mappings → ℕ
+mapping_spare m = m.spare
 
 -- the pieces of each root region, by its number and the last page of each
 abbrev pub pieces_of : Mappings → ℕ → ℕ → Option Piece
@@ -114,7 +114,7 @@ pub record IsRestOf (pieces : ℕ → Option Piece) (from : ℕ) (piece : Piece)
   pub ends : piece.first + piece.count ≡ whole.first + whole.count
 
 -- The piece is all that one of those of a root region has on the pages from `from` to below `end`.
-pub record IsPartOf (pieces : ℕ → Option Piece) (from end : ℕ) (piece : Piece) : Type 0 where
+pub record IsPieceWithin (pieces : ℕ → Option Piece) (from end : ℕ) (piece : Piece) : Type 0 where
   pub rest : Piece
   pub is : IsRestOf pieces from rest
   pub begins : piece.first ≡ rest.first

@@ -9,9 +9,9 @@ ghost use Rattle.vm_model.specs.Space.Table.{with_pages, with_perm, has_entry};
 ghost use Rattle.mapping_set.specs.declared.piece.Piece.{Piece};
 ghost use Rattle.mapping_set.specs.Pieces.{list_number, piece_from, piece_until, IsHeld, HasNoHeld, IsOfRegion, IsBorder};
 ghost use Rattle.mapping_set.specs.Tables.{places_of, with_place, IsClear, HasNoClear, IsFirstClear};
-ghost use Rattle.mapping_set.specs.Tables.{table_of, pieces_of, spare_of, with_piece, without_piece, without_taken};
+ghost use Rattle.mapping_set.specs.Tables.{table_of, pieces_of, mapping_spare, with_piece, without_piece, without_taken};
 ghost use Rattle.mapping_set.specs.Tables.{IsBare, IsBareFrom, IsFull, IsNextPiece, IsPieceOf, IsFirstPiece, IsPieceIn, entries_in};
-ghost use Rattle.mapping_set.specs.Tables.{IsOneOf, IsRestOf, IsPartOf, IsFirstGap, HasNoGap};
+ghost use Rattle.mapping_set.specs.Tables.{IsOneOf, IsRestOf, IsPieceWithin, IsFirstGap, HasNoGap};
 
 use crate::piece::Piece;
 use crate::taken::{clear_places, free_place, hold_place};
@@ -22,7 +22,7 @@ use vm_base::{HostMemory, NAMES, PAGES_END, PageNo, Perm, RegionName};
 use vm_model::Entry;
 
 /// The entries of all address spaces: what each page shows. Contracts see the entry of each root region and page
-/// (`table_of`), the pieces that a call takes or answers (`pieces_of`), and `spare_of`, how many more pieces fit with
+/// (`table_of`), the pieces that a call takes or answers (`pieces_of`), and `mapping_spare`, how many more pieces fit with
 /// no memory from the host. No call but `reserve` asks the host for memory.
 #[derive(Drop)]
 pub struct MappingSet {
@@ -59,7 +59,7 @@ impl MappingSet {
     /// Makes a set with no entry and no room.
     pub fn new(alloc: Global) -> MappingSet
         ensures table { table_of result ≡ λ root p. None }
-        ensures spare { spare_of result ≡ 0 }
+        ensures spare { mapping_spare result ≡ 0 }
         ensures places { places_of result ≡ λ l p. None }
     {
         MappingSet {
@@ -72,9 +72,9 @@ impl MappingSet {
     /// Makes room for `n` pieces or places more. `HostMemory` if the host has too little memory. The entries stay as
     /// they are on both answers, and no room is lost.
     pub fn reserve(&mut self, n: u64) -> Result<(), HostMemory>
-        ensures room { OnOk result (n ≤ spare_of self.new) }
+        ensures room { OnOk result (n ≤ mapping_spare self.new) }
         ensures table { table_of self.new ≡ table_of self.old }
-        ensures spare { spare_of self.old ≤ spare_of self.new }
+        ensures spare { mapping_spare self.old ≤ mapping_spare self.new }
         ensures places { places_of self.new ≡ places_of self.old }
     {
         let Ok(()) = self.pieces.reserve(n as usize) else {
@@ -97,11 +97,11 @@ impl MappingSet {
         requires end { piece.first + piece.count ≤ PAGES_END }
         requires pages { piece.entry.page + piece.count ≤ PAGES_END }
         requires bare { IsBare (table_of self.old root.0) piece.first (piece.first + piece.count) }
-        requires room { 1 ≤ spare_of self.old }
+        requires room { 1 ≤ mapping_spare self.old }
         ensures table { table_of self.new ≡ with_piece (table_of self.old) root.0 piece }
         ensures whole { pieces_of self.new ≡
             with_pair (pieces_of self.old) root.0 (piece.first + piece.count - 1) (Some piece) }
-        ensures spare { spare_of self.old ≤ spare_of self.new + 1 }
+        ensures spare { mapping_spare self.old ≤ mapping_spare self.new + 1 }
         ensures places { IsOpen (places_of self.old (list_number piece.entry.region.0 root.0)) piece.first piece.count
             → places_of self.new ≡ places_of self.old }
     {
@@ -168,11 +168,11 @@ impl MappingSet {
         requires end { first + count ≤ PAGES_END }
         requires clear { IsClear (places_of self.old (list_number region.0 root.0)) (table_of self.old) root.0 region.0
             first count }
-        requires room { 1 ≤ spare_of self.old }
+        requires room { 1 ≤ mapping_spare self.old }
         ensures places { places_of self.new ≡
             with_place (places_of self.old) (list_number region.0 root.0) first count name }
         ensures table { table_of self.new ≡ table_of self.old }
-        ensures spare { spare_of self.old ≤ spare_of self.new + 1 }
+        ensures spare { mapping_spare self.old ≤ mapping_spare self.new + 1 }
     {
         hold_place(
             &mut self.taken,
@@ -187,7 +187,7 @@ impl MappingSet {
     pub fn free_place(&mut self, root: RegionName, region: RegionName, first: PageNo)
         ensures places { places_of self.new ≡ with_pair (places_of self.old) (list_number region.0 root.0) first None }
         ensures table { table_of self.new ≡ table_of self.old }
-        ensures spare { spare_of self.old ≤ spare_of self.new }
+        ensures spare { mapping_spare self.old ≤ mapping_spare self.new }
     {
         free_place(&mut self.taken, list_number(region, root), first);
     }
@@ -229,14 +229,14 @@ impl MappingSet {
     /// left of the piece, before the range or behind it, stays. `first + count` may pass 2^64. The call costs a fixed
     /// number of look-ups and changes, however many pages the piece has.
     pub fn carve(&mut self, root: RegionName, first: PageNo, count: u64) -> Option<Piece>
-        requires room { 1 ≤ spare_of self.old }
+        requires room { 1 ≤ mapping_spare self.old }
         ensures piece { MatchOption result (IsBare (table_of self.old root.0) first (first + count))
             (IsFirstPiece (table_of self.old root.0) first (first + count)) }
-        ensures whole { IfSome result (IsPartOf (pieces_of self.old root.0) first (first + count)) }
+        ensures whole { IfSome result (IsPieceWithin (pieces_of self.old root.0) first (first + count)) }
         ensures table { table_of self.new ≡ without_taken (table_of self.old) root.0 result }
-        ensures spare { spare_of self.old ≤ spare_of self.new + 1 }
-        ensures none { result ≡ None → spare_of self.old ≤ spare_of self.new }
-        ensures rest { spare_of self.new < spare_of self.old → IsBare (table_of self.new root.0) first (first + count) }
+        ensures spare { mapping_spare self.old ≤ mapping_spare self.new + 1 }
+        ensures none { result ≡ None → mapping_spare self.old ≤ mapping_spare self.new }
+        ensures rest { mapping_spare self.new < mapping_spare self.old → IsBare (table_of self.new root.0) first (first + count) }
         ensures places { places_of self.new ≡ places_of self.old }
     {
         if count == 0 {
@@ -265,7 +265,7 @@ impl MappingSet {
         ensures table { table_of self.new ≡ without_taken (table_of self.old) root.0 result }
         ensures fewer { IfSome result (λ piece.
             entries_in (table_of self.new) root.0 region.0 < entries_in (table_of self.old) root.0 region.0) }
-        ensures spare { spare_of self.old ≤ spare_of self.new }
+        ensures spare { mapping_spare self.old ≤ mapping_spare self.new }
         ensures places { places_of self.new ≡ places_of self.old }
     {
         let last = self.last_of(root, region)?;
@@ -275,10 +275,10 @@ impl MappingSet {
     /// Gives each entry of a range other permissions. Each page of the range, `count` from `first` on, has an entry.
     pub fn restrict(&mut self, root: RegionName, first: PageNo, count: u64, perm: Perm)
         requires full { IsFull (table_of self.old root.0) first (first + count) }
-        requires room { 2 ≤ spare_of self.old }
+        requires room { 2 ≤ mapping_spare self.old }
         ensures table { table_of self.new ≡
             with_pages (table_of self.old) root.0 first (first + count) (with_perm perm (table_of self.old root.0)) }
-        ensures spare { spare_of self.old ≤ spare_of self.new + 2 }
+        ensures spare { mapping_spare self.old ≤ mapping_spare self.new + 2 }
         ensures places { places_of self.new ≡ places_of self.old }
     {
         let end = first + count;
@@ -307,7 +307,7 @@ impl MappingSet {
             → places_of self.new ≡ places_of self.old }
         ensures table { table_of self.new ≡ table_of self.old }
         ensures pieces { values_of self.new.pieces ≡ values_of self.old.pieces }
-        ensures spare { spare_of self.old ≤ spare_of self.new }
+        ensures spare { mapping_spare self.old ≤ mapping_spare self.new }
     {
         clear_places(&mut self.taken, list_number(region, root), first, count);
     }
@@ -318,12 +318,12 @@ impl MappingSet {
         requires end { piece.first + piece.count ≤ PAGES_END }
         requires pages { piece.entry.page + piece.count ≤ PAGES_END }
         requires bare { IsBare (table_of self.old root.0) piece.first (piece.first + piece.count) }
-        requires room { 1 ≤ spare_of self.old }
+        requires room { 1 ≤ mapping_spare self.old }
         requires vacant { IsOpen (places_of self.old (list_number piece.entry.region.0 root.0)) piece.first piece.count }
         ensures table { table_of self.new ≡ with_piece (table_of self.old) root.0 piece }
         ensures pieces { values_of self.new.pieces ≡
             with_pair (values_of self.old.pieces) root.0 (piece.first + piece.count - 1) (Some piece) }
-        ensures spare { spare_of self.old ≤ spare_of self.new + 1 }
+        ensures spare { mapping_spare self.old ≤ mapping_spare self.new + 1 }
         ensures places { places_of self.new ≡ places_of self.old }
     {
         let _apart = self.taken.len();
@@ -342,7 +342,7 @@ impl MappingSet {
         ensures shown { IsPieceOf (table_of self.old root.0) result }
         ensures table { (x : Piece) → values_of self.old.pieces root.0 last ≡ Some x
             → table_of self.new ≡ without_piece (table_of self.old) root.0 x }
-        ensures spare { spare_of self.new ≡ spare_of self.old + 1 }
+        ensures spare { mapping_spare self.new ≡ mapping_spare self.old + 1 }
         ensures places { places_of self.new ≡ places_of self.old }
     {
         let piece = self.pieces.remove(u64::from(root.0), last);
@@ -365,15 +365,15 @@ impl MappingSet {
     /// Cuts the piece that has both the page `page` and the one before it in two, if there is one. The entries stay.
     /// The next piece from `page` on then begins at `page` or later, and is what is left of one that stood.
     fn cut(&mut self, root: RegionName, page: PageNo)
-        requires room { 1 ≤ spare_of self.old }
+        requires room { 1 ≤ mapping_spare self.old }
         ensures table { table_of self.new ≡ table_of self.old }
         ensures border { IsBorder (values_of self.new.pieces root.0) page }
         ensures kept { (q : ℕ) → IsBorder (values_of self.old.pieces root.0) q
             → IsBorder (values_of self.new.pieces root.0) q }
         ensures rest { (last : ℕ) (x : Piece) → IsHeld (values_of self.new.pieces) root.0 page last x
             → IsRestOf (values_of self.old.pieces root.0) page x }
-        ensures spare { spare_of self.old ≤ spare_of self.new + 1 }
-        ensures whole { table_of self.old root.0 page ≡ None → spare_of self.old ≤ spare_of self.new }
+        ensures spare { mapping_spare self.old ≤ mapping_spare self.new + 1 }
+        ensures whole { table_of self.old root.0 page ≡ None → mapping_spare self.old ≤ mapping_spare self.new }
         ensures places { places_of self.new ≡ places_of self.old }
     {
         let Some((last, piece)) = self.held(root, page) else {
@@ -390,7 +390,7 @@ impl MappingSet {
         requires piece { values_of self.old.pieces root.0 last ≡ Some piece }
         requires page { (piece.first ≤ from) × (from ≤ last) }
         ensures table { table_of self.new ≡ with_pages (table_of self.old) root.0 from (last + 1) (λ p. None) }
-        ensures spare { spare_of self.old ≤ spare_of self.new }
+        ensures spare { mapping_spare self.old ≤ mapping_spare self.new }
         ensures places { places_of self.new ≡ places_of self.old }
     {
         if piece.first < from {
@@ -412,9 +412,9 @@ impl MappingSet {
     )
         requires piece { values_of self.old.pieces root.0 last ≡ Some piece }
         requires order { (piece.first ≤ from) × (from < end) × (end ≤ last) }
-        requires room { 1 ≤ spare_of self.old }
+        requires room { 1 ≤ mapping_spare self.old }
         ensures table { table_of self.new ≡ with_pages (table_of self.old) root.0 from end (λ p. None) }
-        ensures spare { spare_of self.old ≤ spare_of self.new + 1 }
+        ensures spare { mapping_spare self.old ≤ mapping_spare self.new + 1 }
         ensures places { places_of self.new ≡ places_of self.old }
     {
         if piece.first < from {
@@ -429,12 +429,12 @@ impl MappingSet {
     fn split(&mut self, root: RegionName, last: PageNo, piece: Piece, page: PageNo, end: PageNo)
         requires piece { values_of self.old.pieces root.0 last ≡ Some piece }
         requires order { (piece.first < page) × (page ≤ end) × (end ≤ last) }
-        requires room { 1 ≤ spare_of self.old }
+        requires room { 1 ≤ mapping_spare self.old }
         ensures table { table_of self.new ≡ with_pages (table_of self.old) root.0 page end (λ p. None) }
         ensures pieces { values_of self.new.pieces ≡ with_pair
             (with_pair (values_of self.old.pieces) root.0 last (Some (piece_from piece end)))
             root.0 (page - 1) (Some (piece_until piece page)) }
-        ensures spare { spare_of self.old ≤ spare_of self.new + 1 }
+        ensures spare { mapping_spare self.old ≤ mapping_spare self.new + 1 }
         ensures places { places_of self.new ≡ places_of self.old }
     {
         let _apart = self.taken.len();
@@ -453,7 +453,7 @@ impl MappingSet {
         requires piece { values_of self.old.pieces root.0 last ≡ Some piece }
         requires page { (piece.first < page) × (page ≤ last) }
         ensures table { table_of self.new ≡ with_pages (table_of self.old) root.0 page (last + 1) (λ p. None) }
-        ensures spare { spare_of self.old ≤ spare_of self.new }
+        ensures spare { mapping_spare self.old ≤ mapping_spare self.new }
         ensures places { places_of self.new ≡ places_of self.old }
     {
         let _apart = self.taken.len();
@@ -471,7 +471,7 @@ impl MappingSet {
         requires piece { values_of self.old.pieces root.0 last ≡ Some piece }
         requires page { (piece.first < page) × (page ≤ last) }
         ensures table { table_of self.new ≡ with_pages (table_of self.old) root.0 piece.first page (λ p. None) }
-        ensures spare { spare_of self.old ≤ spare_of self.new }
+        ensures spare { mapping_spare self.old ≤ mapping_spare self.new }
         ensures places { places_of self.new ≡ places_of self.old }
     {
         let _apart = self.taken.len();
@@ -490,7 +490,7 @@ impl MappingSet {
         requires ends { IsBorder (values_of self.old.pieces root.0) end }
         ensures table { table_of self.new ≡
             with_pages (table_of self.old) root.0 first end (with_perm perm (table_of self.old root.0)) }
-        ensures spare { spare_of self.old ≤ spare_of self.new }
+        ensures spare { mapping_spare self.old ≤ mapping_spare self.new }
         ensures places { places_of self.new ≡ places_of self.old }
     {
         let mut at = first;
@@ -511,7 +511,7 @@ impl MappingSet {
             with_pages (table_of self.old) root.0 at result (with_perm perm (table_of self.old root.0)) }
         ensures begins { IsBorder (values_of self.new.pieces root.0) result }
         ensures ends { IsBorder (values_of self.new.pieces root.0) end }
-        ensures spare { spare_of self.old ≤ spare_of self.new }
+        ensures spare { mapping_spare self.old ≤ mapping_spare self.new }
         ensures places { places_of self.new ≡ places_of self.old }
     {
         let Some((last, piece)) = self.held(root, at) else {

@@ -8,7 +8,7 @@ use Rattle.vm_base.proofs.SearchLaws.{any_below_at, any_below_found, eqb_is, eqb
 use Rattle.vm_base.proofs.EntryLaws.{some_same, passes-some, passes_found, with_key-same, with_key-here, with_key-other, with_key-cases}
 use Rattle.vm_model.specs.Machine.Machine.{Machine}
 use Rattle.moving_machine.specs.Renaming.{Renaming, KeepsFrom}
-use Rattle.moving_machine.specs.Standing.{with_seen, Fits, is_taken, may_have, may_tell, AreSeen}
+use Rattle.moving_machine.specs.Standing.{with_seen, Fits, is_number_taken, may_have, may_tell, AreSeen}
 use Rattle.moving_machine.proofs.NumberLaws.{to_once, to_below}
 use Rattle.moving_machine.proofs.GroupLaws.{extends}
 use Rattle.std.proofs.lemmas.Bool.{cases_eq}
@@ -19,7 +19,7 @@ record AreNumbers (bound : ℕ) (numbers : ℕ → Option ℕ) : Type 0 where
   pub one : (t u k : ℕ) → numbers t ≡ Some k → numbers u ≡ Some k → t ≡ u
 
 module _ (bound : ℕ) where
-  taken_at : (numbers : ℕ → Option ℕ) (t k : ℕ) → t < bound → numbers t ≡ Some k → is_taken bound numbers k ≡ true
+  taken_at : (numbers : ℕ → Option ℕ) (t k : ℕ) → t < bound → numbers t ≡ Some k → is_number_taken bound numbers k ≡ true
   taken_at numbers t k h e = any_below_at bound t (λ u. passes (λ (seen : ℕ). seen == k) (numbers u)) h (passes-some (λ (seen : ℕ). seen == k) (numbers t) k e ∙ eqb_same k)
 
   -- what it means that a frame may have a number
@@ -36,11 +36,11 @@ module _ (bound : ℕ) where
         let is : numbers t ≡ Some k = f ∙ ap (λ (n : ℕ). Some n) same in
         record { low = (are.below t k is).1; same = λ i h. some_same (sym h ∙ is); free = λ u h. are.one u t k h is }
     go None f g =
-        let parts = and_parts (nat_lt k bound) (not (is_taken bound numbers k)) g in
+        let parts = and_parts (nat_lt k bound) (not (is_number_taken bound numbers k)) g in
         record {
           low = ltb-true k bound parts.0;
           same = λ i h. absurd (let none = sym f ∙ h in cc);
-          free = λ u h. absurd (both_ways (is_taken bound numbers k) (not-true (is_taken bound numbers k) parts.1) (taken_at numbers u k (are.below u k h).0 h));
+          free = λ u h. absurd (both_ways (is_number_taken bound numbers k) (not-true (is_number_taken bound numbers k) parts.1) (taken_at numbers u k (are.below u k h).0 h));
         }
 
   AreNumbers-more : (numbers : ℕ → Option ℕ) (t k : ℕ) → t < bound → AreNumbers bound numbers → MayHave numbers t k → AreNumbers bound (with_key numbers t k)
@@ -99,7 +99,7 @@ module _ (bound : ℕ) where
       ])) where
         here : (o : Option ℕ) → numbers t ≡ o → may_have bound numbers o (r.to t) ≡ true
         here (Some j) e = eq-eqb j (r.to t) (known t j e)
-        here None e = and_from (nat_lt (r.to t) bound) _ (lt-ltb (r.to t) bound (to_below r bound t keeps low.0)) (ap not (false_from_ne_true (is_taken bound numbers (r.to t)) (λ f.
+        here None e = and_from (nat_lt (r.to t) bound) _ (lt-ltb (r.to t) bound (to_below r bound t keeps low.0)) (ap not (false_from_ne_true (is_number_taken bound numbers (r.to t)) (λ f.
             let found = any_below_found bound (λ u. passes (λ (seen : ℕ). seen == r.to t) (numbers u)) f in
             let value = passes_found (λ (seen : ℕ). seen == r.to t) (numbers found.0) found.2 in
             let same = eqb_is value.0 (r.to t) value.2 in

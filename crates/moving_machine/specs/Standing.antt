@@ -32,13 +32,13 @@ pub record Fits (own : Machine) (numbers : ℕ → Option ℕ) (frames told : Li
 -- ---- which numbers fit, one after another
 
 -- some frame has this number
-abbrev pub is_taken : ℕ → (ℕ → Option ℕ) → ℕ → Bool
-is_taken bound numbers k = any_below bound (λ t. passes (λ (seen : ℕ). seen == k) (numbers t))
+abbrev pub is_number_taken : ℕ → (ℕ → Option ℕ) → ℕ → Bool
+is_number_taken bound numbers k = any_below bound (λ t. passes (λ (seen : ℕ). seen == k) (numbers t))
 
 -- a frame for which this was seen may have the number: the one that was seen, or else one that no frame has
 abbrev pub may_have : ℕ → (ℕ → Option ℕ) → Option ℕ → ℕ → Bool
 may_have bound numbers (Some seen) k = seen == k
-may_have bound numbers None k = nat_lt k bound && not (is_taken bound numbers k)
+may_have bound numbers None k = nat_lt k bound && not (is_number_taken bound numbers k)
 
 -- these frames may have these numbers, one after another
 abbrev pub may_tell : ℕ → (ℕ → Option ℕ) → List ℕ → List ℕ → Bool

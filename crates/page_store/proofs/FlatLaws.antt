@@ -14,16 +14,16 @@ use Rattle.frame_pool.specs.Pool.{Pool, taken_frames, frame_bytes, taken_count}
 use Rattle.frame_pool.proofs.PoolLaws.{taken_count-is}
 use Rattle.pair_map.specs.declared.pair_map.PairMap.{PairMap}
 use Rattle.pair_map.specs.Maps.{values_of, with_pair, count_of, IsNext}
-use Rattle.vm_model.specs.Contents.Content.{Page, Content, has_tag, nothing, pages_of, views, in_use, used, vmos_of, is_sole_page, sole, created, IsGood}
+use Rattle.vm_model.specs.Contents.Content.{Page, Content, has_tag, nothing, pages_of, views, in_use, used, vmos_of, is_sole_page, sole, created, IsGood, IsNextBelow, HasNoneBelow}
 use Rattle.vm_model.specs.Contents.Sharing.{viewers, IsLeastViewer, snapshotted, without, only}
 use Rattle.vm_model.specs.Contents.Zeroing.{zeroed, resized}
 use Rattle.vm_model.proofs.ContentLaws.{in_use_at, count_from_page, views_found, zero_not_held, held_once, has_tag_held, has_tag_from, IsGood-created, IsGood-nothing, same_content}
 use Rattle.vm_model.proofs.SharingLaws.{views_held, koid_held, koid_some, IsGood-only, IsGood-snapshotted}
 use Rattle.vm_model.proofs.ZeroingLaws.{IsGood-resized, page_past}
-use Rattle.page_store.specs.Pages.{look_at, frame_of, ShowsTag, IsShown}
+use Rattle.page_store.specs.Pages.{look_at, tag_held, ShowsTag, IsShown}
 use Rattle.page_store.specs.declared.page_store.Look.TheVariants as look
-use Rattle.page_store.specs.Held.{IsNextBelow, HasNoneBelow, held_from, showing}
-use Rattle.page_store.specs.Flat.{Flat, page_with, page_from, content_of, IsFlat}
+use Rattle.page_store.specs.Held.{held_from, showing}
+use Rattle.page_store.specs.Flat.{Flat, page_with, page_from, flat_content, IsFlat}
 use Rattle.vm_model.proofs.ContentLaws.{pages_of_le}
 use Rattle.page_store.proofs.HeldLaws.{showing-created}
 use Rattle.vm_model.proofs.CountLaws.{vmos_of-same, vmos_of-created, vmos_of-without}
@@ -35,25 +35,25 @@ page_found pool None held e = absurd cc
 page_found pool (Some tag) held e = (tag, refl, cc)
 
 -- the frame of a page is that of its entry
-pub frame_of-entry : (pool : Pool) (o : Option Tag) → o ≡ frame_of (page_from pool o)
-frame_of-entry pool None = refl
-frame_of-entry pool (Some tag) = refl
+pub tag_held-entry : (pool : Pool) (o : Option Tag) → o ≡ tag_held (page_from pool o)
+tag_held-entry pool None = refl
+tag_held-entry pool (Some tag) = refl
 
 -- ---- frames
 
 -- a frame is taken where some VMO shows it
-pub taken_in_use : (f : Flat) → IsFlat f → (t : ℕ) → is_some (taken_frames f.pool t) ≡ in_use (content_of f) t
-taken_in_use f flat t = flat.taken t ∙ (ap (nat_lt 0) (flat.shares t) ∙ sym (in_use-viewers (content_of f) t))
+pub taken_in_use : (f : Flat) → IsFlat f → (t : ℕ) → is_some (taken_frames f.pool t) ≡ in_use (flat_content f) t
+taken_in_use f flat t = flat.taken t ∙ (ap (nat_lt 0) (flat.shares t) ∙ sym (in_use-viewers (flat_content f) t))
 
 -- as many frames are taken as are used
-pub used_taken : (f : Flat) → IsFlat f → used (content_of f) ≡ taken_count f.pool
+pub used_taken : (f : Flat) → IsFlat f → used (flat_content f) ≡ taken_count f.pool
 unfolding used
 used_taken f flat =
-    count_below_same f.pool.frames (in_use (content_of f)) (λ t. is_some (taken_frames f.pool t))
+    count_below_same f.pool.frames (in_use (flat_content f)) (λ t. is_some (taken_frames f.pool t))
     (λ t h. sym (taken_in_use f flat t)) ∙ sym (taken_count-is f.pool)
 
 -- and the others are free
-pub free_unused : (f : Flat) (n : ℕ) → IsFlat f → n + taken_count f.pool ≡ f.pool.frames → n + used (content_of f) ≡ (content_of f).frames
+pub free_unused : (f : Flat) (n : ℕ) → IsFlat f → n + taken_count f.pool ≡ f.pool.frames → n + used (flat_content f) ≡ (flat_content f).frames
 free_unused f n flat e = omega (arith, used_taken f flat)
 
 -- what is known of the frame of a held page
@@ -63,9 +63,9 @@ pub record IsFrameOf (f : Flat) (held : Page) : Type 0 where
   pub bytes : held.bytes ≡ frame_bytes f.pool held.tag
   pub shown : 1 ≤ get_or f.shares held.tag 0
 
-pub IsFrameOf-held : (f : Flat) (v p : ℕ) (held : Page) → IsFlat f → (content_of f).page v p ≡ Some held → IsFrameOf f held
+pub IsFrameOf-held : (f : Flat) (v p : ℕ) (held : Page) → IsFlat f → (flat_content f).page v p ≡ Some held → IsFrameOf f held
 IsFrameOf-held f v p held flat e =
-    let taken = taken_in_use f flat held.tag ∙ in_use_at (content_of f) held.tag v p held flat.good e refl in
+    let taken = taken_in_use f flat held.tag ∙ in_use_at (flat_content f) held.tag v p held flat.good e refl in
     let found = page_found f.pool (values_of f.rows v p) held e in
     record {
       below = flat.good.tags v p held e;
@@ -75,7 +75,7 @@ IsFrameOf-held f v p held flat e =
     }
 
 -- the frame of a page that is shown is taken
-pub shown_frame : (f : Flat) (t : ℕ) → IsFlat f → IsShown (content_of f) t → IsFrameOf f (record { tag = t; bytes = frame_bytes f.pool t })
+pub shown_frame : (f : Flat) (t : ℕ) → IsFlat f → IsShown (flat_content f) t → IsFrameOf f (record { tag = t; bytes = frame_bytes f.pool t })
 shown_frame f t flat shown =
     let held = IsFrameOf-held f shown.v shown.p shown.held flat shown.shows.page in
     let tag = shown.shows.tag in
@@ -87,11 +87,11 @@ shown_frame f t flat shown =
     }
 
 -- and has the bytes of the page
-pub shown_bytes : (f : Flat) (t v p : ℕ) (held : Page) → IsFlat f → ShowsTag (content_of f) t v p held → frame_bytes f.pool t ≡ held.bytes
+pub shown_bytes : (f : Flat) (t v p : ℕ) (held : Page) → IsFlat f → ShowsTag (flat_content f) t v p held → frame_bytes f.pool t ≡ held.bytes
 shown_bytes f t v p held flat shows = ap (λ (u : ℕ). frame_bytes f.pool u) (sym shows.tag) ∙ sym (IsFrameOf-held f v p held flat shows.page).bytes
 
 -- bytes that were read from its frame
-pub AreBytesOf-read : (f : Flat) (t at n : ℕ) (bytes : List ℕ) (v p : ℕ) (held : Page) → IsFlat f → ShowsTag (content_of f) t v p held → length bytes ≡ n → bytes ≡ take n (drop at (frame_bytes f.pool t)) → bytes ≡ take (length bytes) (drop at held.bytes)
+pub AreBytesOf-read : (f : Flat) (t at n : ℕ) (bytes : List ℕ) (v p : ℕ) (held : Page) → IsFlat f → ShowsTag (flat_content f) t v p held → length bytes ≡ n → bytes ≡ take n (drop at (frame_bytes f.pool t)) → bytes ≡ take (length bytes) (drop at held.bytes)
 AreBytesOf-read f t at n bytes v p held flat shows long e =
     e ∙ (ap (λ (m : ℕ). take m (drop at (frame_bytes f.pool t))) (sym long) ∙ ap (λ (bs : List ℕ). take (length bytes) (drop at bs)) (shown_bytes f t v p held flat shows))
 
@@ -103,7 +103,7 @@ given_back old new t n none is u = ap (λ (map : ℕ → Option (List ℕ)). map
 -- ---- what is found under a page
 
 module _ (f : Flat) (v p : ℕ) (tag : Tag) (flat : IsFlat f) (found : values_of f.rows v p ≡ Some tag) where
-  pub page_is : (content_of f).page v p ≡ Some (page_with f.pool tag)
+  pub page_is : (flat_content f).page v p ≡ Some (page_with f.pool tag)
   page_is = ap (page_from f.pool) found
 
   pub frame_is : IsFrameOf f (page_with f.pool tag)
@@ -117,14 +117,14 @@ module _ (f : Flat) (v p : ℕ) (tag : Tag) (flat : IsFlat f) (found : values_of
   share_is n share = get_or_read f.shares tag.0 n tag_below share 0
 
   -- and says whether the page is sole
-  pub sole_is : (n : ℕ) → n ≡ get_or f.shares tag.0 n → sole (content_of f) v p ≡ (n == 1)
+  pub sole_is : (n : ℕ) → n ≡ get_or f.shares tag.0 n → sole (flat_content f) v p ≡ (n == 1)
   sole_is n share =
-      ap (is_sole_page (content_of f) v) page_is ∙ (sole-viewers (content_of f) v p (page_with f.pool tag) flat.good page_is
+      ap (is_sole_page (flat_content f) v) page_is ∙ (sole-viewers (flat_content f) v p (page_with f.pool tag) flat.good page_is
       ∙ ap (λ (m : ℕ). m == 1) (sym (share_is n share ∙ flat.shares tag.0)))
 
-  pub look_is : (n : ℕ) → n ≡ get_or f.shares tag.0 n → look.Held tag (n == 1) ≡ look_at (content_of f) v ((content_of f).page v p)
-  look_is n share = ap (look.Held tag) (sym (sole_is n share) ∙ ap (is_sole_page (content_of f) v) page_is)
-      ∙ ap (look_at (content_of f) v) (sym page_is)
+  pub look_is : (n : ℕ) → n ≡ get_or f.shares tag.0 n → look.Held tag (n == 1) ≡ look_at (flat_content f) v ((flat_content f).page v p)
+  look_is n share = ap (look.Held tag) (sym (sole_is n share) ∙ ap (is_sole_page (flat_content f) v) page_is)
+      ∙ ap (look_at (flat_content f) v) (sym page_is)
 
 -- ---- a store with no VMO
 
@@ -134,31 +134,31 @@ unfolding viewers
 none-shown c t none = count_below_none c.next (views c t) (λ v h. false_from_ne_true (views c t v) (λ e.
     let page = views_found c t v e in zero_not_held (c.page v page.0) page.1 (none v page.0) page.3))
 
-pub IsFlat-nothing : (f : Flat) → content_of f ≡ record nothing { frames = f.pool.frames } → count_of f.vmos ≡ 0 → length f.shares ≡ f.pool.frames →
+pub IsFlat-nothing : (f : Flat) → flat_content f ≡ record nothing { frames = f.pool.frames } → count_of f.vmos ≡ 0 → length f.shares ≡ f.pool.frames →
     ((t : ℕ) → get_or f.shares t 0 ≡ 0) → ((t : ℕ) → taken_frames f.pool t ≡ None) → IsFlat f
 unfolding nothing vmos_of
 IsFlat-nothing f e few counts zeros free = record {
   good = subst IsGood (sym e) (IsGood-nothing f.pool.frames);
-  live = few ∙ sym (count_below_none f.next (λ v. is_some ((content_of f).count v)) (λ v h. ap (λ (c : Content). is_some (c.count v)) e));
+  live = few ∙ sym (count_below_none f.next (λ v. is_some ((flat_content f).count v)) (λ v h. ap (λ (c : Content). is_some (c.count v)) e));
   counts = counts;
-  shares = λ t. zeros t ∙ sym (none-shown (content_of f) t (λ v p. ap (λ (c : Content). c.page v p) e));
+  shares = λ t. zeros t ∙ sym (none-shown (flat_content f) t (λ v p. ap (λ (c : Content). c.page v p) e));
   taken = λ t. ap is_some (free t) ∙ ap (nat_lt 0) (sym (zeros t));
 }
 
 -- it has no frames
-pub no_frames : (f : Flat) → content_of f ≡ nothing → f.pool.frames ≡ 0
+pub no_frames : (f : Flat) → flat_content f ≡ nothing → f.pool.frames ≡ 0
 unfolding nothing
 no_frames f e = ap (λ (c : Content). c.frames) e
 
-pub no_shares : (f : Flat) → IsFlat f → content_of f ≡ nothing → length f.shares ≡ 0
+pub no_shares : (f : Flat) → IsFlat f → flat_content f ≡ nothing → length f.shares ≡ 0
 no_shares f flat e = flat.counts ∙ no_frames f e
 
-pub no_vmos : (f : Flat) → IsFlat f → content_of f ≡ nothing → count_of f.vmos ≡ 0
+pub no_vmos : (f : Flat) → IsFlat f → flat_content f ≡ nothing → count_of f.vmos ≡ 0
 unfolding nothing vmos_of
-no_vmos f flat e = flat.live ∙ count_below_none f.next (λ v. is_some ((content_of f).count v)) (λ v h. ap (λ (c : Content). is_some (c.count v)) e)
+no_vmos f flat e = flat.live ∙ count_below_none f.next (λ v. is_some ((flat_content f).count v)) (λ v h. ap (λ (c : Content). is_some (c.count v)) e)
 
 pub content-new : (pool : Pool) (vmos : PairMap ℕ) (rows : PairMap Tag) (shares : List ℕ) → pool.frames ≡ 0 → values_of vmos ≡ (λ a b. None) → values_of rows ≡ (λ a b. None) →
-    content_of (record { pool = pool; next = 1; vmos = vmos; rows = rows; shares = shares; asked = 0 }) ≡ nothing
+    flat_content (record { pool = pool; next = 1; vmos = vmos; rows = rows; shares = shares; asked = 0 }) ≡ nothing
 unfolding nothing
 content-new pool vmos rows shares none no-vmo no-row = same_content _ _ none refl (λ v. ap (λ (map : ℕ → ℕ → Option ℕ). map 0 v) no-vmo)
     (λ v p. ap (λ (map : ℕ → ℕ → Option Tag). page_from pool (map v p)) no-row)
@@ -187,12 +187,12 @@ page_free pool other None e = refl
 page_free pool other (Some tag) e = absurd cc
 
 -- it gets its frames
-pub content-filled : (f : Flat) (pool : Pool) → content_of f ≡ nothing → content_of (record f { pool = pool }) ≡ record (content_of f) { frames = pool.frames }
+pub content-filled : (f : Flat) (pool : Pool) → flat_content f ≡ nothing → flat_content (record f { pool = pool }) ≡ record (flat_content f) { frames = pool.frames }
 unfolding nothing
 content-filled f pool empty = same_content _ _ refl refl (λ v. refl)
     (λ v p. page_free f.pool pool (values_of f.rows v p) (ap (λ (c : Content). c.page v p) empty))
 
-pub IsFlat-filled : (f : Flat) (pool : Pool) (n m : ℕ) → content_of f ≡ nothing → IsFlat f → pool.frames ≡ n → ((t : ℕ) → taken_frames pool t ≡ None) → m ≡ n → IsFlat (record f { pool = pool; shares = take n f.shares ++ replicate m 0 })
+pub IsFlat-filled : (f : Flat) (pool : Pool) (n m : ℕ) → flat_content f ≡ nothing → IsFlat f → pool.frames ≡ n → ((t : ℕ) → taken_frames pool t ≡ None) → m ≡ n → IsFlat (record f { pool = pool; shares = take n f.shares ++ replicate m 0 })
 IsFlat-filled f pool n m empty flat frames free same =
     let made = zero_counts f.shares n m (no_shares f flat empty) same in
     IsFlat-nothing (record f { pool = pool; shares = take n f.shares ++ replicate m 0 })
@@ -203,36 +203,36 @@ IsFlat-filled f pool n m empty flat frames free same =
 -- ---- a VMO comes, leaves, or gets another count
 
 -- the store with other VMOs, whose pages are the same
-pub IsFlat-vmos : (f : Flat) (n : ℕ) (vmos : PairMap ℕ) (d : Content) → IsFlat f → f.next ≤ n → content_of (record f { next = n; vmos = vmos }) ≡ d → IsGood d → count_of vmos ≡ vmos_of d →
+pub IsFlat-vmos : (f : Flat) (n : ℕ) (vmos : PairMap ℕ) (d : Content) → IsFlat f → f.next ≤ n → flat_content (record f { next = n; vmos = vmos }) ≡ d → IsGood d → count_of vmos ≡ vmos_of d →
     IsFlat (record f { next = n; vmos = vmos })
 IsFlat-vmos f n vmos d flat le is good many =
-    let fine : IsGood (content_of (record f { next = n; vmos = vmos })) = subst IsGood (sym is) good in
+    let fine : IsGood (flat_content (record f { next = n; vmos = vmos })) = subst IsGood (sym is) good in
     record {
       good = fine;
       live = many ∙ ap vmos_of (sym is);
       counts = flat.counts;
-      shares = λ t. flat.shares t ∙ sym (viewers-pages (content_of f) (content_of (record f { next = n; vmos = vmos })) flat.good fine le (λ v p. refl) t);
+      shares = λ t. flat.shares t ∙ sym (viewers-pages (flat_content f) (flat_content (record f { next = n; vmos = vmos })) flat.good fine le (λ v p. refl) t);
       taken = flat.taken;
     }
 
 module _ (f : Flat) (vmos : PairMap ℕ) (n : ℕ) (values : values_of vmos ≡ with_pair (values_of f.vmos) 0 f.next (Some n)) where
-  pub content-created : content_of (record f { next = f.next + 1; vmos = vmos }) ≡ created (content_of f) n
+  pub content-created : flat_content (record f { next = f.next + 1; vmos = vmos }) ≡ created (flat_content f) n
   unfolding created with_key with_pair
   content-created = same_content _ _ refl refl (λ v. ap (λ (map : ℕ → ℕ → Option ℕ). map 0 v) values ∙ grind (arith, nat_tests)) (λ v p. refl)
 
   pub IsFlat-created : IsFlat f → n ≤ VMO_PAGES → count_of vmos ≡ count_of f.vmos + 1 → IsFlat (record f { next = f.next + 1; vmos = vmos })
   IsFlat-created flat few many =
-      IsFlat-vmos f (f.next + 1) vmos (created (content_of f) n) flat (omega arith) content-created (IsGood-created (content_of f) n flat.good few)
-      (many ∙ (ap (λ k. k + 1) flat.live ∙ sym (vmos_of-created (content_of f) n)))
+      IsFlat-vmos f (f.next + 1) vmos (created (flat_content f) n) flat (omega arith) content-created (IsGood-created (flat_content f) n flat.good few)
+      (many ∙ (ap (λ k. k + 1) flat.live ∙ sym (vmos_of-created (flat_content f) n)))
 
 vmos_of-resized : (c : Content) (v n m : ℕ) → IsSome (c.count v) → vmos_of (resized c v n) ≡ vmos_of (zeroed c v n m)
 unfolding resized zeroed with_key
 vmos_of-resized c v n m some = vmos_of-same (zeroed c v n m) (resized c v n) refl (λ w. grind (arith, nat_tests))
 
 -- f is the store without the pages of the VMO past the new end
-module _ (c : Content) (f : Flat) (vmos : PairMap ℕ) (v n m : ℕ) (zero : content_of f ≡ zeroed c v n m) (was : c.count v ≡ Some m)
+module _ (c : Content) (f : Flat) (vmos : PairMap ℕ) (v n m : ℕ) (zero : flat_content f ≡ zeroed c v n m) (was : c.count v ≡ Some m)
     (values : values_of vmos ≡ with_pair (values_of f.vmos) 0 v (Some n)) where
-  pub content-resized : content_of (record f { vmos = vmos }) ≡ resized c v n
+  pub content-resized : flat_content (record f { vmos = vmos }) ≡ resized c v n
   unfolding resized zeroed with_key with_pair pages_of
   content-resized = same_content _ _ (ap (λ (d : Content). d.frames) zero) (ap (λ (d : Content). d.next) zero)
       (λ w. ap (λ (map : ℕ → ℕ → Option ℕ). map 0 w) values ∙ (let before = ap (λ (d : Content). d.count w) zero in grind (arith, nat_tests)))
@@ -244,26 +244,26 @@ module _ (c : Content) (f : Flat) (vmos : PairMap ℕ) (v n m : ℕ) (zero : con
       (many ∙ (flat.live ∙ (ap vmos_of zero ∙ sym (vmos_of-resized c v n m (ap is_some was)))))
 
 -- f is the store where the pages of the VMO are zero
-module _ (c : Content) (f : Flat) (vmos : PairMap ℕ) (v : ℕ) (zero : content_of f ≡ zeroed c v 0 VMO_PAGES) (flat : IsFlat f)
+module _ (c : Content) (f : Flat) (vmos : PairMap ℕ) (v : ℕ) (zero : flat_content f ≡ zeroed c v 0 VMO_PAGES) (flat : IsFlat f)
     (values : values_of vmos ≡ with_pair (values_of f.vmos) 0 v None) where
-  without-here : content_of (record f { vmos = vmos }) ≡ without (content_of f) v
+  without-here : flat_content (record f { vmos = vmos }) ≡ without (flat_content f) v
   unfolding only with_pair zeroed
   without-here = same_content _ _ refl refl
       (λ w. ap (λ (map : ℕ → ℕ → Option ℕ). map 0 w) values ∙ grind (arith, nat_tests))
-      (λ w p. let few = pages_of_le (content_of f) w flat.good in
-      let past = page_past (content_of f) w p flat.good in
+      (λ w p. let few = pages_of_le (flat_content f) w flat.good in
+      let past = page_past (flat_content f) w p flat.good in
       let low = ap (λ (d : Content). d.page w p) zero in grind (arith, nat_tests))
 
-  pub content-dropped : content_of (record f { vmos = vmos }) ≡ without c v
+  pub content-dropped : flat_content (record f { vmos = vmos }) ≡ without c v
   unfolding only zeroed
   content-dropped = without-here ∙ (ap (λ (d : Content). without d v) zero ∙ same_content _ _ refl refl (λ w. refl) (λ w p. grind (arith, nat_tests)))
 
   pub IsFlat-dropped : IsSome (c.count v) → count_of vmos + 1 ≡ count_of f.vmos → IsFlat (record f { vmos = vmos })
   unfolding zeroed
   IsFlat-dropped some many =
-      let there : IsSome ((content_of f).count v) = ap (λ (d : Content). is_some (d.count v)) zero ∙ some in
-      IsFlat-vmos f f.next vmos (without (content_of f) v) flat (omega arith) without-here (IsGood-only (content_of f) (λ w. not (w == v)) flat.good)
-      (let less = vmos_of-without (content_of f) v flat.good there in omega (arith, less, flat.live))
+      let there : IsSome ((flat_content f).count v) = ap (λ (d : Content). is_some (d.count v)) zero ∙ some in
+      IsFlat-vmos f f.next vmos (without (flat_content f) v) flat (omega arith) without-here (IsGood-only (flat_content f) (λ w. not (w == v)) flat.good)
+      (let less = vmos_of-without (flat_content f) v flat.good there in omega (arith, less, flat.live))
 
 -- ---- whether a VMO shows a frame
 

@@ -18,7 +18,7 @@ use Rattle.vm_model.specs.Contents.Owning.{Owns}
 use Rattle.vm_model.specs.Contents.Sharing.{viewers}
 use Rattle.vm_model.specs.Contents.Zeroing.{zeroed}
 use Rattle.vm_model.proofs.ContentLaws.{has_tag_held, not_in_use, sole-zero, IsGood-hold_new, bytes_of-none, bytes_of-some, same_content}
-use Rattle.page_store.specs.Flat.{Flat, page_with, page_from, content_of, IsFlat}
+use Rattle.page_store.specs.Flat.{Flat, page_with, page_from, flat_content, IsFlat}
 use Rattle.vm_model.proofs.CountLaws.{vmos_of-same}
 use Rattle.page_store.proofs.ViewerLaws.{IsOneMore-hold, IsOneMore-zeroed, IsOneMore-moved, viewers-more}
 use Rattle.page_store.proofs.FlatLaws.{taken_in_use, used_taken, page_is, frame_is, share_is, sole_is}
@@ -31,7 +31,7 @@ set_at xs i n t h = elim (cases_eq t i) [
 ]
 
 -- there is a free frame where one is not used
-pub room_free : (f : Flat) → IsFlat f → used (content_of f) < (content_of f).frames → taken_count f.pool < f.pool.frames
+pub room_free : (f : Flat) → IsFlat f → used (flat_content f) < (flat_content f).frames → taken_count f.pool < f.pool.frames
 room_free f flat room = omega (arith, used_taken f flat)
 
 -- the pages of entries, where one frame gets bytes
@@ -55,7 +55,7 @@ pub record HoldsNew (f g : Flat) (v p : ℕ) (tag : Tag) (bytes : List ℕ) : Ty
   pub counts : length g.shares ≡ length f.shares
   pub whole : length bytes ≡ PAGE
   pub rows : values_of g.rows ≡ with_pair (values_of f.rows) v p (Some tag)
-  pub page : p < pages_of (content_of f) v
+  pub page : p < pages_of (flat_content f) v
 
 -- the share counts of g are those of f, but for one more of the frame t, and one less of another frame, of which there are two
 pub record AreShares (f g : Flat) (t : ℕ) (leaves : ℕ → Bool) : Type 0 where
@@ -66,14 +66,14 @@ module _ (f g : Flat) (v p : ℕ) (tag : Tag) (bytes : List ℕ) (flat : IsFlat 
   abbrev pub new_page : Page
   new_page = record { tag = tag.0; bytes = bytes }
 
-  was_unused : in_use (content_of f) tag.0 ≡ false
+  was_unused : in_use (flat_content f) tag.0 ≡ false
   was_unused = sym (taken_in_use f flat tag.0) ∙ ap is_some is.takes.was_free
 
   -- no page had the frame
-  had_no_page : (w q : ℕ) → has_tag tag.0 ((content_of f).page w q) ≡ false
-  had_no_page w q = false_from_ne_true (has_tag tag.0 ((content_of f).page w q)) (λ e.
-      let held = has_tag_held tag.0 ((content_of f).page w q) e in
-      not_in_use (content_of f) tag.0 w q held.0 flat.good was_unused held.1 held.2)
+  had_no_page : (w q : ℕ) → has_tag tag.0 ((flat_content f).page w q) ≡ false
+  had_no_page w q = false_from_ne_true (has_tag tag.0 ((flat_content f).page w q)) (λ e.
+      let held = has_tag_held tag.0 ((flat_content f).page w q) e in
+      not_in_use (flat_content f) tag.0 w q held.0 flat.good was_unused held.1 held.2)
 
   page_held : (w q : ℕ) → page_from g.pool (values_of g.rows w q) ≡ cond ((w == v) && (q == p)) (Some new_page) (page_from f.pool (values_of f.rows w q))
   unfolding with_pair
@@ -83,19 +83,19 @@ module _ (f g : Flat) (v p : ℕ) (tag : Tag) (bytes : List ℕ) (flat : IsFlat 
         ∙ ap (λ o. Some (record { tag = tag.0; bytes = unwrap_or o [] })) (with_key-same (taken_frames f.pool) tag.0 bytes)
     go false = rw (page_from-with f.pool g.pool tag.0 bytes is.takes.taken (values_of f.rows w q), had_no_page w q)
 
-  pub content-held : content_of g ≡ hold (content_of f) v p new_page
+  pub content-held : flat_content g ≡ hold (flat_content f) v p new_page
   unfolding hold
   content-held = same_content _ _ is.frames (ap (λ (h : Flat). h.next) is.rest)
       (λ w. ap (λ (h : Flat). values_of h.vmos 0 w) is.rest) page_held
 
-  pub good-held : IsGood (hold (content_of f) v p new_page)
-  good-held = IsGood-hold_new (content_of f) v p new_page flat.good is.page is.takes.below was_unused is.whole
+  pub good-held : IsGood (hold (flat_content f) v p new_page)
+  good-held = IsGood-hold_new (flat_content f) v p new_page flat.good is.page is.takes.below was_unused is.whole
 
-  pub IsFlat-held : (leaves : ℕ → Bool) → AreShares f g tag.0 leaves → ((u : ℕ) → viewers (hold (content_of f) v p new_page) u + cond (leaves u) 1 0 ≡ viewers (content_of f) u + cond (tag.0 == u) 1 0) → IsFlat g
+  pub IsFlat-held : (leaves : ℕ → Bool) → AreShares f g tag.0 leaves → ((u : ℕ) → viewers (hold (flat_content f) v p new_page) u + cond (leaves u) 1 0 ≡ viewers (flat_content f) u + cond (tag.0 == u) 1 0) → IsFlat g
   unfolding hold
   IsFlat-held leaves are seen = record {
     good = subst IsGood (sym content-held) good-held;
-    live = ap (λ (h : Flat). length h.vmos.rows) is.rest ∙ (flat.live ∙ sym (ap vmos_of content-held ∙ vmos_of-same (content_of f) (hold (content_of f) v p new_page) refl (λ w. refl)));
+    live = ap (λ (h : Flat). length h.vmos.rows) is.rest ∙ (flat.live ∙ sym (ap vmos_of content-held ∙ vmos_of-same (flat_content f) (hold (flat_content f) v p new_page) refl (λ w. refl)));
     counts = is.counts ∙ (flat.counts ∙ sym is.frames);
     shares = λ u. let same = ap (λ c. viewers c u) content-held in omega (arith, are.is u, seen u, flat.shares u, same);
     taken = λ u.
@@ -106,13 +106,13 @@ module _ (f g : Flat) (v p : ℕ) (tag : Tag) (bytes : List ℕ) (flat : IsFlat 
   }
 
   -- so the page was owned
-  pub owns_new : sole (content_of f) v p ≡ false → bytes ≡ shown (content_of f) v p → Owns (content_of f) (content_of g) v p tag.0
+  pub owns_new : sole (flat_content f) v p ≡ false → bytes ≡ shown (flat_content f) v p → Owns (flat_content f) (flat_content g) v p tag.0
   owns_new shared same = record {
-    stays = λ alone. absurd (both_ways (sole (content_of f) v p) shared alone);
+    stays = λ alone. absurd (both_ways (sole (flat_content f) v p) shared alone);
     copies = λ _. (
       is.takes.below,
       was_unused,
-      content-held ∙ ap (λ (bs : List ℕ). hold (content_of f) v p (record { tag = tag.0; bytes = bs })) same,
+      content-held ∙ ap (λ (bs : List ℕ). hold (flat_content f) v p (record { tag = tag.0; bytes = bs })) same,
     );
   }
 
@@ -138,17 +138,17 @@ shares_held shares s t n distinct none low below count some u =
 -- g is a plain store, and owning page p of v leads from f to it
 pub record IsOwned (f g : Flat) (v p t : ℕ) : Type 0 where
   pub flat : IsFlat g
-  pub owns : Owns (content_of f) (content_of g) v p t
+  pub owns : Owns (flat_content f) (flat_content g) v p t
 
 -- ---- a page that was zero
 
-module _ (f : Flat) (v p : ℕ) (zero : (content_of f).page v p ≡ None) where
+module _ (f : Flat) (v p : ℕ) (zero : (flat_content f).page v p ≡ None) where
   -- there is a frame for it, since it is not sole
-  pub own_room : {room : ℕ} → (sole (content_of f) v p ≡ true) ⊎ ((1 ≤ room) × (used (content_of f) < (content_of f).frames)) → (1 ≤ room) × (used (content_of f) < (content_of f).frames)
-  own_room (inl alone) = absurd (both_ways (sole (content_of f) v p) (sole-zero (content_of f) v p zero) alone)
+  pub own_room : {room : ℕ} → (sole (flat_content f) v p ≡ true) ⊎ ((1 ≤ room) × (used (flat_content f) < (flat_content f).frames)) → (1 ≤ room) × (used (flat_content f) < (flat_content f).frames)
+  own_room (inl alone) = absurd (both_ways (sole (flat_content f) v p) (sole-zero (flat_content f) v p zero) alone)
   own_room (inr room) = room
 
-  pub owned_zero : (pool : Pool) (rows : PairMap Tag) (tag : Tag) → IsFlat f → values_of rows ≡ with_pair (values_of f.rows) v p (Some tag) → p < pages_of (content_of f) v → pool.frames ≡ f.pool.frames → Takes f.pool pool tag.0 zeros →
+  pub owned_zero : (pool : Pool) (rows : PairMap Tag) (tag : Tag) → IsFlat f → values_of rows ≡ with_pair (values_of f.rows) v p (Some tag) → p < pages_of (flat_content f) v → pool.frames ≡ f.pool.frames → Takes f.pool pool tag.0 zeros →
       IsOwned f (record f { pool = pool; rows = rows; shares = set f.shares tag.0 1 }) v p tag.0
   owned_zero pool rows tag flat values page frames takes =
       let g : Flat = record f { pool = pool; rows = rows; shares = set f.shares tag.0 1 } in
@@ -157,18 +157,18 @@ module _ (f : Flat) (v p : ℕ) (zero : (content_of f).page v p ≡ None) where
         flat = IsFlat-held f g v p tag zeros flat holds (λ u. false) (record {
           is = λ u. omega (arith, shares_zero f.shares tag.0 (free_share f tag.0 flat takes.was_free) (omega (arith, takes.below, flat.counts)) u);
           stays = λ u e. absurd cc;
-        }) (λ u. omega (arith, viewers-more (content_of f) (hold (content_of f) v p (new_page f g v p tag zeros flat holds)) v p _ (good-held f g v p tag zeros flat holds) (IsOneMore-hold (content_of f) v p _ zero) u));
-        owns = owns_new f g v p tag zeros flat holds (sole-zero (content_of f) v p zero) (sym (bytes_of-none ((content_of f).page v p) zero));
+        }) (λ u. omega (arith, viewers-more (flat_content f) (hold (flat_content f) v p (new_page f g v p tag zeros flat holds)) v p _ (good-held f g v p tag zeros flat holds) (IsOneMore-hold (flat_content f) v p _ zero) u));
+        owns = owns_new f g v p tag zeros flat holds (sole-zero (flat_content f) v p zero) (sym (bytes_of-none ((flat_content f).page v p) zero));
       }
 
 -- ---- a page that other VMOs show too
 
 module _ (f : Flat) (v p : ℕ) (shown : Tag) (flat : IsFlat f) (found : values_of f.rows v p ≡ Some shown) (n : ℕ) (share : n ≡ get_or f.shares shown.0 n) where
   -- where it is sole, it is owned already
-  pub owns_sole : n ≡ 1 → Owns (content_of f) (content_of f) v p shown.0
+  pub owns_sole : n ≡ 1 → Owns (flat_content f) (flat_content f) v p shown.0
   owns_sole one = record {
     stays = λ _. (refl, λ other g. cc (sym (page_is f v p shown flat found) ∙ g));
-    copies = λ shared. absurd (both_ways (sole (content_of f) v p) shared (sole_is f v p shown flat found n share ∙ eq-eqb n 1 one));
+    copies = λ shared. absurd (both_ways (sole (flat_content f) v p) shared (sole_is f v p shown flat found n share ∙ eq-eqb n 1 one));
   }
 
   pub shown_taken : IsSome (taken_frames f.pool shown.0)
@@ -178,8 +178,8 @@ module _ (f : Flat) (v p : ℕ) (shown : Tag) (flat : IsFlat f) (found : values_
   share_some = omega (arith, (frame_is f v p shown flat found).shown, share_is f v p shown flat found n share)
 
   -- where it is not sole, there is a free frame
-  pub room_held : n ≢ 1 → (sole (content_of f) v p ≡ true) ⊎ (used (content_of f) < (content_of f).frames) → taken_count f.pool < f.pool.frames
-  room_held shared (inl alone) = absurd (both_ways (sole (content_of f) v p) (sole_is f v p shown flat found n share ∙ ne_eqb n 1 shared) alone)
+  pub room_held : n ≢ 1 → (sole (flat_content f) v p ≡ true) ⊎ (used (flat_content f) < (flat_content f).frames) → taken_count f.pool < f.pool.frames
+  room_held shared (inl alone) = absurd (both_ways (sole (flat_content f) v p) (sole_is f v p shown flat found n share ∙ ne_eqb n 1 shared) alone)
   room_held shared (inr free) = room_free f flat free
 
   pub owned_held : (pool : Pool) (rows : PairMap Tag) (tag : Tag) → n ≢ 1 → values_of rows ≡ with_pair (values_of f.rows) v p (Some tag) → pool.frames ≡ f.pool.frames → Takes f.pool pool tag.0 (frame_bytes f.pool shown.0) →
@@ -206,10 +206,10 @@ module _ (f : Flat) (v p : ℕ) (shown : Tag) (flat : IsFlat f) (found : values_
               (omega (arith, takes.below, flat.counts)) (omega (arith, frame.below, flat.counts)) count share_some;
           stays = λ u e. subst (λ (k : ℕ). 2 ≤ get_or f.shares k 0) (eqb-true shown.0 u e) (omega (arith, share_some, count));
         }) (λ u.
-            let before = viewers-more (zeroed (content_of f) v p (p + 1)) (content_of f) v p (page_with f.pool shown) flat.good (IsOneMore-zeroed (content_of f) v p (page_with f.pool shown) is) u in
-            let after = viewers-more (zeroed (content_of f) v p (p + 1)) (hold (content_of f) v p (new_page f g v p tag (frame_bytes f.pool shown.0) flat holds)) v p _ (good-held f g v p tag (frame_bytes f.pool shown.0) flat holds) (IsOneMore-moved (content_of f) v p _) u in
+            let before = viewers-more (zeroed (flat_content f) v p (p + 1)) (flat_content f) v p (page_with f.pool shown) flat.good (IsOneMore-zeroed (flat_content f) v p (page_with f.pool shown) is) u in
+            let after = viewers-more (zeroed (flat_content f) v p (p + 1)) (hold (flat_content f) v p (new_page f g v p tag (frame_bytes f.pool shown.0) flat holds)) v p _ (good-held f g v p tag (frame_bytes f.pool shown.0) flat holds) (IsOneMore-moved (flat_content f) v p _) u in
             omega (arith, before, after));
         owns = owns_new f g v p tag (frame_bytes f.pool shown.0) flat holds
             (sole_is f v p shown flat found n share ∙ ne_eqb n 1 shared)
-            (sym (bytes_of-some ((content_of f).page v p) (page_with f.pool shown) is));
+            (sym (bytes_of-some ((flat_content f).page v p) (page_with f.pool shown) is));
       }

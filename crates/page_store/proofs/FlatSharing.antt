@@ -15,7 +15,7 @@ use Rattle.vm_model.specs.Contents.Zeroing.{zeroed}
 use Rattle.vm_model.proofs.ContentLaws.{in_use_at, same_content}
 use Rattle.vm_model.proofs.ZeroingLaws.{cases_zeroed, page-zeroed_in, page-zeroed_out, IsGood-zeroed, zeroed-none}
 use Rattle.page_store.specs.Pages.{IsShown}
-use Rattle.page_store.specs.Flat.{Flat, page_with, page_from, content_of, IsFlat}
+use Rattle.page_store.specs.Flat.{Flat, page_with, page_from, flat_content, IsFlat}
 use Rattle.vm_model.proofs.CountLaws.{vmos_of-same}
 use Rattle.page_store.proofs.ViewerLaws.{in_use-viewers, viewers_le, IsOneMore-hold, IsOneMore-zeroed, viewers-more}
 use Rattle.page_store.proofs.FlatLaws.{shown_frame, page_is, tag_below}
@@ -24,21 +24,21 @@ use Rattle.page_store.proofs.FlatOwning.{set_at}
 -- ---- a frame that is shown once more
 
 -- a frame that is shown has a share count
-pub shown_low : (f : Flat) (t : ℕ) → IsFlat f → IsShown (content_of f) t → t < length f.shares
+pub shown_low : (f : Flat) (t : ℕ) → IsFlat f → IsShown (flat_content f) t → t < length f.shares
 shown_low f t flat shown = omega (arith, (shown_frame f t flat shown).below, flat.counts)
 
-module _ (f : Flat) (v p : ℕ) (tag : Tag) (flat : IsFlat f) (zero : (content_of f).page v p ≡ None) (shown : IsShown (content_of f) tag.0)
-    (good : IsGood (hold (content_of f) v p (page_with f.pool tag))) where
-  more : (u : ℕ) → viewers (hold (content_of f) v p (page_with f.pool tag)) u ≡ viewers (content_of f) u + cond (tag.0 == u) 1 0
-  more = viewers-more (content_of f) (hold (content_of f) v p (page_with f.pool tag)) v p (page_with f.pool tag) good (IsOneMore-hold (content_of f) v p (page_with f.pool tag) zero)
+module _ (f : Flat) (v p : ℕ) (tag : Tag) (flat : IsFlat f) (zero : (flat_content f).page v p ≡ None) (shown : IsShown (flat_content f) tag.0)
+    (good : IsGood (hold (flat_content f) v p (page_with f.pool tag))) where
+  more : (u : ℕ) → viewers (hold (flat_content f) v p (page_with f.pool tag)) u ≡ viewers (flat_content f) u + cond (tag.0 == u) 1 0
+  more = viewers-more (flat_content f) (hold (flat_content f) v p (page_with f.pool tag)) v p (page_with f.pool tag) good (IsOneMore-hold (flat_content f) v p (page_with f.pool tag) zero)
 
   pub shares_fit : get_or f.shares tag.0 0 + 1 ≤ f.next
   unfolding hold
   shares_fit =
-      omega (arith, flat.shares tag.0, more tag.0, bit-true (tag.0 == tag.0) (eqb_same tag.0), viewers_le (hold (content_of f) v p (page_with f.pool tag)) tag.0)
+      omega (arith, flat.shares tag.0, more tag.0, bit-true (tag.0 == tag.0) (eqb_same tag.0), viewers_le (hold (flat_content f) v p (page_with f.pool tag)) tag.0)
 
   module _ (rows : PairMap Tag) (values : values_of rows ≡ with_pair (values_of f.rows) v p (Some tag)) where
-    pub content-shown : (shares : List ℕ) → content_of (record f { rows = rows; shares = shares }) ≡ hold (content_of f) v p (page_with f.pool tag)
+    pub content-shown : (shares : List ℕ) → flat_content (record f { rows = rows; shares = shares }) ≡ hold (flat_content f) v p (page_with f.pool tag)
     unfolding hold with_pair
     content-shown shares = same_content _ _ refl refl (λ w. refl) (λ w q.
         ap (λ (map : ℕ → ℕ → Option Tag). page_from f.pool (map w q)) values ∙ go ((w == v) && (q == p)) (values_of f.rows w q))
@@ -55,7 +55,7 @@ module _ (f : Flat) (v p : ℕ) (tag : Tag) (flat : IsFlat f) (zero : (content_o
         let low = shown_low f tag.0 flat shown in
         record {
           good = subst IsGood (sym is) good;
-          live = flat.live ∙ sym (ap vmos_of is ∙ vmos_of-same (content_of f) (hold (content_of f) v p (page_with f.pool tag)) refl (λ w. refl));
+          live = flat.live ∙ sym (ap vmos_of is ∙ vmos_of-same (flat_content f) (hold (flat_content f) v p (page_with f.pool tag)) refl (λ w. refl));
           counts = length-set f.shares tag.0 (n + 1) ∙ flat.counts;
           shares = λ u.
               let same = ap (λ (c : Content). viewers c u) is in
@@ -79,13 +79,13 @@ page_kept pool other (Some tag) same = ap (λ (o : Option (List ℕ)). Some (rec
 
 module _ (f : Flat) (v p : ℕ) (tag : Tag) (flat : IsFlat f) (found : values_of f.rows v p ≡ Some tag) (n : ℕ) (count : n ≡ get_or f.shares tag.0 0) where
   abbrev bare : Content
-  bare = zeroed (content_of f) v p (p + 1)
+  bare = zeroed (flat_content f) v p (p + 1)
 
   good-bare : IsGood bare
-  good-bare = IsGood-zeroed (content_of f) v p (p + 1) flat.good
+  good-bare = IsGood-zeroed (flat_content f) v p (p + 1) flat.good
 
-  less : (u : ℕ) → viewers (content_of f) u ≡ viewers bare u + cond (tag.0 == u) 1 0
-  less = viewers-more bare (content_of f) v p (page_with f.pool tag) flat.good (IsOneMore-zeroed (content_of f) v p (page_with f.pool tag) (page_is f v p tag flat found))
+  less : (u : ℕ) → viewers (flat_content f) u ≡ viewers bare u + cond (tag.0 == u) 1 0
+  less = viewers-more bare (flat_content f) v p (page_with f.pool tag) flat.good (IsOneMore-zeroed (flat_content f) v p (page_with f.pool tag) (page_is f v p tag flat found))
 
   pub left : n ≡ viewers bare tag.0 + 1
   left = omega (arith, count, flat.shares tag.0, less tag.0, bit-true (tag.0 == tag.0) (eqb_same tag.0))
@@ -108,9 +108,9 @@ module _ (f : Flat) (v p : ℕ) (tag : Tag) (flat : IsFlat f) (found : values_of
     page_left w q = ap (λ (map : ℕ → ℕ → Option Tag). page_from pool (map w q)) values ∙ elim (cases_zeroed v p (p + 1) w q) [
       | inl inside ↦
           let hit : ((w == v) && (q == p)) ≡ true = and_from (w == v) (q == p) (eq-eqb w v inside.0) (eq-eqb q p (omega (arith, inside.1, inside.2))) in
-          ap (page_from pool) (cond-true _ _ _ hit) ∙ sym (page-zeroed_in (content_of f) v p (p + 1) w q inside.0 inside.1 inside.2)
+          ap (page_from pool) (cond-true _ _ _ hit) ∙ sym (page-zeroed_in (flat_content f) v p (p + 1) w q inside.0 inside.1 inside.2)
       | inr out ↦
-          let there = page-zeroed_out (content_of f) v p (p + 1) w q out in
+          let there = page-zeroed_out (flat_content f) v p (p + 1) w q out in
           let miss : ((w == v) && (q == p)) ≡ false = false_from_ne_true ((w == v) && (q == p)) (λ e.
           let both = and_parts (w == v) (q == p) e in
           let page = eqb-true q p both.1 in
@@ -118,7 +118,7 @@ module _ (f : Flat) (v p : ℕ) (tag : Tag) (flat : IsFlat f) (found : values_of
           ap (page_from pool) (cond-false _ _ _ miss) ∙ (page_kept pool f.pool (values_of f.rows w q) (λ other e. kept other.0 (some_views w q other (there ∙ ap (page_from f.pool) e))) ∙ sym there)
     ]
 
-    pub content-released : content_of after ≡ zeroed (content_of f) v p (p + 1)
+    pub content-released : flat_content after ≡ zeroed (flat_content f) v p (p + 1)
     unfolding zeroed
     content-released = same_content _ _ frames refl (λ w. refl) page_left
 
@@ -126,7 +126,7 @@ module _ (f : Flat) (v p : ℕ) (tag : Tag) (flat : IsFlat f) (found : values_of
     unfolding zeroed
     IsFlat-released = record {
       good = subst IsGood (sym content-released) good-bare;
-      live = flat.live ∙ sym (ap vmos_of content-released ∙ vmos_of-same (content_of f) bare refl (λ w. refl));
+      live = flat.live ∙ sym (ap vmos_of content-released ∙ vmos_of-same (flat_content f) bare refl (λ w. refl));
       counts = length-set f.shares tag.0 (n - 1) ∙ (flat.counts ∙ sym frames);
       shares = λ u.
           let same = ap (λ (c : Content). viewers c u) content-released in
@@ -143,7 +143,7 @@ module _ (f : Flat) (v p : ℕ) (tag : Tag) (flat : IsFlat f) (found : values_of
     }
 
 -- a page that is zero already
-pub zero_already : (f : Flat) (v p : ℕ) (o : Option Tag) → o ≡ values_of f.rows v p → is_some o ≡ false → content_of f ≡ zeroed (content_of f) v p (p + 1)
-zero_already f v p o found none = sym (zeroed-none (content_of f) v p (p + 1) (λ q low high.
+pub zero_already : (f : Flat) (v p : ℕ) (o : Option Tag) → o ≡ values_of f.rows v p → is_some o ≡ false → flat_content f ≡ zeroed (flat_content f) v p (p + 1)
+zero_already f v p o found none = sym (zeroed-none (flat_content f) v p (p + 1) (λ q low high.
     let same : p ≡ q = omega arith in
     ap (page_from f.pool) (ap (values_of f.rows v) (sym same) ∙ (sym found ∙ none_is o none))))

@@ -3,13 +3,13 @@ use Rattle.std.proofs.Common.{◌≡◌, ◌≢◌, ◌⊎◌, ℕ, zero, suc, �
 use Rattle.std.proofs.lemmas.Bool.Decides.{nat_tests}
 use Rattle.vm_base.specs.Search.{count_below}
 use Rattle.vm_base.proofs.SearchLaws.{bit-true, count_below-suc, count_below_gap, count_below_le, count_below-zero}
-use Rattle.vm_model.specs.Contents.Content.{Content, Page, is_held, hold, created, IsGood}
+use Rattle.vm_model.specs.Contents.Content.{Content, Page, is_held, hold, created, IsGood, IsNextBelow, HasNoneBelow}
 use Rattle.vm_model.specs.Contents.Sharing.{page_seen, snapshotted}
 use Rattle.vm_model.specs.Contents.Zeroing.{zeroed}
 use Rattle.vm_model.proofs.ContentLaws.{same_content, is_held-zero, IsGood-part, own_pages, pages_of-same}
 use Rattle.vm_model.proofs.ZeroingLaws.{zeroed-none}
 use Rattle.vm_base.specs.Entries.{with_key}
-use Rattle.page_store.specs.Held.{IsNextBelow, HasNoneBelow, held_from, showing}
+use Rattle.page_store.specs.Held.{held_from, showing}
 
 -- ---- how many are held
 

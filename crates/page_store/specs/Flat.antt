@@ -26,8 +26,8 @@ abbrev pub page_from : Pool → Option Tag → Option Page
 page_from pool None = None
 page_from pool (Some tag) = Some (page_with pool tag)
 
-abbrev pub content_of : Flat → Content
-content_of f = record {
+abbrev pub flat_content : Flat → Content
+flat_content f = record {
   frames = f.pool.frames;
   next = f.next;
   count = λ v. values_of f.vmos 0 v;
@@ -35,16 +35,16 @@ content_of f = record {
 }
 
 -- how many pages may be held more with no memory from the host, as far as room was asked for
-abbrev pub room_of : Flat → ℕ
-room_of f = min f.asked (spare_of f.rows)
+abbrev pub flat_room : Flat → ℕ
+flat_room f = min f.asked (spare_of f.rows)
 
 -- What holds of every plain store: the share count of a frame is how many VMOs show it, and the frames that some VMO
 -- shows are taken.
 pub record IsFlat (f : Flat) : Type 0 where
-  pub good : IsGood (content_of f)
-  pub live : count_of f.vmos ≡ vmos_of (content_of f)
+  pub good : IsGood (flat_content f)
+  pub live : count_of f.vmos ≡ vmos_of (flat_content f)
   pub counts : length f.shares ≡ f.pool.frames
-  pub shares : (t : ℕ) → slice_index_or f.shares t 0 ≡ viewers (content_of f) t
+  pub shares : (t : ℕ) → slice_index_or f.shares t 0 ≡ viewers (flat_content f) t
   pub taken : (t : ℕ) → is_some (taken_frames f.pool t) ≡ nat_lt 0 (slice_index_or f.shares t 0)
 
 abbrev pub flat_of : Inside → Flat

@@ -12,9 +12,9 @@ look_at c v None = look.Zero
 look_at c v (Some held) = look.Held (record { 0 = held.tag }) (is_sole_page c v (Some held))
 
 -- the frame of a page, if it is held
-abbrev pub frame_of : Option Page → Option Tag
-frame_of None = None
-frame_of (Some held) = Some (record { 0 = held.tag })
+abbrev pub tag_held : Option Page → Option Tag
+tag_held None = None
+tag_held (Some held) = Some (record { 0 = held.tag })
 
 -- page p of v is held with the frame t
 pub record ShowsTag (c : Content) (t v p : ℕ) (held : Page) : Type 0 where

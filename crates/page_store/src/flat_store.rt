@@ -3,14 +3,14 @@
 ghost use Rattle.std.specs.Prelude.{◌≡◌, ◌≢◌, ℕ, ◌+◌, ◌-◌, ◌<◌, ◌≤◌, ◌⊎◌, ◌==◌, ◌&&◌, if◌then◌else◌, true, IsSome, IfSome, IfNone, OnOk, IfOk, OnErr, None, Some};
 ghost use Rattle.vm_base.specs.declared.limits.TheConstants.{VMO_PAGES, KOIDS};
 ghost use Rattle.vm_base.specs.Pages.{zeros};
-ghost use Rattle.vm_model.specs.Contents.Content.{nothing, pages_of, views, used, sole, hold, created, IsGood};
+ghost use Rattle.vm_model.specs.Contents.Content.{nothing, pages_of, views, used, sole, hold, created, IsGood, IsNextBelow, HasNoneBelow};
 ghost use Rattle.vm_model.specs.Contents.Owning.{Owns};
 ghost use Rattle.vm_model.specs.Contents.Zeroing.{zeroed};
 ghost use Rattle.frame_pool.specs.Pool.{taken_frames, frame_bytes, taken_count, Takes};
 ghost use Rattle.pair_map.specs.Maps.{values_of, spare_of};
 ghost use Rattle.page_store.specs.Pages.{IsShown};
-ghost use Rattle.page_store.specs.Held.{IsNextBelow, HasNoneBelow, held_from, showing};
-ghost use Rattle.page_store.specs.Flat.{content_of, page_with, room_of};
+ghost use Rattle.page_store.specs.Held.{held_from, showing};
+ghost use Rattle.page_store.specs.Flat.{flat_content, page_with, flat_room};
 
 use crate::page_store::{Look, PageStore};
 use frame_pool::FramePool;
@@ -67,10 +67,10 @@ impl FlatStore {
     // Makes a VMO of `count` zero pages under the next koid.
     fn add_vmo(&mut self, count: PageNo) -> Result<Koid, HostMemory>
         requires count { count ≤ VMO_PAGES }
-        requires next { (content_of self.old).next < KOIDS }
-        ensures koid { IfOk result (λ v. v.0 ≡ (content_of self.old).next) }
-        ensures ok { OnOk result (content_of self.new ≡ created (content_of self.old) count) }
-        ensures err { OnErr result (content_of self.new ≡ content_of self.old) }
+        requires next { (flat_content self.old).next < KOIDS }
+        ensures koid { IfOk result (λ v. v.0 ≡ (flat_content self.old).next) }
+        ensures ok { OnOk result (flat_content self.new ≡ created (flat_content self.old) count) }
+        ensures err { OnErr result (flat_content self.new ≡ flat_content self.old) }
         ensures rows { self.new.rows ≡ self.old.rows }
         ensures asked { self.new.asked ≡ self.old.asked }
     {
@@ -85,12 +85,12 @@ impl FlatStore {
 
     // Gives a page that is zero a frame.
     fn own_zero(&mut self, v: Koid, page: PageNo) -> Tag
-        requires zero { (content_of self.old).page v.0 page ≡ None }
-        requires page { page < pages_of (content_of self.old) v.0 }
-        requires room { 1 ≤ room_of self.old }
-        requires frame { used (content_of self.old) < (content_of self.old).frames }
-        ensures owns { Owns (content_of self.old) (content_of self.new) v.0 page result.0 }
-        ensures room { room_of self.old ≤ room_of self.new + 1 }
+        requires zero { (flat_content self.old).page v.0 page ≡ None }
+        requires page { page < pages_of (flat_content self.old) v.0 }
+        requires room { 1 ≤ flat_room self.old }
+        requires frame { used (flat_content self.old) < (flat_content self.old).frames }
+        ensures owns { Owns (flat_content self.old) (flat_content self.new) v.0 page result.0 }
+        ensures room { flat_room self.old ≤ flat_room self.new + 1 }
     {
         let tag = take_zeros(&mut self.pool);
         self.rows.insert(v.0, page, tag);
@@ -101,10 +101,10 @@ impl FlatStore {
     // Gives a page that is held a frame of its own, if other VMOs show its frame too.
     fn own_held(&mut self, v: Koid, page: PageNo, shown: Tag) -> Tag
         requires held { values_of self.old.rows v.0 page ≡ Some shown }
-        requires room { (sole (content_of self.old) v.0 page ≡ true)
-            ⊎ (used (content_of self.old) < (content_of self.old).frames) }
-        ensures owns { Owns (content_of self.old) (content_of self.new) v.0 page result.0 }
-        ensures room { room_of self.new ≡ room_of self.old }
+        requires room { (sole (flat_content self.old) v.0 page ≡ true)
+            ⊎ (used (flat_content self.old) < (flat_content self.old).frames) }
+        ensures owns { Owns (flat_content self.old) (flat_content self.new) v.0 page result.0 }
+        ensures room { flat_room self.new ≡ flat_room self.old }
     {
         let viewers = self.shares[shown.0 as usize];
         if viewers == 1 {
@@ -119,9 +119,9 @@ impl FlatStore {
 
     // The first page of a VMO that is held, from page `from` to below `end`, and its frame.
     fn held_below(&self, v: Koid, from: PageNo, end: PageNo) -> Option<(PageNo, Tag)>
-        ensures some { IfSome result (λ row. IsNextBelow (content_of self.now) v.0 from end row.0) }
+        ensures some { IfSome result (λ row. IsNextBelow (flat_content self.now) v.0 from end row.0) }
         ensures tag { IfSome result (λ row. values_of self.now.rows v.0 row.0 ≡ Some row.1) }
-        ensures none { IfNone result (HasNoneBelow (content_of self.now) v.0 from end) }
+        ensures none { IfNone result (HasNoneBelow (flat_content self.now) v.0 from end) }
     {
         match self.rows.next(v.0, from) {
             Some((page, tag)) if page < end => Some((page, tag)),
@@ -132,7 +132,7 @@ impl FlatStore {
     // How many pages of a VMO are held, from page `first` to below `end`.
     fn count_held(&self, v: Koid, first: PageNo, end: PageNo) -> u64
         requires { first ≤ end }
-        ensures { result ≡ held_from (content_of self.now) v.0 first (end - first) }
+        ensures { result ≡ held_from (flat_content self.now) v.0 first (end - first) }
     {
         let mut held = 0;
         let mut from = first;
@@ -145,8 +145,8 @@ impl FlatStore {
 
     // Whether some page of a VMO has a frame.
     fn shows(&self, v: Koid, tag: Tag) -> bool
-        requires { IsGood (content_of self.now) }
-        ensures { result ≡ views (content_of self.now) tag.0 v.0 }
+        requires { IsGood (flat_content self.now) }
+        ensures { result ≡ views (flat_content self.now) tag.0 v.0 }
     {
         let mut from = 0;
         while let Some((page, shown)) = self.held_below(v, from, VMO_PAGES) {
@@ -160,11 +160,11 @@ impl FlatStore {
 
     // Lets a page that is zero show a frame that some other VMO shows.
     fn show_page(&mut self, v: Koid, page: PageNo, tag: Tag)
-        requires zero { (content_of self.old).page v.0 page ≡ None }
-        requires shown { IsShown (content_of self.old) tag.0 }
-        requires good { IsGood (hold (content_of self.old) v.0 page (page_with self.old.pool tag)) }
+        requires zero { (flat_content self.old).page v.0 page ≡ None }
+        requires shown { IsShown (flat_content self.old) tag.0 }
+        requires good { IsGood (hold (flat_content self.old) v.0 page (page_with self.old.pool tag)) }
         requires room { 1 ≤ spare_of self.old.rows }
-        ensures content { content_of self.new ≡ hold (content_of self.old) v.0 page (page_with self.old.pool tag) }
+        ensures content { flat_content self.new ≡ hold (flat_content self.old) v.0 page (page_with self.old.pool tag) }
         ensures room { spare_of self.new.rows + 1 ≡ spare_of self.old.rows }
         ensures asked { self.new.asked ≡ self.old.asked }
     {
@@ -178,12 +178,12 @@ impl FlatStore {
     fn show_pages(&mut self, v: Koid, of: Koid, first: PageNo, end: PageNo)
         requires order { first ≤ end }
         requires apart { of.0 ≢ v.0 }
-        requires zero { (p : ℕ) → (content_of self.old).page v.0 p ≡ None }
-        requires good { IsGood (showing (content_of self.old) of.0 first (end - first) v.0) }
-        requires room { held_from (content_of self.old) of.0 first (end - first) ≤ spare_of self.old.rows }
-        ensures content { content_of self.new ≡ showing (content_of self.old) of.0 first (end - first) v.0 }
+        requires zero { (p : ℕ) → (flat_content self.old).page v.0 p ≡ None }
+        requires good { IsGood (showing (flat_content self.old) of.0 first (end - first) v.0) }
+        requires room { held_from (flat_content self.old) of.0 first (end - first) ≤ spare_of self.old.rows }
+        ensures content { flat_content self.new ≡ showing (flat_content self.old) of.0 first (end - first) v.0 }
         ensures room { spare_of self.old.rows
-            ≤ spare_of self.new.rows + held_from (content_of self.old) of.0 first (end - first) }
+            ≤ spare_of self.new.rows + held_from (flat_content self.old) of.0 first (end - first) }
         ensures asked { self.new.asked ≡ self.old.asked }
     {
         let mut from = first;
@@ -196,8 +196,8 @@ impl FlatStore {
     // Makes a page zero that is held. Its frame is free then, unless another VMO shows it.
     fn release_page(&mut self, v: Koid, page: PageNo)
         requires { IsSome (values_of self.old.rows v.0 page) }
-        ensures content { content_of self.new ≡ zeroed (content_of self.old) v.0 page (page + 1) }
-        ensures room { room_of self.old ≤ room_of self.new }
+        ensures content { flat_content self.new ≡ zeroed (flat_content self.old) v.0 page (page + 1) }
+        ensures room { flat_room self.old ≤ flat_room self.new }
     {
         let tag = self.rows.remove(v.0, page);
         let viewers = self.shares[tag.0 as usize] - 1;
@@ -207,7 +207,7 @@ impl FlatStore {
 
     // Makes the pages of a VMO zero from `first` to below `end`.
     fn release_pages(&mut self, v: Koid, first: PageNo, end: PageNo)
-        ensures { content_of self.new ≡ zeroed (content_of self.old) v.0 first end }
+        ensures { flat_content self.new ≡ zeroed (flat_content self.old) v.0 first end }
     {
         let mut from = first;
         while let Some((page, _)) = self.held_below(v, from, end) {
@@ -218,9 +218,9 @@ impl FlatStore {
 }
 
 impl PageStore for FlatStore {
-    ghost content = { content_of };
+    ghost content = { flat_content };
 
-    ghost spare = { room_of };
+    ghost spare = { flat_room };
 
     fn fill(&mut self, frames: u32) -> Result<(), HostMemory> {
         let Ok(()) = self.shares.reserve_exact(frames as usize) else {

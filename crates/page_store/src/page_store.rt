@@ -5,7 +5,7 @@ ghost use Rattle.vm_model.specs.Contents.Content.{Content, nothing, used, sole, 
 ghost use Rattle.vm_model.specs.Contents.Owning.{Owns};
 ghost use Rattle.vm_model.specs.Contents.Sharing.{viewers, IsLeastViewer, snapshotted, without};
 ghost use Rattle.vm_model.specs.Contents.Zeroing.{zeroed, resized};
-ghost use Rattle.page_store.specs.Pages.{look_at, frame_of, IsShown, IsShownOnce, AreBytesOf, Overwrites};
+ghost use Rattle.page_store.specs.Pages.{look_at, tag_held, IsShown, IsShownOnce, AreBytesOf, Overwrites};
 ghost use Rattle.page_store.specs.Requests.{Request, Fill, Create, Snapshot, Reserve};
 
 use vm_base::{FRAMES, HostMemory, KOIDS, Koid, PAGE, PageNo, Tag, VMO_PAGES};
@@ -98,7 +98,7 @@ pub trait PageStore: Drop {
     /// another VMO shows the frame: a store may find that out at a greater cost.
     fn frame(&self, v: Koid, page: PageNo) -> Option<Tag>
         requires page { page < pages_of (content self.now) v.0 }
-        ensures { result ≡ frame_of ((content self.now).page v.0 page) };
+        ensures { result ≡ tag_held ((content self.now).page v.0 page) };
 
     /// Makes a page below the count sole, so that it may be written (copy on write), and answers its frame. A page that
     /// is sole keeps its frame. Any other needs room (`spare`) and a free frame, and then shows the same bytes in that

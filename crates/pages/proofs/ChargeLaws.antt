@@ -7,7 +7,7 @@ use Rattle.vm_base.specs.Search.{any_below}
 use Rattle.vm_base.proofs.SearchLaws.{any_below_at, none_below}
 use Rattle.vm_model.specs.Contents.Content.{Page, Content, views}
 use Rattle.vm_model.specs.Machine.Attribution.{is_charged_page, is_charged}
-use Rattle.page_store.specs.Pages.{frame_of}
+use Rattle.page_store.specs.Pages.{tag_held}
 use Rattle.pages.proofs.LookLaws.{held_frame}
 
 pub is_charged_page-some : (c : Content) (v : ℕ) (held : Page)
@@ -31,7 +31,7 @@ found_below v test None some none = none_below v test none
 found_below v test (Some w) some none = any_below_at v w.0 test some.0 some.1
 
 -- a VMO is charged for a frame that it shows where no VMO with a lesser koid shows it
-pub is_charged-lesser : (c : Content) (v p : ℕ) (tag : Tag) → Some tag ≡ frame_of (c.page v p) → (answer : Option Koid)
+pub is_charged-lesser : (c : Content) (v p : ℕ) (tag : Tag) → Some tag ≡ tag_held (c.page v p) → (answer : Option Koid)
     → IfSome answer (λ w. (w.0 < v) × (views c tag.0 w.0 ≡ true)) → IfNone answer ((w : ℕ) → w < v → views c tag.0 w ≡ false)
     → is_charged c v p ≡ not (is_some answer)
 is_charged-lesser c v p tag frame answer some none =

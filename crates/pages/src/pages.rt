@@ -7,7 +7,7 @@ ghost use Rattle.vm_model.specs.Contents.Sharing.{snapshotted, without};
 ghost use Rattle.vm_model.specs.Contents.Writing.{WritesPiece};
 ghost use Rattle.vm_model.specs.Contents.Zeroing.{zeroed, resized};
 ghost use Rattle.vm_model.specs.Machine.Attribution.{is_charged};
-ghost use Rattle.page_store.specs.Pages.{look_at, frame_of};
+ghost use Rattle.page_store.specs.Pages.{look_at, tag_held};
 
 use page_store::Look;
 use vm_base::{HostMemory, KOIDS, Koid, PAGE, PageNo, Tag, VMO_PAGES};
@@ -70,7 +70,7 @@ pub trait Pages: Drop {
     /// Returns the frame of a page below the count. `None` if the page is zero.
     fn frame(&self, v: Koid, page: PageNo) -> Option<Tag>
         requires page { page < pages_of (content self.now) v.0 }
-        ensures { result ≡ frame_of ((content self.now).page v.0 page) };
+        ensures { result ≡ tag_held ((content self.now).page v.0 page) };
 
     /// Makes a page below the count sole, so that it may be written (copy on write), and returns its frame. A page that
     /// is sole keeps its frame. Any other needs room (`spare`) and a free frame, and then shows the same bytes in that
@@ -135,7 +135,7 @@ pub trait Pages: Drop {
     /// frame.
     fn is_charged(&self, v: Koid, page: PageNo, tag: Tag) -> bool
         requires good { IsGood (content self.now) }
-        requires frame { Some tag ≡ frame_of ((content self.now).page v.0 page) }
+        requires frame { Some tag ≡ tag_held ((content self.now).page v.0 page) }
         ensures { result ≡ is_charged (content self.now) v.0 page };
 
     /// Returns the number of page frames of the machine.

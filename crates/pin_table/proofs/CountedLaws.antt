@@ -8,16 +8,16 @@ use Rattle.vm_base.specs.Entries.{passes, entry_count}
 use Rattle.vm_base.proofs.SearchLaws.{bit_same}
 use Rattle.vm_base.proofs.EntryLaws.{passes-some, any_entry-count, entry_count_le, entry_count_hit, entry_count-empty, entry_count-with_key, entry_count-without_key, with_key-other, with_key-cases, without_key-other, without_key-some}
 use Rattle.vm_model.proofs.PinLaws.{covers_at, any_pinned_at, none_pinned}
-use Rattle.pin_table.specs.inside.Pages.{pins_at, AreKept, AddsPin}
+use Rattle.pin_table.specs.inside.Pages.{pins_at, AllHavePins, AddsPin}
 use Rattle.pin_table.specs.Table.{IsNextPinned}
-use Rattle.pin_table.specs.inside.TableFields.{AreCounted}
+use Rattle.pin_table.specs.inside.TableFields.{AreCountedByPage}
 use Rattle.pair_map.specs.Maps.{IsNext}
 use Rattle.std.specs.Prelude.{unwrap_or, IsSome}
 
 -- ---- no pins
 
-pub AreCounted-empty : (pins : ℕ → Option Pin) (entries : ℕ → ℕ → Option ℕ) → ((n : ℕ) → pins n ≡ None) → entries ≡ (λ v p. None) → AreCounted pins entries
-AreCounted-empty pins entries none empty =
+pub AreCountedByPage-empty : (pins : ℕ → Option Pin) (entries : ℕ → ℕ → Option ℕ) → ((n : ℕ) → pins n ≡ None) → entries ≡ (λ v p. None) → AreCountedByPage pins entries
+AreCountedByPage-empty pins entries none empty =
     let none_at : (v p : ℕ) → entries v p ≡ None = λ v p. ap (λ m. m v p) empty in
     record {
       names_below = λ n some. absurd (let gone : false ≡ true = sym (ap is_some (none n)) ∙ some in cc);
@@ -29,11 +29,11 @@ AreCounted-empty pins entries none empty =
     }
 
 -- pins and entries that agree
-pub AreCounted-same : (pins others : ℕ → Option Pin) (entries more : ℕ → ℕ → Option ℕ) → others ≡ pins → more ≡ entries → AreCounted pins entries → AreCounted others more
-AreCounted-same pins others entries more e f counted =
-    subst (λ (m : ℕ → Option Pin). AreCounted m more) (sym e) (subst (λ (es : ℕ → ℕ → Option ℕ). AreCounted pins es) (sym f) counted)
+pub AreCountedByPage-same : (pins others : ℕ → Option Pin) (entries more : ℕ → ℕ → Option ℕ) → others ≡ pins → more ≡ entries → AreCountedByPage pins entries → AreCountedByPage others more
+AreCountedByPage-same pins others entries more e f counted =
+    subst (λ (m : ℕ → Option Pin). AreCountedByPage m more) (sym e) (subst (λ (es : ℕ → ℕ → Option ℕ). AreCountedByPage pins es) (sym f) counted)
 
-module _ (pins : ℕ → Option Pin) (entries : ℕ → ℕ → Option ℕ) (counted : AreCounted pins entries) where
+module _ (pins : ℕ → Option Pin) (entries : ℕ → ℕ → Option ℕ) (counted : AreCountedByPage pins entries) where
   -- no page has more pins than there are names
   pub pins_few : (v p : ℕ) → pins_at v p entries ≤ NAMES
   pins_few v p = omega (arith, counted.counted v p, entry_count_le NAMES (covers v p) pins)
@@ -46,9 +46,9 @@ module _ (pins : ℕ → Option Pin) (entries : ℕ → ℕ → Option ℕ) (cou
 
   -- ---- a pin is added
 
-  pub AreCounted-added : (n : ℕ) (pin : Pin) (more : ℕ → ℕ → Option ℕ) → n < NAMES → pins n ≡ None → pin.first + pin.count ≤ PAGES_END → AreKept more →
-      AddsPin entries more pin.koid pin.first (pin.first + pin.count) → AreCounted (with_key pins n pin) more
-  AreCounted-added n pin more low free end kept adds = record {
+  pub AreCountedByPage-added : (n : ℕ) (pin : Pin) (more : ℕ → ℕ → Option ℕ) → n < NAMES → pins n ≡ None → pin.first + pin.count ≤ PAGES_END → AllHavePins more →
+      AddsPin entries more pin.koid pin.first (pin.first + pin.count) → AreCountedByPage (with_key pins n pin) more
+  AreCountedByPage-added n pin more low free end kept adds = record {
     names_below = λ m some. elim (cases_eq m n) [
       | inl same ↦ omega arith
       | inr apart ↦ counted.names_below m (ap is_some (sym (with_key-other pins n pin m apart)) ∙ some)
@@ -64,8 +64,8 @@ module _ (pins : ℕ → Option Pin) (entries : ℕ → ℕ → Option ℕ) (cou
 
   -- ---- a pin is taken out
 
-  pub AreCounted-removed : (n : ℕ) (pin : Pin) (fewer : ℕ → ℕ → Option ℕ) → pins n ≡ Some pin → AreKept fewer → AddsPin fewer entries pin.koid pin.first (pin.first + pin.count) → AreCounted (without_key pins n) fewer
-  AreCounted-removed n pin fewer there kept adds =
+  pub AreCountedByPage-removed : (n : ℕ) (pin : Pin) (fewer : ℕ → ℕ → Option ℕ) → pins n ≡ Some pin → AllHavePins fewer → AddsPin fewer entries pin.koid pin.first (pin.first + pin.count) → AreCountedByPage (without_key pins n) fewer
+  AreCountedByPage-removed n pin fewer there kept adds =
       let low = counted.names_below n (ap is_some there) in
       record {
         names_below = λ m some. elim (cases_eq m n) [

@@ -6,7 +6,7 @@ use Rattle.std.proofs.lemmas.Bool.{and_parts, cases_Bool, cond-true, cond-false}
 use Rattle.std.proofs.lemmas.Bool.Decides.{Decides-eqb, nat_tests}
 use Rattle.pair_map.specs.Maps.{with_pair}
 use Rattle.vm_model.specs.Contents.Zeroing.{is_within}
-use Rattle.pin_table.specs.inside.Pages.{pins_at, AreKept, AddsPin}
+use Rattle.pin_table.specs.inside.Pages.{pins_at, AllHavePins, AddsPin}
 
 cond-same : (b : Bool) → ◌≡◌ {A = ℕ} (cond b 0 0) 0
 cond-same true = refl
@@ -22,7 +22,7 @@ module _ (old new : ℕ → ℕ → Option ℕ) (v p : ℕ) (pins : Option ℕ) 
   unfolding with_pair
   there-is w q e = ap (λ m. m w q) put ∙ cond-false _ _ _ e
 
-  pub kept-put : IfSome pins (λ n. 1 ≤ n) → AreKept old → AreKept new
+  pub kept-put : IfSome pins (λ n. 1 ≤ n) → AllHavePins old → AllHavePins new
   kept-put some kept = record {
     pinned = λ w q n e. elim (cases_Bool ((w == v) && (q == p))) [
       | inl here ↦ subst (λ o. IfSome o (λ n. 1 ≤ n)) (sym (here-is w q here) ∙ e) some

@@ -8,7 +8,7 @@ use Rattle.vm_model.specs.Naming.Pins.{Pin}
 use Rattle.pin_table.specs.declared.pin_table.Pin.{Pin as HeldPin}
 
 -- the entries of the map, and how many pins may be added without asking the host for memory
-pub record Table : Type 0 where
+pub record Pins : Type 0 where
   pub pins : List (PinName × HeldPin)
   pub room : ℕ
 
@@ -25,12 +25,12 @@ unfoldable pub pins_in : List (PinName × HeldPin) → ℕ → Option Pin
 pins_in entries n = option_map pin_of_held (lookup (λ (name : PinName). n == name.0) entries)
 
 -- the pins under their names
-abbrev pub pins_of : Table → ℕ → Option Pin
+abbrev pub pins_of : Pins → ℕ → Option Pin
 pins_of t = pins_in t.pins
 
 -- how many pins may be added without asking the host for memory
-abbrev pub room_of : Table → ℕ
-room_of t = t.room
+abbrev pub pin_room : Pins → ℕ
+pin_room t = t.room
 
 -- The answer is the least page from `from` on that is pinned. If it is None, none is.
 pub record IsNextPinned (pinned : ℕ → Bool) (from : ℕ) (answer : Option ℕ) : Type 0 where

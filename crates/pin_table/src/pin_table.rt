@@ -4,7 +4,7 @@ ghost use Rattle.std.specs.Prelude.{◌≡◌, ℕ, ◌+◌, ◌≤◌, None, So
 ghost use Rattle.std.specs.Option.{option_map};
 ghost use Rattle.vm_base.specs.Entries.{with_key, without_key};
 ghost use Rattle.vm_model.specs.Naming.Pins.{any_pinned, is_pinned};
-ghost use Rattle.pin_table.specs.Table.{pin_of, pins_of, room_of, IsNextPinned};
+ghost use Rattle.pin_table.specs.Table.{pin_of, pins_of, pin_room, IsNextPinned};
 
 use crate::pages::{pin_pages, unpin_pages};
 use pair_map::PairMap;
@@ -31,15 +31,15 @@ pub struct PinTable {
 }
 
 impl Model for PinTable {
-    ghost use Rattle.pin_table.specs.Table.{Table};
+    ghost use Rattle.pin_table.specs.Table.{Pins};
 
-    ghost Value = { Table };
+    ghost Value = { Pins };
 
-    ghost use Rattle.pin_table.specs.inside.TableFields.{table_of, IsTable};
+    ghost use Rattle.pin_table.specs.inside.TableFields.{pin_table_of, IsPinTable};
 
-    ghost view = { table_of };
+    ghost view = { pin_table_of };
 
-    ghost invariant = { IsTable };
+    ghost invariant = { IsPinTable };
 }
 
 impl PinTable {
@@ -55,7 +55,7 @@ impl PinTable {
 
     /// Makes room for one pin more. `HostMemory` if the host has too little memory.
     pub fn reserve(&mut self) -> Result<(), HostMemory>
-        ensures room { OnOk result (1 ≤ room_of self.new) }
+        ensures room { OnOk result (1 ≤ pin_room self.new) }
         ensures pins { pins_of self.new ≡ pins_of self.old }
     {
         let Ok(()) = self.pins.reserve(1) else {
@@ -73,7 +73,7 @@ impl PinTable {
         requires pin { pins_of self.old pin.0 ≡ None }
         requires few { (1 ≤ count) × (count ≤ PIN_PAGES) }
         requires pages { first + count ≤ PAGES_END }
-        requires room { 1 ≤ room_of self.old }
+        requires room { 1 ≤ pin_room self.old }
         ensures { pins_of self.new ≡ with_key (pins_of self.old) pin.0
             (record { koid = koid.0; first = first; count = count }) }
     {

@@ -14,7 +14,7 @@ use Rattle.vm_model.specs.declared.space.Readiness.TheVariants.{Read}
 use Rattle.vm_model.specs.Naming.Pins.{Pin, is_pinned, any_pinned}
 use Rattle.vm_model.specs.Contents.Content.{Content}
 use Rattle.vm_model.specs.Contents.Zeroing.{is_within}
-use Rattle.vm_model.specs.Space.Readiness.{is_same_frame}
+use Rattle.vm_model.specs.Space.Readiness.{is_same_frame, frame_number}
 use Rattle.vm_model.proofs.ContentLaws.{same_page}
 use Rattle.vm_model.proofs.ReadinessLaws.{is_same_frame-same}
 use Rattle.pair_map.specs.declared.pair_map.PairMap.{PairMap}
@@ -23,7 +23,7 @@ use Rattle.eager_pages.proofs.LinkLaws.{pair-here, pair-other, pair-cases}
 use Rattle.ready_map.specs.declared.ready_map.ReadyPage.{ReadyPage}
 use Rattle.ready_map.specs.declared.stamps.Kept.{Kept}
 use Rattle.ready_map.specs.declared.stamps.Stamp.{Stamp}
-use Rattle.ready_map.specs.Notes.{Notes, Rows, ready_page, noted_under, rows_of, stamp_for, has_frame, row_if, with_row, kept_rows, without_range, limited_rows, limited, agrees, is_current, HasNoRow, IsShown, AreNotes, number_of, lowered, counts, counting, without_place, HasCount}
+use Rattle.ready_map.specs.Notes.{Notes, ReadyRows, ready_page, noted_under, rows_of, stamp_for, has_frame, row_if, with_ready_row, kept_rows, without_range, limited_rows, limited, agrees, is_current, HasNoRow, IsReadySomewhere, AreNotes, lowered, counts, counting, without_place, HasCount}
 use Rattle.ready_map.proofs.CountLaws.{count-same, count-more, count-less, count-none, count-some, without-none, counts-is, counts-apart, counts-old, counts-not, counting-at, counting-dropped, counting-here, counting-other}
 use Rattle.ready_map.proofs.StampLaws.{row_of, page-stamped, page-noted, page-limited, page-unlimited, page-current, page-settled, page-lowered, lowered-some}
 
@@ -162,8 +162,8 @@ module _ (m : Notes) (root page : ℕ) (k : Kept) (frame : Option Tag) (notes : 
   abbrev after : Notes
   after = record m { places = places; stamps = stamps; time = m.time + 1; room = room }
 
-  pub rows-set : rows_of after ≡ with_row (kept_rows (agrees k.koid.0 k.page frame) (rows_of m)) root page (record { koid = k.koid; page = k.page; frame = frame; readiness = k.readiness })
-  unfolding with_row kept_rows passes
+  pub rows-set : rows_of after ≡ with_ready_row (kept_rows (agrees k.koid.0 k.page frame) (rows_of m)) root page (record { koid = k.koid; page = k.page; frame = frame; readiness = k.readiness })
+  unfolding with_ready_row kept_rows passes
   rows-set = λ i r q. each r q i where
     old_row : (r q : ℕ) → noted_under (values_of stamps) (values_of m.places r q) ≡ row_if (agrees k.koid.0 k.page frame) (rows_of m r q)
     old_row = by_note (values_of m.places) (values_of m.stamps) (values_of stamps) k.koid.0 k.page (Some (stamp_for (values_of m.stamps k.koid.0 k.page) frame m.time)) values
@@ -222,7 +222,7 @@ module _ (m : Notes) (root page : ℕ) (k : Kept) (frame : Option Tag) (notes : 
     stamp_counts : (at : Option Stamp) → values_of m.stamps k.koid.0 k.page ≡ at
         → HasCount (counting (values_of places) k.koid.0 k.page (stamp_for at frame m.time).since) (stamp_for at frame m.time).notes
     stamp_counts None e = fresh
-    stamp_counts (Some s) e = go (is_same_frame (number_of s.frame) (number_of frame)) where
+    stamp_counts (Some s) e = go (is_same_frame (frame_number s.frame) (frame_number frame)) where
       go : (alike : Bool) → HasCount (counting (values_of places) k.koid.0 k.page (cond alike (record s { notes = s.notes + 1 }) (record { frame = frame; since = m.time; shared = m.time; notes = 1 })).since)
           (cond alike (record s { notes = s.notes + 1 }) (record { frame = frame; since = m.time; shared = m.time; notes = 1 })).notes
       go true = added s.since s.notes (notes.stamped k.koid.0 k.page s e).0 (notes.counted k.koid.0 k.page s e)
@@ -231,7 +231,7 @@ module _ (m : Notes) (root page : ℕ) (k : Kept) (frame : Option Tag) (notes : 
     stamp_low : (at : Option Stamp) → ((s : Stamp) → at ≡ Some s → (s.since ≤ m.time) × (s.shared ≤ m.time)) → ((s : Stamp) → at ≡ Some s → s.notes ≤ m.time)
         → ((stamp_for at frame m.time).since ≤ m.time) × ((stamp_for at frame m.time).shared ≤ m.time) × (1 ≤ (stamp_for at frame m.time).notes) × ((stamp_for at frame m.time).notes ≤ m.time + 1)
     stamp_low None times few = (omega arith, omega arith, omega arith, omega arith)
-    stamp_low (Some s) times few = go (is_same_frame (number_of s.frame) (number_of frame)) (times s refl) (few s refl) where
+    stamp_low (Some s) times few = go (is_same_frame (frame_number s.frame) (frame_number frame)) (times s refl) (few s refl) where
       go : (alike : Bool) → (s.since ≤ m.time) × (s.shared ≤ m.time) → s.notes ≤ m.time
           → ((cond alike (record s { notes = s.notes + 1 }) (record { frame = frame; since = m.time; shared = m.time; notes = 1 })).since ≤ m.time)
           × ((cond alike (record s { notes = s.notes + 1 }) (record { frame = frame; since = m.time; shared = m.time; notes = 1 })).shared ≤ m.time)
@@ -291,9 +291,9 @@ module _ (m : Notes) (root page : ℕ) (k : Kept) (frame : Option Tag) (notes : 
         ]
 
 -- a note in place of another
-pub row-cleared : (rows : Rows) (root page : ℕ) (row : ReadyPage) (stays : ReadyPage → Bool)
-    → with_row (kept_rows stays (without_range rows root page (page + 1))) root page row ≡ with_row (kept_rows stays rows) root page row
-unfolding with_row kept_rows without_range passes
+pub row-cleared : (rows : ReadyRows) (root page : ℕ) (row : ReadyPage) (stays : ReadyPage → Bool)
+    → with_ready_row (kept_rows stays (without_range rows root page (page + 1))) root page row ≡ with_ready_row (kept_rows stays rows) root page row
+unfolding with_ready_row kept_rows without_range passes
 row-cleared rows root page row stays = λ i r q. each r q i where
   each : (r q : ℕ) → cond ((r == root) && (q == page)) (Some row) (row_if stays (cond ((r == root) && is_within page (page + 1) q) None (rows r q)))
       ≡ cond ((r == root) && (q == page)) (Some row) (row_if stays (rows r q))
@@ -441,9 +441,9 @@ module _ (m : Notes) (root p : ℕ) (k : Kept) (places : PairMap Kept) (stamps :
   }
 
 -- one page of a range, and then the range
-pub dropped-after : (old new : Rows) (root first end p : ℕ) → first ≤ p → p < end → new ≡ without_range old root p (p + 1) → without_range new root first end ≡ without_range old root first end
+pub dropped-after : (old new : ReadyRows) (root first end p : ℕ) → first ≤ p → p < end → new ≡ without_range old root p (p + 1) → without_range new root first end ≡ without_range old root first end
 unfolding without_range
-dropped-after old new root first end p low high made = ap (λ (rows : Rows). without_range rows root first end) made ∙ λ i r q. each r q i where
+dropped-after old new root first end p low high made = ap (λ (rows : ReadyRows). without_range rows root first end) made ∙ λ i r q. each r q i where
   each : (r q : ℕ) → cond ((r == root) && is_within first end q) None (cond ((r == root) && is_within p (p + 1) q) None (old r q)) ≡ cond ((r == root) && is_within first end q) None (old r q)
   each r q = grind (arith, nat_tests)
 
@@ -497,16 +497,16 @@ one_frame m r q root page x row is there koid at =
 
 -- and a page that is noted as it is may be noted so again
 pub row-there : (m : Notes) (root page : ℕ) (row : ReadyPage) → rows_of m root page ≡ Some row
-    → rows_of m ≡ with_row (kept_rows (agrees row.koid.0 row.page row.frame) (rows_of m)) root page row
-unfolding with_row kept_rows passes
+    → rows_of m ≡ with_ready_row (kept_rows (agrees row.koid.0 row.page row.frame) (rows_of m)) root page row
+unfolding with_ready_row kept_rows passes
 row-there m root page row there = λ i r q. each r q i where
   agreed : (r q : ℕ) (x : ReadyPage) → rows_of m r q ≡ Some x → (b : Bool) → ((x.koid.0 == row.koid.0) && (x.page == row.page)) ≡ b
-      → (not b || is_same_frame (number_of x.frame) (number_of row.frame)) ≡ true
+      → (not b || is_same_frame (frame_number x.frame) (frame_number row.frame)) ≡ true
   agreed r q x is false e = refl
   agreed r q x is true e =
       let both = and_parts (x.koid.0 == row.koid.0) (x.page == row.page) e in
       let frame = one_frame m r q root page x row is there (eqb_is x.koid.0 row.koid.0 both.0) (eqb_is x.page row.page both.1) in
-      ap (λ (f : Option Tag). is_same_frame (number_of f) (number_of row.frame)) frame ∙ is_same_frame-same (number_of row.frame)
+      ap (λ (f : Option Tag). is_same_frame (frame_number f) (frame_number row.frame)) frame ∙ is_same_frame-same (frame_number row.frame)
 
   stays : (r q : ℕ) (o : Option ReadyPage) → rows_of m r q ≡ o → o ≡ row_if (agrees row.koid.0 row.page row.frame) o
   stays r q None is = refl
@@ -538,12 +538,12 @@ HasNoRow-gap m v from end none = record { none = λ r q row e. go (values_of m.p
         absurd cc
 
 -- each stamp is of a page that is shown
-pub IsShown-stamped : (m : Notes) (v p : ℕ) (s : Stamp) → AreNotes m → values_of m.stamps v p ≡ Some s → IsShown (rows_of m) v p
+pub IsReadySomewhere-stamped : (m : Notes) (v p : ℕ) (s : Stamp) → AreNotes m → values_of m.stamps v p ≡ Some s → IsReadySomewhere (rows_of m) v p
 unfolding passes
-IsShown-stamped m v p s notes found =
+IsReadySomewhere-stamped m v p s notes found =
     let one = count-some s.notes (counting (values_of m.places) v p s.since) (notes.counted v p s found) (notes.noted v p s found).0 in
     go one.0 one.1 (values_of m.places one.0 one.1) refl one.2 where
-      go : (r q : ℕ) (o : Option Kept) → values_of m.places r q ≡ o → counting (values_of m.places) v p s.since r q ≡ true → IsShown (rows_of m) v p
+      go : (r q : ℕ) (o : Option Kept) → values_of m.places r q ≡ o → counting (values_of m.places) v p s.since r q ≡ true → IsReadySomewhere (rows_of m) v p
       go r q None at is = absurd (let none = counting-at (values_of m.places) v p s.since r q None at in cc)
       go r q (Some k) at is =
           let passed = and_parts ((k.koid.0 == v) && (k.page == p)) (not (nat_lt k.made s.since)) (sym (counting-at (values_of m.places) v p s.since r q (Some k) at) ∙ is) in
@@ -560,11 +560,11 @@ IsShown-stamped m v p s notes found =
             page = page;
           }
 
-pub IsShown-of : (m : Notes) → AreNotes m → (v p : ℕ) → IsSome (values_of m.stamps v p) → IsShown (rows_of m) v p
-IsShown-of m notes v p some = go (values_of m.stamps v p) refl some where
-  go : (o : Option Stamp) → values_of m.stamps v p ≡ o → IsSome o → IsShown (rows_of m) v p
+pub IsReadySomewhere-of : (m : Notes) → AreNotes m → (v p : ℕ) → IsSome (values_of m.stamps v p) → IsReadySomewhere (rows_of m) v p
+IsReadySomewhere-of m notes v p some = go (values_of m.stamps v p) refl some where
+  go : (o : Option Stamp) → values_of m.stamps v p ≡ o → IsSome o → IsReadySomewhere (rows_of m) v p
   go None e is = absurd cc
-  go (Some s) e is = IsShown-stamped m v p s notes e
+  go (Some s) e is = IsReadySomewhere-stamped m v p s notes e
 
 -- ---- pages of a VMO are settled, one after another
 
@@ -582,7 +582,7 @@ unfolding passes
 row_if-same a b None same = refl
 row_if-same a b (Some x) same = ap (λ (stays : Bool). cond stays (Some x) None) (same x refl)
 
-pub settled-start : (c : Content) (v first : ℕ) (rows : Rows) → rows ≡ kept_rows (is_current c v first first) rows
+pub settled-start : (c : Content) (v first : ℕ) (rows : ReadyRows) → rows ≡ kept_rows (is_current c v first first) rows
 unfolding kept_rows passes
 settled-start c v first rows = λ i r q. go (rows r q) i where
   go : (o : Option ReadyPage) → o ≡ row_if (is_current c v first first) o
@@ -591,13 +591,13 @@ settled-start c v first rows = λ i r q. go (rows r q) i where
       let stays : is_current c v first first x ≡ true = grind (arith, nat_tests) in
       rw stays refl
 
-module _ (c : Content) (v first from end : ℕ) (rows now : Rows) (is : now ≡ kept_rows (is_current c v first from) rows) where
+module _ (c : Content) (v first from end : ℕ) (rows now : ReadyRows) (is : now ≡ kept_rows (is_current c v first from) rows) where
   -- the rows that are there are those that were kept
   there : (r q : ℕ) (x : ReadyPage) → rows r q ≡ Some x → is_current c v first from x ≡ true → now r q ≡ Some x
   unfolding kept_rows passes
-  there r q x e stays = ap (λ (s : Rows). s r q) is ∙ rw (e, stays) refl
+  there r q x e stays = ap (λ (s : ReadyRows). s r q) is ∙ rw (e, stays) refl
 
-  pub settled-next : (next : Rows) (p : ℕ) → first ≤ from → from ≤ p → HasNoRow now v from p → next ≡ kept_rows (is_current c v p (p + 1)) now → next ≡ kept_rows (is_current c v first (p + 1)) rows
+  pub settled-next : (next : ReadyRows) (p : ℕ) → first ≤ from → from ≤ p → HasNoRow now v from p → next ≡ kept_rows (is_current c v p (p + 1)) now → next ≡ kept_rows (is_current c v first (p + 1)) rows
   unfolding kept_rows
   settled-next next p order low none made = made ∙ (ap (kept_rows (is_current c v p (p + 1))) is ∙ λ i r q. each r q i) where
     each : (r q : ℕ) → row_if (is_current c v p (p + 1)) (row_if (is_current c v first from) (rows r q)) ≡ row_if (is_current c v first (p + 1)) (rows r q)
@@ -616,7 +616,7 @@ module _ (c : Content) (v first from end : ℕ) (rows now : Rows) (is : now ≡ 
 
 -- ---- pages of a VMO are restricted, one after another
 
-pub limited-start : (stays : ℕ → Bool) (v first : ℕ) (rows : Rows) → rows ≡ limited_rows stays v first first rows
+pub limited-start : (stays : ℕ → Bool) (v first : ℕ) (rows : ReadyRows) → rows ≡ limited_rows stays v first first rows
 unfolding limited_rows
 limited-start stays v first rows = λ i r q. go (rows r q) i where
   go : (o : Option ReadyPage) → o ≡ option_map (limited stays v first first) o
@@ -632,12 +632,12 @@ limited-both row true false c e = rw e refl
 limited-both row false true c e = rw e refl
 limited-both row false false c e = rw e refl
 
-module _ (stays : ℕ → Bool) (v first from end : ℕ) (rows now : Rows) (is : now ≡ limited_rows stays v first from rows) where
+module _ (stays : ℕ → Bool) (v first from end : ℕ) (rows now : ReadyRows) (is : now ≡ limited_rows stays v first from rows) where
   limited_there : (r q : ℕ) (x : ReadyPage) → rows r q ≡ Some x → now r q ≡ Some (limited stays v first from x)
   unfolding limited_rows
-  limited_there r q x e = ap (λ (s : Rows). s r q) is ∙ ap (option_map (limited stays v first from)) e
+  limited_there r q x e = ap (λ (s : ReadyRows). s r q) is ∙ ap (option_map (limited stays v first from)) e
 
-  pub limited-next : (next : Rows) (p : ℕ) (b : Bool) → first ≤ from → from ≤ p → HasNoRow now v from p → b ≡ stays p → next ≡ limited_rows (λ q. b) v p (p + 1) now
+  pub limited-next : (next : ReadyRows) (p : ℕ) (b : Bool) → first ≤ from → from ≤ p → HasNoRow now v from p → b ≡ stays p → next ≡ limited_rows (λ q. b) v p (p + 1) now
       → next ≡ limited_rows stays v first (p + 1) rows
   unfolding limited_rows
   limited-next next p b order low none bit made = made ∙ (ap (limited_rows (λ q. b) v p (p + 1)) is ∙ λ i r q. go r q (rows r q) refl i) where

@@ -13,31 +13,31 @@ use Rattle.vm_model.specs.declared.space.Readiness.{Readiness}
 use Rattle.vm_model.specs.declared.space.Readiness.TheVariants.{Read}
 use Rattle.vm_model.specs.Contents.Content.{Content, pages_of}
 use Rattle.vm_model.specs.Contents.Zeroing.{is_within}
-use Rattle.vm_model.specs.Space.Readiness.{Ready, frame_at, is_same_frame, keeps_frame, settled, with_ready, unready, shows_but, read_only_but}
+use Rattle.vm_model.specs.Space.Readiness.{Ready, frame_at, is_same_frame, keeps_frame, settled, with_ready, unready, shows_but, read_only_but, frame_number}
 use Rattle.vm_model.proofs.ReadinessLaws.{is_same_frame-is}
 use Rattle.ready_map.specs.declared.ready_map.ReadyPage.{ReadyPage}
-use Rattle.ready_map.specs.Notes.{Rows, ready_of, number_of, has_frame, row_if, with_row, kept_rows, without_range, limited, limited_rows, is_of, agrees, is_current, ChangesRange, AreTrue}
+use Rattle.ready_map.specs.Notes.{ReadyRows, ready_in, has_frame, row_if, with_ready_row, kept_rows, without_range, limited, limited_rows, is_row_of_page, agrees, is_current, ChangesRange, NotesAreTrue}
 
 -- a row whose page has its frame still, and one whose page had it
-module _ (old new : Content) (table : ℕ → ℕ → Option Entry) (rows : Rows) (true_rows : AreTrue old table rows) where
+module _ (old new : Content) (table : ℕ → ℕ → Option Entry) (rows : ReadyRows) (true_rows : NotesAreTrue old table rows) where
   -- the page of a row had the row's frame, so whether it has it still is whether the entry keeps its frame
   has-keeps : (root p : ℕ) (row : ReadyPage) (entry : Entry) → rows root p ≡ Some row → entry.koid.0 ≡ row.koid.0 → entry.page ≡ row.page
       → has_frame new row.koid.0 row.page row.frame ≡ keeps_frame old new entry
   unfolding keeps_frame
   has-keeps root p row entry e koid page =
-      let had = (and_parts (is_same_frame (number_of row.frame) (frame_at old row.koid.0 row.page)) (nat_lt row.page (pages_of old row.koid.0)) (true_rows.current root p row e)).0 in
-      let same = is_same_frame-is (number_of row.frame) (frame_at old row.koid.0 row.page) had in
+      let had = (and_parts (is_same_frame (frame_number row.frame) (frame_at old row.koid.0 row.page)) (nat_lt row.page (pages_of old row.koid.0)) (true_rows.current root p row e)).0 in
+      let same = is_same_frame-is (frame_number row.frame) (frame_at old row.koid.0 row.page) had in
       λ i. is_same_frame ((same ∙ (λ j. frame_at old (sym koid j) (sym page j))) i) (frame_at new (sym koid i) (sym page i)) && nat_lt (sym page i) (pages_of new (sym koid i))
 
   -- such a page outside of what changed has its frame still
   module _ (v first end : ℕ) (change : ChangesRange old new v first end) where
     has-outside : (root p : ℕ) (row : ReadyPage) → rows root p ≡ Some row → ((row.koid.0 == v) && is_within first end row.page) ≡ false → has_frame new row.koid.0 row.page row.frame ≡ true
     has-outside root p row e out =
-        let was = and_parts (is_same_frame (number_of row.frame) (frame_at old row.koid.0 row.page)) (nat_lt row.page (pages_of old row.koid.0)) (true_rows.current root p row e) in
+        let was = and_parts (is_same_frame (frame_number row.frame) (frame_at old row.koid.0 row.page)) (nat_lt row.page (pages_of old row.koid.0)) (true_rows.current root p row e) in
         let apart : row.koid.0 ≡ v → first ≤ row.page → row.page < end → ⊥ = λ same low high. outside row same low high out in
         let frame = change.frame row.koid.0 row.page apart in
         let below = change.below row.koid.0 row.page apart (ltb-true row.page (pages_of old row.koid.0) was.1) in
-        (λ i. is_same_frame (number_of row.frame) (frame i) && nat_lt row.page (pages_of new row.koid.0))
+        (λ i. is_same_frame (frame_number row.frame) (frame i) && nat_lt row.page (pages_of new row.koid.0))
         ∙ (ap (λ (alike : Bool). alike && nat_lt row.page (pages_of new row.koid.0)) was.0 ∙ lt-ltb row.page (pages_of new row.koid.0) below)
       where
         outside : (row : ReadyPage) → row.koid.0 ≡ v → first ≤ row.page → row.page < end → ((row.koid.0 == v) && is_within first end row.page) ≡ false → ⊥
@@ -53,10 +53,10 @@ module _ (old new : Content) (table : ℕ → ℕ → Option Entry) (rows : Rows
       go false out = sym (has-outside root p row e out)
 
     -- settling the range is the machine's rule
-    pub ready-settled : ready_of (kept_rows (is_current new v first end) rows) ≡ settled old new table (ready_of rows)
+    pub ready-settled : ready_in (kept_rows (is_current new v first end) rows) ≡ settled old new table (ready_in rows)
     unfolding kept_rows settled passes
     ready-settled = λ i r q. each r q i where
-      each : (r q : ℕ) → ready_of (kept_rows (is_current new v first end) rows) r q ≡ settled old new table (ready_of rows) r q
+      each : (r q : ℕ) → ready_in (kept_rows (is_current new v first end) rows) r q ≡ settled old new table (ready_in rows) r q
       each r q = go (rows r q) refl where
         go : (o : Option ReadyPage) → rows r q ≡ o → option_map (λ (x : ReadyPage). x.readiness) (row_if (is_current new v first end) o)
             ≡ cond (passes (keeps_frame old new) (table r q)) (option_map (λ (x : ReadyPage). x.readiness) o) None
@@ -75,7 +75,7 @@ module _ (old new : Content) (table : ℕ → ℕ → Option Entry) (rows : Rows
               by_test false goes keeps = rw (keeps, goes) refl
 
     -- and the rows that are left are true
-    pub true-settled : AreTrue new table (kept_rows (is_current new v first end) rows)
+    pub true-settled : NotesAreTrue new table (kept_rows (is_current new v first end) rows)
     unfolding kept_rows passes
     true-settled = record {
       entry = λ r q row e. true_rows.entry r q row (kept r q row e).0;
@@ -97,13 +97,13 @@ ready-cond : (b : Bool) (o : Option ReadyPage) → option_map (λ (x : ReadyPage
 ready-cond true o = refl
 ready-cond false o = refl
 
-pub ready-dropped : (rows : Rows) (root first end : ℕ) → ready_of (without_range rows root first end) ≡ unready (ready_of rows) root first end
+pub ready-dropped : (rows : ReadyRows) (root first end : ℕ) → ready_in (without_range rows root first end) ≡ unready (ready_in rows) root first end
 unfolding without_range unready
 ready-dropped rows root first end = λ i r q. ready-cond ((r == root) && is_within first end q) (rows r q) i
 
 -- outside of the range the table is as it was
-pub true-dropped : (c : Content) (old new : ℕ → ℕ → Option Entry) (rows : Rows) (root first end : ℕ) → AreTrue c old rows
-    → ((r q : ℕ) → ((r == root) && is_within first end q) ≡ false → new r q ≡ old r q) → AreTrue c new (without_range rows root first end)
+pub true-dropped : (c : Content) (old new : ℕ → ℕ → Option Entry) (rows : ReadyRows) (root first end : ℕ) → NotesAreTrue c old rows
+    → ((r q : ℕ) → ((r == root) && is_within first end q) ≡ false → new r q ≡ old r q) → NotesAreTrue c new (without_range rows root first end)
 unfolding without_range
 true-dropped c old new rows root first end true_rows same = record {
   entry = λ r q row e. let was = kept r q row e in let entry = true_rows.entry r q row was.0 in (entry.0, same r q was.1 ∙ entry.1, entry.2, entry.3);
@@ -117,8 +117,8 @@ true-dropped c old new rows root first end true_rows same = record {
 
 -- ---- pages of a VMO that a snapshot shares
 
-module _ (c : Content) (table : ℕ → ℕ → Option Entry) (rows : Rows) (true_rows : AreTrue c table rows) (stays : ℕ → Bool) (v first end : ℕ) where
-  pub ready-limited : ready_of (limited_rows stays v first end rows) ≡ read_only_but stays table v first end (ready_of rows)
+module _ (c : Content) (table : ℕ → ℕ → Option Entry) (rows : ReadyRows) (true_rows : NotesAreTrue c table rows) (stays : ℕ → Bool) (v first end : ℕ) where
+  pub ready-limited : ready_in (limited_rows stays v first end rows) ≡ read_only_but stays table v first end (ready_in rows)
   unfolding limited_rows read_only_but passes
   ready-limited = λ i r q. go r q (rows r q) refl i where
     go : (r q : ℕ) (o : Option ReadyPage) → rows r q ≡ o
@@ -138,7 +138,7 @@ module _ (c : Content) (table : ℕ → ℕ → Option Entry) (rows : Rows) (tru
           by_bit true readiness = refl
           by_bit false readiness = refl
 
-  pub true-limited : AreTrue c table (limited_rows stays v first end rows)
+  pub true-limited : NotesAreTrue c table (limited_rows stays v first end rows)
   unfolding limited_rows
   true-limited = record {
     entry = λ r q row e. let was = kept r q row e in let entry = true_rows.entry r q was.0 was.1 in (entry.0, entry.1, entry.2 ∙ was.2, entry.3 ∙ was.3);
@@ -163,23 +163,23 @@ and_true true = refl
 and_true false = refl
 
 -- Noting a page after a change of the page of the VMO alone that it shows: the others are reset by the machine's rule.
-module _ (old new : Content) (table : ℕ → ℕ → Option Entry) (rows : Rows) (true_rows : AreTrue old table rows) (root page : ℕ) (row : ReadyPage)
+module _ (old new : Content) (table : ℕ → ℕ → Option Entry) (rows : ReadyRows) (true_rows : NotesAreTrue old table rows) (root page : ℕ) (row : ReadyPage)
     (change : ChangesRange old new row.koid.0 row.page (row.page + 1)) (now : has_frame new row.koid.0 row.page row.frame ≡ true) where
   agrees-current : (x : ReadyPage) → agrees row.koid.0 row.page row.frame x ≡ is_current new row.koid.0 row.page (row.page + 1) x
   agrees-current x =
-      let parts = and_parts (is_same_frame (number_of row.frame) (frame_at new row.koid.0 row.page)) (nat_lt row.page (pages_of new row.koid.0)) now in
-      let frame = is_same_frame-is (number_of row.frame) (frame_at new row.koid.0 row.page) parts.0 in
-      go (is_of row.koid.0 row.page x) refl frame parts.1 where
-        go : (b : Bool) → is_of row.koid.0 row.page x ≡ b → number_of row.frame ≡ frame_at new row.koid.0 row.page → nat_lt row.page (pages_of new row.koid.0) ≡ true
+      let parts = and_parts (is_same_frame (frame_number row.frame) (frame_at new row.koid.0 row.page)) (nat_lt row.page (pages_of new row.koid.0)) now in
+      let frame = is_same_frame-is (frame_number row.frame) (frame_at new row.koid.0 row.page) parts.0 in
+      go (is_row_of_page row.koid.0 row.page x) refl frame parts.1 where
+        go : (b : Bool) → is_row_of_page row.koid.0 row.page x ≡ b → frame_number row.frame ≡ frame_at new row.koid.0 row.page → nat_lt row.page (pages_of new row.koid.0) ≡ true
             → agrees row.koid.0 row.page row.frame x ≡ is_current new row.koid.0 row.page (row.page + 1) x
         go true hit frame low =
             let both = and_parts (x.koid.0 == row.koid.0) (x.page == row.page) hit in
             let place : x.page ≡ row.page = eqb_is x.page row.page both.1 in
             let inside : ((x.koid.0 == row.koid.0) && is_within row.page (row.page + 1) x.page) ≡ true = grind (arith, nat_tests) in
-            let there : has_frame new row.koid.0 x.page x.frame ≡ is_same_frame (number_of x.frame) (number_of row.frame) =
-            (λ i. is_same_frame (number_of x.frame) (frame_at new row.koid.0 (place i)) && nat_lt (place i) (pages_of new row.koid.0))
-            ∙ (ap (λ (b : Bool). is_same_frame (number_of x.frame) (frame_at new row.koid.0 row.page) && b) low
-            ∙ (and_true (is_same_frame (number_of x.frame) (frame_at new row.koid.0 row.page)) ∙ ap (is_same_frame (number_of x.frame)) (sym frame))) in
+            let there : has_frame new row.koid.0 x.page x.frame ≡ is_same_frame (frame_number x.frame) (frame_number row.frame) =
+            (λ i. is_same_frame (frame_number x.frame) (frame_at new row.koid.0 (place i)) && nat_lt (place i) (pages_of new row.koid.0))
+            ∙ (ap (λ (b : Bool). is_same_frame (frame_number x.frame) (frame_at new row.koid.0 row.page) && b) low
+            ∙ (and_true (is_same_frame (frame_number x.frame) (frame_at new row.koid.0 row.page)) ∙ ap (is_same_frame (frame_number x.frame)) (sym frame))) in
             rw (hit, inside) (sym there)
         go false miss frame low =
             let outside : ((x.koid.0 == row.koid.0) && is_within row.page (row.page + 1) x.page) ≡ false = grind (arith, nat_tests) in
@@ -192,10 +192,10 @@ module _ (old new : Content) (table : ℕ → ℕ → Option Entry) (rows : Rows
     go None = refl
     go (Some x) = ap (λ (b : Bool). cond b (Some x) None) (agrees-current x)
 
-  pub ready-set : ready_of (with_row (kept_rows (agrees row.koid.0 row.page row.frame) rows) root page row) ≡ with_ready (settled old new table (ready_of rows)) root page row.readiness
-  unfolding with_row with_ready
+  pub ready-set : ready_in (with_ready_row (kept_rows (agrees row.koid.0 row.page row.frame) rows) root page row) ≡ with_ready (settled old new table (ready_in rows)) root page row.readiness
+  unfolding with_ready_row with_ready
   ready-set =
-      ap (λ (s : Rows). ready_of (with_row s root page row)) same_rows
+      ap (λ (s : ReadyRows). ready_in (with_ready_row s root page row)) same_rows
       ∙ ((λ i r q. put ((r == root) && (q == page)) (kept_rows (is_current new row.koid.0 row.page (row.page + 1)) rows r q) i)
       ∙ ap (λ (ready : Ready). with_ready ready root page row.readiness) (ready-settled old new table rows true_rows row.koid.0 row.page (row.page + 1) change))
     where
@@ -204,8 +204,8 @@ module _ (old new : Content) (table : ℕ → ℕ → Option Entry) (rows : Rows
       put false o = refl
 
   pub true-set : (entry : Entry) → table root page ≡ Some entry → entry.koid.0 ≡ row.koid.0 → entry.page ≡ row.page
-      → AreTrue new table (with_row (kept_rows (agrees row.koid.0 row.page row.frame) rows) root page row)
-  unfolding with_row
+      → NotesAreTrue new table (with_ready_row (kept_rows (agrees row.koid.0 row.page row.frame) rows) root page row)
+  unfolding with_ready_row
   true-set entry is koid shows = record {
     entry = λ r q x e. elim (at r q x e) [
       | inl here ↦ (entry, (λ i. table (here.0 i) (here.1 i)) ∙ is, koid ∙ ap (λ (y : ReadyPage). y.koid.0) here.2, shows ∙ ap (λ (y : ReadyPage). y.page) here.2)
@@ -216,8 +216,8 @@ module _ (old new : Content) (table : ℕ → ℕ → Option Entry) (rows : Rows
       | inr other ↦ left.current r q x other
     ];
   } where
-    left : AreTrue new table (kept_rows (agrees row.koid.0 row.page row.frame) rows)
-    left = subst (λ (s : Rows). AreTrue new table s) (sym same_rows) (true-settled old new table rows true_rows row.koid.0 row.page (row.page + 1) change)
+    left : NotesAreTrue new table (kept_rows (agrees row.koid.0 row.page row.frame) rows)
+    left = subst (λ (s : ReadyRows). NotesAreTrue new table s) (sym same_rows) (true-settled old new table rows true_rows row.koid.0 row.page (row.page + 1) change)
 
     at : (r q : ℕ) (x : ReadyPage) → cond ((r == root) && (q == page)) (Some row) (kept_rows (agrees row.koid.0 row.page row.frame) rows r q) ≡ Some x
         → ((r ≡ root) × (q ≡ page) × (row ≡ x)) ⊎ (kept_rows (agrees row.koid.0 row.page row.frame) rows r q ≡ Some x)

@@ -10,20 +10,20 @@ use Rattle.vm_base.proofs.EntryLaws.{some_same}
 use Rattle.vm_model.specs.declared.space.Readiness.TheVariants.{Read}
 use Rattle.vm_model.specs.Contents.Content.{Content, pages_of}
 use Rattle.vm_model.specs.Contents.Zeroing.{is_within}
-use Rattle.vm_model.specs.Space.Readiness.{frame_at, is_same_frame}
+use Rattle.vm_model.specs.Space.Readiness.{frame_at, is_same_frame, frame_number}
 use Rattle.vm_model.proofs.ContentLaws.{pages_of-at}
 use Rattle.vm_model.proofs.ReadinessLaws.{is_same_frame-is}
 use Rattle.ready_map.specs.declared.ready_map.ReadyPage.{ReadyPage}
 use Rattle.ready_map.specs.declared.stamps.Kept.{Kept}
 use Rattle.ready_map.specs.declared.stamps.Stamp.{Stamp}
-use Rattle.ready_map.specs.Notes.{ready_page, number_of, stamp_for, lowered, row_if, agrees, limited, has_frame, is_current}
+use Rattle.ready_map.specs.Notes.{ready_page, stamp_for, lowered, row_if, agrees, limited, has_frame, is_current}
 
 -- the row that a note gives
 abbrev pub row_of : Kept → Stamp → ReadyPage
 row_of k s = record { koid = k.koid; page = k.page; frame = s.frame; readiness = cond (nat_lt k.made s.shared) Read k.readiness }
 
 -- frames with one number are one
-pub frame_is : (one other : Option Tag) → is_same_frame (number_of one) (number_of other) ≡ true → one ≡ other
+pub frame_is : (one other : Option Tag) → is_same_frame (frame_number one) (frame_number other) ≡ true → one ≡ other
 frame_is None None same = refl
 frame_is None (Some u) same = absurd cc
 frame_is (Some t) None same = absurd cc
@@ -58,8 +58,8 @@ page-stamped k v p frame time (Some s) at before is = go ((k.koid.0 == v) && (k.
 
   go : (b : Bool) → ((k.koid.0 == v) && (k.page == p)) ≡ b → (b ≡ true → at ≡ Some s)
       → ready_page k (cond b (Some (stamp_for at frame time)) (Some s)) ≡ row_if (agrees v p frame) (ready_page k (Some s))
-  go true hit same = rw (same refl) (by_frame (is_same_frame (number_of s.frame) (number_of frame)) refl) where
-    by_frame : (alike : Bool) → is_same_frame (number_of s.frame) (number_of frame) ≡ alike
+  go true hit same = rw (same refl) (by_frame (is_same_frame (frame_number s.frame) (frame_number frame)) refl) where
+    by_frame : (alike : Bool) → is_same_frame (frame_number s.frame) (frame_number frame) ≡ alike
         → ready_page k (Some (stamp_for (Some s) frame time)) ≡ row_if (agrees v p frame) (ready_page k (Some s))
     by_frame true alike = rw alike (kept (nat_lt k.made s.since) refl (rw (hit, alike) refl))
     by_frame false unlike = rw (unlike, fresh) (gone (nat_lt k.made s.since) refl (rw (hit, unlike) refl))
@@ -69,8 +69,8 @@ page-stamped k v p frame time (Some s) at before is = go ((k.koid.0 == v) && (k.
 pub page-noted : (k : Kept) (frame : Option Tag) (at : Option Stamp) → ((s : Stamp) → at ≡ Some s → (s.since ≤ k.made) × (s.shared ≤ k.made))
     → ready_page k (Some (stamp_for at frame k.made)) ≡ Some (record { koid = k.koid; page = k.page; frame = frame; readiness = k.readiness })
 page-noted k frame None low = rw (le-ltb k.made k.made (omega arith)) refl
-page-noted k frame (Some s) low = go (is_same_frame (number_of s.frame) (number_of frame)) refl where
-  go : (alike : Bool) → is_same_frame (number_of s.frame) (number_of frame) ≡ alike
+page-noted k frame (Some s) low = go (is_same_frame (frame_number s.frame) (frame_number frame)) refl where
+  go : (alike : Bool) → is_same_frame (frame_number s.frame) (frame_number frame) ≡ alike
       → ready_page k (Some (stamp_for (Some s) frame k.made)) ≡ Some (record { koid = k.koid; page = k.page; frame = frame; readiness = k.readiness })
   go true alike =
       let times = low s refl in
@@ -196,11 +196,11 @@ page-settled c k v p (Some s) goes = go ((k.koid.0 == v) && (k.page == p)) refl 
 
 -- ---- the frame that a page has now
 
-pub has_frame-is : (c : Content) (v p n : ℕ) (frame found : Option Tag) → is_same_frame (number_of frame) (number_of found) ≡ true → number_of found ≡ frame_at c v p
+pub has_frame-is : (c : Content) (v p n : ℕ) (frame found : Option Tag) → is_same_frame (frame_number frame) (frame_number found) ≡ true → frame_number found ≡ frame_at c v p
     → c.count v ≡ Some n → nat_lt p n ≡ has_frame c v p frame
 has_frame-is c v p n frame found same is count =
     ap (nat_lt p) (sym (pages_of-at c v n count))
-    ∙ sym (ap (λ (alike : Bool). alike && nat_lt p (pages_of c v)) (ap (is_same_frame (number_of frame)) (sym is) ∙ same))
+    ∙ sym (ap (λ (alike : Bool). alike && nat_lt p (pages_of c v)) (ap (is_same_frame (frame_number frame)) (sym is) ∙ same))
 
 -- nothing was found
 pub none_else : {A : Type 0} (o : Option A) → ((x : A) → o ≡ Some x → ⊥) → o ≡ None

@@ -7,7 +7,7 @@ use Rattle.vm_model.specs.declared.space.Entry.{Entry}
 use Rattle.vm_model.specs.declared.space.Readiness.TheVariants.{Read}
 use Rattle.vm_model.specs.Contents.Content.{Content, pages_of}
 use Rattle.vm_model.specs.Contents.Zeroing.{is_within}
-use Rattle.vm_model.specs.Space.Readiness.{Ready, frame_at, is_same_frame}
+use Rattle.vm_model.specs.Space.Readiness.{Ready, frame_at, is_same_frame, frame_number}
 use Rattle.pair_map.specs.declared.pair_map.PairMap.{PairMap}
 use Rattle.pair_map.specs.Maps.{values_of}
 use Rattle.ready_map.specs.declared.ready_map.ReadyPage.{ReadyPage}
@@ -35,21 +35,17 @@ noted_under stamps None = None
 noted_under stamps (Some kept) = ready_page kept (stamps kept.koid.0 kept.page)
 
 -- what is noted of each page of each address space that is ready for an access
-abbrev pub Rows : Type 0
-Rows = ℕ → ℕ → Option ReadyPage
+abbrev pub ReadyRows : Type 0
+ReadyRows = ℕ → ℕ → Option ReadyPage
 
-abbrev pub rows_of : Notes → Rows
+abbrev pub rows_of : Notes → ReadyRows
 rows_of m root p = noted_under (values_of m.stamps) (values_of m.places root p)
-
--- the number of a frame, if there is one
-abbrev pub number_of : Option Tag → Option ℕ
-number_of frame = option_map (λ (tag : Tag). tag.0) frame
 
 -- the stamp of a page that has this frame, with one note more than the one that it has
 abbrev pub stamp_for : Option Stamp → Option Tag → (time : ℕ) → Stamp
 stamp_for None frame time = record { frame = frame; since = time; shared = time; notes = 1 }
 stamp_for (Some stamp) frame time =
-    if is_same_frame (number_of stamp.frame) (number_of frame) then record stamp { notes = stamp.notes + 1 }
+    if is_same_frame (frame_number stamp.frame) (frame_number frame) then record stamp { notes = stamp.notes + 1 }
     else record { frame = frame; since = time; shared = time; notes = 1 }
 
 -- the stamp without a note that was made at this time. None if no other note counts
@@ -60,50 +56,50 @@ lowered made (Some stamp) =
     else (if nat_lt 1 stamp.notes then Some (record stamp { notes = stamp.notes - 1 }) else None)
 
 -- how many more pages can be noted with no memory from the host
-abbrev pub spare_of : Notes → ℕ
-spare_of m = m.room
+abbrev pub notes_spare : Notes → ℕ
+notes_spare m = m.room
 
 -- what each page is ready for
-abbrev pub ready_of : Rows → Ready
-ready_of rows root p = option_map (λ (x : ReadyPage). x.readiness) (rows root p)
+abbrev pub ready_in : ReadyRows → Ready
+ready_in rows root p = option_map (λ (x : ReadyPage). x.readiness) (rows root p)
 
 -- page p of the VMO v lies in it, and has this frame
 abbrev pub has_frame : Content → (v p : ℕ) → Option Tag → Bool
-has_frame c v p frame = is_same_frame (number_of frame) (frame_at c v p) && nat_lt p (pages_of c v)
+has_frame c v p frame = is_same_frame (frame_number frame) (frame_at c v p) && nat_lt p (pages_of c v)
 
 -- ---- what the calls change
 
 -- the rows, with this one of page p of an address space
-unfoldable pub with_row : Rows → (root p : ℕ) → ReadyPage → Rows
-with_row rows root p row r q = if (r == root) && (q == p) then Some row else rows r q
+unfoldable pub with_ready_row : ReadyRows → (root p : ℕ) → ReadyPage → ReadyRows
+with_ready_row rows root p row r q = if (r == root) && (q == p) then Some row else rows r q
 
 -- the row, if it passes
 abbrev pub row_if : (ReadyPage → Bool) → Option ReadyPage → Option ReadyPage
 row_if stays row = if passes stays row then row else None
 
 -- the rows that pass
-unfoldable pub kept_rows : (ReadyPage → Bool) → Rows → Rows
+unfoldable pub kept_rows : (ReadyPage → Bool) → ReadyRows → ReadyRows
 kept_rows stays rows r q = row_if stays (rows r q)
 
 -- the rows, without those of an address space from page `first` to below `end`
-unfoldable pub without_range : Rows → (root first end : ℕ) → Rows
+unfoldable pub without_range : ReadyRows → (root first end : ℕ) → ReadyRows
 without_range rows root first end r q = if (r == root) && is_within first end q then None else rows r q
 
 -- the row is of page p of the VMO v
-abbrev pub is_of : (v p : ℕ) → ReadyPage → Bool
-is_of v p row = (row.koid.0 == v) && (row.page == p)
+abbrev pub is_row_of_page : (v p : ℕ) → ReadyPage → Bool
+is_row_of_page v p row = (row.koid.0 == v) && (row.page == p)
 
 -- the row is of no page of the VMO v from `first` to below `end`
-abbrev pub is_outside : (v first end : ℕ) → ReadyPage → Bool
-is_outside v first end row = not ((row.koid.0 == v) && is_within first end row.page)
+abbrev pub is_row_outside : (v first end : ℕ) → ReadyPage → Bool
+is_row_outside v first end row = not ((row.koid.0 == v) && is_within first end row.page)
 
 -- the row is of another page than page p of the VMO v, or has this frame
 abbrev pub agrees : (v p : ℕ) → Option Tag → ReadyPage → Bool
-agrees v p frame row = not (is_of v p row) || is_same_frame (number_of row.frame) (number_of frame)
+agrees v p frame row = not (is_row_of_page v p row) || is_same_frame (frame_number row.frame) (frame_number frame)
 
 -- the row is of no such page, or the page lies in the VMO and has the row's frame
 abbrev pub is_current : Content → (v first end : ℕ) → ReadyPage → Bool
-is_current c v first end row = is_outside v first end row || has_frame c v row.page row.frame
+is_current c v first end row = is_row_outside v first end row || has_frame c v row.page row.frame
 
 -- the row, for reading alone if it is of a page of the VMO v from `first` to below `end` that does not pass
 abbrev pub limited : (stays : ℕ → Bool) → (v first end : ℕ) → ReadyPage → ReadyPage
@@ -111,15 +107,15 @@ limited stays v first end row =
     record row { readiness = if (row.koid.0 == v) && is_within first end row.page && not (stays row.page) then Read else row.readiness }
 
 -- the rows, with those of such pages for reading alone
-unfoldable pub limited_rows : (stays : ℕ → Bool) → (v first end : ℕ) → Rows → Rows
+unfoldable pub limited_rows : (stays : ℕ → Bool) → (v first end : ℕ) → ReadyRows → ReadyRows
 limited_rows stays v first end rows r q = option_map (limited stays v first end) (rows r q)
 
 -- no row is of a page of the VMO v from `from` to below `end`
-pub record HasNoRow (rows : Rows) (v from end : ℕ) : Type 0 where
+pub record HasNoRow (rows : ReadyRows) (v from end : ℕ) : Type 0 where
   pub none : (r q : ℕ) (row : ReadyPage) → rows r q ≡ Some row → row.koid.0 ≡ v → from ≤ row.page → row.page < end → ⊥
 
 -- page p of the VMO v is shown by a page that is ready for an access
-pub record IsShown (rows : Rows) (v p : ℕ) : Type 0 where
+pub record IsReadySomewhere (rows : ReadyRows) (v p : ℕ) : Type 0 where
   pub root : ℕ
   pub at : ℕ
   pub row : ReadyPage
@@ -171,6 +167,6 @@ pub record ChangesRange (old new : Content) (v first end : ℕ) : Type 0 where
 
 -- Each row is of the entry that its page has in the table, and has the frame that the page of the VMO has, which lies in
 -- its VMO.
-pub record AreTrue (c : Content) (table : ℕ → ℕ → Option Entry) (rows : Rows) : Type 0 where
+pub record NotesAreTrue (c : Content) (table : ℕ → ℕ → Option Entry) (rows : ReadyRows) : Type 0 where
   pub entry : (root p : ℕ) (row : ReadyPage) → rows root p ≡ Some row → (entry : Entry) × (table root p ≡ Some entry) × (entry.koid.0 ≡ row.koid.0) × (entry.page ≡ row.page)
   pub current : (root p : ℕ) (row : ReadyPage) → rows root p ≡ Some row → has_frame c row.koid.0 row.page row.frame ≡ true

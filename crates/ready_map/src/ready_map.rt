@@ -4,8 +4,8 @@ ghost use Rattle.std.specs.Prelude.{◌≡◌, ℕ, ◌+◌, ◌<◌, ◌≤◌,
 ghost use Rattle.vm_model.specs.Naming.Pins.{is_pinned};
 ghost use Rattle.pair_map.specs.Maps.{values_of, count_of};
 ghost use Rattle.pin_table.specs.Table.{pins_of};
-ghost use Rattle.eager_pages.specs.Eager.{content_of};
-ghost use Rattle.ready_map.specs.Notes.{rows_of, spare_of, with_row, kept_rows, without_range, limited_rows, agrees, is_current, HasNoRow, IsShown};
+ghost use Rattle.eager_pages.specs.Eager.{eager_content};
+ghost use Rattle.ready_map.specs.Notes.{rows_of, notes_spare, with_ready_row, kept_rows, without_range, limited_rows, agrees, is_current, HasNoRow, IsReadySomewhere};
 
 use crate::stamps::{Kept, Stamp, has_frame, lower, put, ready_page, stamp_for};
 use eager_pages::EagerPages;
@@ -30,7 +30,7 @@ pub struct ReadyPage {
 }
 
 /// The notes of what the pages of all address spaces are ready for. Contracts see what is noted of each page that is ready
-/// (`rows_of`), by its root region and its number, and how many more can be noted with no memory from the host (`spare_of`).
+/// (`rows_of`), by its root region and its number, and how many more can be noted with no memory from the host (`notes_spare`).
 #[derive(Drop)]
 pub struct ReadyMap {
     /// The note that was made of each page, by root region and page. It counts only as the stamp says.
@@ -69,9 +69,9 @@ impl ReadyMap {
     /// Makes room for `n` calls of `set`. `HostMemory` if the host has too little memory, or if the times would not fit 64
     /// bits.
     pub fn reserve(&mut self, n: u64) -> Result<(), HostMemory>
-        ensures room { OnOk result (n ≤ spare_of self.new) }
+        ensures room { OnOk result (n ≤ notes_spare self.new) }
         ensures same { rows_of self.new ≡ rows_of self.old }
-        ensures kept { spare_of self.old ≤ spare_of self.new }
+        ensures kept { notes_spare self.old ≤ notes_spare self.new }
     {
         if n <= self.room {
             return Ok(());
@@ -102,10 +102,10 @@ impl ReadyMap {
     /// Notes a page of an address space, in place of what was noted of it. Other notes of the same page of the VMO do not
     /// count any more if they have another frame. There is room.
     pub fn set(&mut self, root: RegionName, page: PageNo, row: ReadyPage)
-        requires room { 1 ≤ spare_of self.old }
+        requires room { 1 ≤ notes_spare self.old }
         ensures rows { rows_of self.new
-            ≡ with_row (kept_rows (agrees row.koid.0 row.page row.frame) (rows_of self.old)) root.0 page row }
-        ensures spare { spare_of self.new + 1 ≡ spare_of self.old }
+            ≡ with_ready_row (kept_rows (agrees row.koid.0 row.page row.frame) (rows_of self.old)) root.0 page row }
+        ensures spare { notes_spare self.new + 1 ≡ notes_spare self.old }
     {
         self.clear(root, page);
         self.note(root, page, row);
@@ -116,7 +116,7 @@ impl ReadyMap {
     pub fn restrict(&mut self, koid: Koid, first: PageNo, end: PageNo, pins: &PinTable)
         ensures rows { rows_of self.new
             ≡ limited_rows (is_pinned (pins_of pins.now) koid.0) koid.0 first end (rows_of self.old) }
-        ensures spare { spare_of self.new ≡ spare_of self.old }
+        ensures spare { notes_spare self.new ≡ notes_spare self.old }
     {
         let mut from = first;
         while let Some(page) = self.next_before(koid, from, end) {
@@ -128,9 +128,9 @@ impl ReadyMap {
     /// Makes what shows a page of a VMO from `first` to below `end` ready for nothing, if the page does not lie in the VMO or
     /// has another frame now than was noted. The call costs the pages of the range that have notes.
     pub fn settle(&mut self, pages: &EagerPages, koid: Koid, first: PageNo, end: PageNo)
-        requires { IsSome ((content_of pages.now).count koid.0) }
-        ensures rows { rows_of self.new ≡ kept_rows (is_current (content_of pages.now) koid.0 first end) (rows_of self.old) }
-        ensures spare { spare_of self.new ≡ spare_of self.old }
+        requires { IsSome ((eager_content pages.now).count koid.0) }
+        ensures rows { rows_of self.new ≡ kept_rows (is_current (eager_content pages.now) koid.0 first end) (rows_of self.old) }
+        ensures spare { notes_spare self.new ≡ notes_spare self.old }
     {
         let mut from = first;
         while let Some(page) = self.next_before(koid, from, end) {
@@ -143,7 +143,7 @@ impl ReadyMap {
     /// pages.
     pub fn drop_range(&mut self, root: RegionName, first: PageNo, end: PageNo)
         ensures rows { rows_of self.new ≡ without_range (rows_of self.old) root.0 first end }
-        ensures spare { spare_of self.new ≡ spare_of self.old }
+        ensures spare { notes_spare self.new ≡ notes_spare self.old }
     {
         while let Some(page) = self.place_before(root, first, end) {
             self.drop_place(root, page);
@@ -153,7 +153,7 @@ impl ReadyMap {
     /// Returns the number of pages of VMOs that have a stamp. Each of them is shown by a page that is ready for an access.
     pub fn stamps(&self) -> usize
         ensures count { result ≡ count_of self.now.stamps }
-        ensures shown { (v p : ℕ) → IsSome (values_of self.now.stamps v p) → IsShown (rows_of self.now) v p }
+        ensures shown { (v p : ℕ) → IsSome (values_of self.now.stamps v p) → IsReadySomewhere (rows_of self.now) v p }
     {
         self.stamps.len()
     }
@@ -164,7 +164,7 @@ impl ReadyMap {
     fn clear(&mut self, root: RegionName, page: PageNo)
         ensures rows { rows_of self.new ≡ without_range (rows_of self.old) root.0 page (page + 1) }
         ensures none { values_of self.new.places root.0 page ≡ None }
-        ensures spare { spare_of self.new ≡ spare_of self.old }
+        ensures spare { notes_spare self.new ≡ notes_spare self.old }
     {
         if self.places.find(root.0 as u64, page).is_some() {
             self.drop_place(root, page);
@@ -174,10 +174,10 @@ impl ReadyMap {
     // Notes a page of an address space that has no note. There is room.
     fn note(&mut self, root: RegionName, page: PageNo, row: ReadyPage)
         requires none { values_of self.old.places root.0 page ≡ None }
-        requires room { 1 ≤ spare_of self.old }
+        requires room { 1 ≤ notes_spare self.old }
         ensures rows { rows_of self.new
-            ≡ with_row (kept_rows (agrees row.koid.0 row.page row.frame) (rows_of self.old)) root.0 page row }
-        ensures spare { spare_of self.new + 1 ≡ spare_of self.old }
+            ≡ with_ready_row (kept_rows (agrees row.koid.0 row.page row.frame) (rows_of self.old)) root.0 page row }
+        ensures spare { notes_spare self.new + 1 ≡ notes_spare self.old }
     {
         let stamp = stamp_for(self.stamps.find(row.koid.0, row.page), row.frame, self.time);
         put(&mut self.stamps, row.koid.0, row.page, stamp);
@@ -207,10 +207,10 @@ impl ReadyMap {
     // Makes what shows a page of a VMO ready for nothing, if the page does not lie in the VMO or has another frame now than
     // was noted.
     fn settle_page(&mut self, pages: &EagerPages, koid: Koid, page: PageNo)
-        requires { IsSome ((content_of pages.now).count koid.0) }
+        requires { IsSome ((eager_content pages.now).count koid.0) }
         ensures rows { rows_of self.new
-            ≡ kept_rows (is_current (content_of pages.now) koid.0 page (page + 1)) (rows_of self.old) }
-        ensures spare { spare_of self.new ≡ spare_of self.old }
+            ≡ kept_rows (is_current (eager_content pages.now) koid.0 page (page + 1)) (rows_of self.old) }
+        ensures spare { notes_spare self.new ≡ notes_spare self.old }
     {
         let Some(stamp) = self.stamps.find(koid.0, page) else {
             return;
@@ -223,7 +223,7 @@ impl ReadyMap {
     // Makes what shows a page of a VMO ready for reading at most, unless it stays.
     fn restrict_page(&mut self, koid: Koid, page: PageNo, stays: bool)
         ensures rows { rows_of self.new ≡ limited_rows (λ q. stays) koid.0 page (page + 1) (rows_of self.old) }
-        ensures spare { spare_of self.new ≡ spare_of self.old }
+        ensures spare { notes_spare self.new ≡ notes_spare self.old }
     {
         let Some(stamp) = self.stamps.find(koid.0, page) else {
             return;
@@ -251,7 +251,7 @@ impl ReadyMap {
         ensures rows { rows_of self.new ≡ without_range (rows_of self.old) root.0 page (page + 1) }
         ensures none { values_of self.new.places root.0 page ≡ None }
         ensures fewer { count_of self.new.places + 1 ≡ count_of self.old.places }
-        ensures spare { spare_of self.new ≡ spare_of self.old }
+        ensures spare { notes_spare self.new ≡ notes_spare self.old }
     {
         let kept = self.places.remove(root.0 as u64, page);
         lower(&mut self.stamps, kept);

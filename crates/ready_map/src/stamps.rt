@@ -2,9 +2,9 @@
 
 ghost use Rattle.std.specs.Prelude.{◌≡◌, ◌+◌, ◌^◌, ◌<◌, ◌≤◌, Some, IsSome, IfSome};
 ghost use Rattle.pair_map.specs.Maps.{values_of, spare_of, with_pair};
-ghost use Rattle.vm_model.specs.Space.Readiness.{is_same_frame};
-ghost use Rattle.eager_pages.specs.Eager.{content_of};
-ghost use Rattle.ready_map.specs.Notes.{ready_page, stamp_for, lowered, number_of, has_frame};
+ghost use Rattle.vm_model.specs.Space.Readiness.{is_same_frame, frame_number};
+ghost use Rattle.eager_pages.specs.Eager.{eager_content};
+ghost use Rattle.ready_map.specs.Notes.{ready_page, stamp_for, lowered, has_frame};
 
 use crate::ready_map::ReadyPage;
 use eager_pages::EagerPages;
@@ -58,7 +58,7 @@ pub(crate) fn ready_page(kept: Kept, stamp: Option<Stamp>) -> Option<ReadyPage>
 
 /// Returns whether both are the same frame, or no frame.
 pub(crate) fn is_same_frame(one: Option<Tag>, other: Option<Tag>) -> bool
-    ensures { result ≡ is_same_frame (number_of one) (number_of other) }
+    ensures { result ≡ is_same_frame (frame_number one) (frame_number other) }
 {
     match (one, other) {
         (Some(one), Some(other)) => one.0 == other.0,
@@ -109,8 +109,8 @@ pub(crate) fn lower(stamps: &mut PairMap<Stamp>, kept: Kept)
 
 /// Returns whether a page lies in its VMO, and has this frame.
 pub(crate) fn has_frame(pages: &EagerPages, koid: Koid, page: PageNo, frame: Option<Tag>) -> bool
-    requires { IsSome ((content_of pages.now).count koid.0) }
-    ensures { result ≡ has_frame (content_of pages.now) koid.0 page frame }
+    requires { IsSome ((eager_content pages.now).count koid.0) }
+    ensures { result ≡ has_frame (eager_content pages.now) koid.0 page frame }
 {
     is_same_frame(frame, pages.frame(koid, page)) && page < pages.count(koid)
 }

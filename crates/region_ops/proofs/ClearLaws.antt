@@ -11,7 +11,7 @@ use Rattle.vm_model.specs.Contents.Content.{Content}
 use Rattle.vm_model.specs.declared.space.Entry.{Entry}
 use Rattle.vm_model.specs.Space.Table.{with_pages, is_in, has_entry}
 use Rattle.vm_model.proofs.TableLaws.{with_pages-in, with_pages-out}
-use Rattle.vmo_table.specs.Table.{Table as Vmos}
+use Rattle.vmo_table.specs.Table.{Vmos}
 use Rattle.mapping_set.specs.declared.piece.Piece.{Piece}
 use Rattle.mapping_set.specs.Tables.{without_piece, IsPieceOf, IsPieceIn, IsFirstPiece, IsBare}
 use Rattle.mapping_set.proofs.ChangeLaws.{with_pages-is}

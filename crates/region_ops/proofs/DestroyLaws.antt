@@ -20,7 +20,7 @@ use Rattle.vm_model.proofs.SpaceLaws.{none_child, without_regions-was}
 use Rattle.region_ops.proofs.BelowLaws.{killed-alike, lies_below}
 use Rattle.region_tree.proofs.BelowLaws.{is_below-killed}
 use Rattle.region_tree.specs.Tree.{IsWithin, HasNoneWithin, has_child, with_one_dead}
-use Rattle.vmo_table.specs.Table.{Table as Vmos}
+use Rattle.vmo_table.specs.Table.{Vmos}
 use Rattle.region_ops.specs.Spaces.{without_entries, with_all, AreWell, AreAllWell, LetsGo, Does}
 use Rattle.region_ops.proofs.LeavingLaws.{LetsGo-same, LetsGo-next, AreWell-gone}
 use Rattle.region_ops.proofs.DyingLaws.{IsUnderWay, underway_start, underway_next, within_was}

@@ -16,7 +16,7 @@ use Rattle.vm_model.specs.Machine.State.{State, is_live, IsGoodState}
 use Rattle.vm_model.specs.Machine.Leaving.{pruned}
 use Rattle.vm_model.proofs.LiveLaws.{is_live_cases, is_live-named, is_live-pinned, is_live-mapped, is_live-same}
 use Rattle.vm_model.proofs.LeavingLaws.{lineage_at, pruned-good, Loosens, LoosensAt, Loosens-spaces, IsLoose, IsLoose-from, IsGoodState-pruned}
-use Rattle.vmo_table.specs.Table.{Table as Vmos, Settles, IsWellCounted, names_of, lineage_in, keepers_of}
+use Rattle.vmo_table.specs.Table.{Vmos, Settles, IsWellCounted, names_of, lineage_in, keepers_of}
 use Rattle.vmo_table.proofs.SettleLaws.{leaving_vmo, settled_pruned}
 use Rattle.mapping_set.specs.declared.piece.Piece.{Piece}
 use Rattle.mapping_set.specs.Tables.{without_piece, IsPieceOf}

@@ -22,7 +22,7 @@ use Rattle.vm_model.proofs.LiveLaws.{is_live-named, is_live-same}
 use Rattle.vm_model.proofs.LeavingLaws.{name_lineage}
 use Rattle.vm_model.proofs.SpaceLaws.{mapped_count_le}
 use Rattle.vm_model.proofs.TableLaws.{with_pages-in, with_pages-out}
-use Rattle.vmo_table.specs.Table.{Table as Vmos, names_of, lineage_in, keepers_of, CountsKeepers, IsWellCounted}
+use Rattle.vmo_table.specs.Table.{Vmos, names_of, lineage_in, keepers_of, CountsKeepers, IsWellCounted}
 use Rattle.mapping_set.specs.declared.piece.Piece.{Piece}
 use Rattle.mapping_set.specs.Tables.{with_piece, without_piece, IsBare}
 use Rattle.region_ops.specs.Spaces.{with_entries, LetsGo}

@@ -32,7 +32,7 @@ use Rattle.vm_model.proofs.RegionLaws.{region_of-at, region_bounds, reaches_over
 use Rattle.vm_model.proofs.StepLaws.{AllOff-from_none, Step-done, Step-lacks}
 use Rattle.pages.proofs.NameLaws.{IsInside-good, name_few}
 use Rattle.region_tree.specs.Tree.{spaces_of}
-use Rattle.vmo_table.specs.Table.{Table as Vmos, names_of}
+use Rattle.vmo_table.specs.Table.{Vmos, names_of}
 use Rattle.vm_model.specs.Contents.Content.{Content}
 use Rattle.vm_model.specs.Space.AddressSpaces.{Spaces}
 use Rattle.region_ops.specs.Spaces.{with_all, Does, HasNoPlace}

@@ -25,7 +25,7 @@ use Rattle.vm_model.proofs.RegionLaws.{region_of-at}
 use Rattle.vm_model.proofs.StepLaws.{Step-done, Step-lacks}
 use Rattle.mapping_set.specs.declared.piece.Piece.{Piece}
 use Rattle.mapping_set.specs.Tables.{IsBare, IsBareFrom, IsNextPiece}
-use Rattle.vmo_table.specs.Table.{Table as Vmos}
+use Rattle.vmo_table.specs.Table.{Vmos}
 use Rattle.region_ops.proofs.PrunedLaws.{pruned-alike}
 use Rattle.region_ops.specs.Spaces.{with_entries, with_all, AreWell, AreAllWell, LetsGo, Does}
 

@@ -20,7 +20,7 @@ use Rattle.vm_model.specs.Machine.State.{State}
 use Rattle.vm_model.specs.Machine.Leaving.{pruned}
 use Rattle.vm_model.specs.Machine.Refusals.{refusals, first_of}
 use Rattle.vm_model.specs.Machine.Step.{Step}
-use Rattle.vmo_table.specs.Table.{Table as Vmos, with_vmos, CountsKeepers, IsWellCounted}
+use Rattle.vmo_table.specs.Table.{Vmos, with_vmos, CountsKeepers, IsWellCounted}
 
 -- the table, without the entries of one address space that belong to the region
 abbrev pub without_entries : (ℕ → ℕ → Option Entry) → (root region : ℕ) → ℕ → ℕ → Option Entry

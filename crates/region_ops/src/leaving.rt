@@ -4,7 +4,7 @@
 ghost use Rattle.std.specs.Prelude.{◌≡◌, ℕ, ◌+◌, ◌≤◌, Option, None};
 ghost use Rattle.vm_model.specs.declared.space.Entry.{Entry};
 ghost use Rattle.vm_model.specs.Space.Table.{with_pages};
-ghost use Rattle.mapping_set.specs.Tables.{table_of, spare_of, places_of, without_piece, IsPieceOf};
+ghost use Rattle.mapping_set.specs.Tables.{table_of, mapping_spare, places_of, without_piece, IsPieceOf};
 ghost use Rattle.region_ops.specs.Spaces.{without_entries, AreWell, LetsGo};
 ghost use Rattle.region_ops.specs.inside.Leaving.{IsTaken};
 
@@ -24,11 +24,11 @@ pub(crate) fn clear_range<P: Pages>(
     count: u64,
 )
     requires well { AreWell (P.content store.old) vmos.old (table_of maps.old) }
-    requires room { 2 ≤ spare_of maps.old }
+    requires room { 2 ≤ mapping_spare maps.old }
     ensures table { table_of maps.new ≡ with_pages (table_of maps.old) root.0 first (first + count) (λ p. None) }
     ensures gone { LetsGo (P.content store.old) vmos.old (table_of maps.old)
         (P.content store.new) vmos.new (table_of maps.new) }
-    ensures spare { spare_of maps.old ≤ spare_of maps.new + 1 }
+    ensures spare { mapping_spare maps.old ≤ mapping_spare maps.new + 1 }
     ensures places { places_of maps.new ≡ places_of maps.old }
 {
     while let Some(piece) = maps.carve(root, first, count) {

@@ -14,7 +14,7 @@ ghost use Rattle.vm_model.specs.Space.Table.{with_pages};
 ghost use Rattle.vm_model.specs.Machine.Refusals.{first_of};
 ghost use Rattle.vm_model.specs.Machine.Step.{reply_of};
 ghost use Rattle.vmo_table.specs.Table.{names_of, IsNamed};
-ghost use Rattle.mapping_set.specs.Tables.{table_of, spare_of, places_of, IsBare};
+ghost use Rattle.mapping_set.specs.Tables.{table_of, mapping_spare, places_of, IsBare};
 ghost use Rattle.region_tree.specs.Tree.{regions_of, is_live_region, spaces_of, AreNoted, IsVacant};
 ghost use Rattle.pages.specs.Names.{IsInside};
 ghost use Rattle.region_ops.specs.Spaces.{AreWell, AreAllWell, Does, LetsGo, HasNoPlace, IsRefusalBy};
@@ -396,7 +396,7 @@ fn put<P: Pages>(
     overwriting: bool,
 )
     requires well { AreWell (P.content store.old) vmos.old (table_of maps.old) }
-    requires room { 2 ≤ spare_of maps.old }
+    requires room { 2 ≤ mapping_spare maps.old }
     requires place { IsPuttable (names_of vmos.old) (table_of maps.old) root.0 piece overwriting }
     ensures puts { Puts (P.content store.old) vmos.old (table_of maps.old) root.0 piece
         (P.content store.new) vmos.new (table_of maps.new) }
@@ -427,12 +427,12 @@ fn clear_place<P: Pages>(
     overwriting: bool,
 )
     requires well { AreWell (P.content store.old) vmos.old (table_of maps.old) }
-    requires room { 2 ≤ spare_of maps.old }
+    requires room { 2 ≤ mapping_spare maps.old }
     requires bare { overwriting ≡ false → IsBare (table_of maps.old root.0) first (first + count) }
     ensures table { table_of maps.new ≡ with_pages (table_of maps.old) root.0 first (first + count) (λ p. None) }
     ensures gone { LetsGo (P.content store.old) vmos.old (table_of maps.old)
         (P.content store.new) vmos.new (table_of maps.new) }
-    ensures spare { 1 ≤ spare_of maps.new }
+    ensures spare { 1 ≤ mapping_spare maps.new }
     ensures places { places_of maps.new ≡ places_of maps.old }
 {
     if overwriting {

@@ -16,7 +16,7 @@ use Rattle.balanced_tree.specs.Pairs.{IsNext}
 use Rattle.pair_map.specs.declared.stretch_row.Extent.{Extent}
 use Rattle.pair_map.specs.Maps.{Covers, StandApart}
 use Rattle.region_tree.specs.Tree.{has_child, with_one_dead, IsWithin, HasNoneWithin, IsStart, extent_for}
-use Rattle.region_tree.specs.inside.TreeFields.{IsTree, IsBetween, HasNoneBetween, IsOver, HasNoneOver, IsAbove}
+use Rattle.region_tree.specs.inside.TreeFields.{IsTree, IsBetween, HasNoExtentBetween, IsOver, HasNoneOver, IsAbove}
 use Rattle.region_tree.proofs.PlaceLaws.{child_at}
 
 -- a live region whose parent is this is a child
@@ -323,12 +323,12 @@ module _ (children : ℕ → ℕ → Option (Extent RegionName)) (stand : StandA
   }
 
   -- no extent begins in it
-  pub none-next : IsNext (children p) first None → HasNoneBetween (children p) first (first + count)
+  pub none-next : IsNext (children p) first None → HasNoExtentBetween (children p) first (first + count)
   none-next next name between = let none = next.none refl between.start between.low in let is = between.is in cc
 
   -- the first extent that begins in it ends past it
   pub none-past : (start : ℕ) (e : Extent RegionName) → IsNext (children p) first (Some start) → children p start ≡ Some e → end < start + e.count
-      → HasNoneBetween (children p) first (first + count)
+      → HasNoExtentBetween (children p) first (first + count)
   none-past start e next is past name between =
       let high = between.high in
       let last = stand.end p start e is in
@@ -355,7 +355,7 @@ module _ (regions : ℕ → Option Region) (children : ℕ → ℕ → Option (E
       )
 
   -- no extent in the range, no child
-  pub none-between : (parent first end : ℕ) → HasNoneBetween (children parent) first end → any_child regions parent (lies_in first end) ≡ false
+  pub none-between : (parent first end : ℕ) → HasNoExtentBetween (children parent) first end → any_child regions parent (lies_in first end) ≡ false
   none-between parent first end none = none_child regions parent (lies_in first end) (λ n region e child.
       false_from_ne_true (lies_in first end region) (λ lies.
       let parts = lies_in_parts first end region lies in
@@ -395,7 +395,7 @@ module _ (regions : ℕ → Option Region) (children : ℕ → ℕ → Option (E
       ])
 
   -- where no child has the page, nothing below has it
-  pub none-over : (above page first end : ℕ) → HasNoneBetween (children above) first end → ((start : ℕ) (e : Extent RegionName) → Covers (children above) page start e → ⊥)
+  pub none-over : (above page first end : ℕ) → HasNoExtentBetween (children above) first end → ((start : ℕ) (e : Extent RegionName) → Covers (children above) page start e → ⊥)
       → HasNoneOver regions above page first end
   none-over above page first end none bare = record {
     here = none-between above first end none;
@@ -409,7 +409,7 @@ module _ (regions : ℕ → Option Region) (children : ℕ → ℕ → Option (E
   }
 
   -- where a child has it, what has it below is the child or lies below the child
-  pub over-step : StandApart children → (above page first end start : ℕ) (e : Extent RegionName) → HasNoneBetween (children above) first end → Covers (children above) page start e
+  pub over-step : StandApart children → (above page first end start : ℕ) (e : Extent RegionName) → HasNoExtentBetween (children above) first end → Covers (children above) page start e
       → HasNoneOver regions e.value.0 page first end → HasNoneOver regions above page first end
   over-step stand above page first end start e none covers under = record {
     here = none-between above first end none;

@@ -14,11 +14,11 @@ use Rattle.vm_model.specs.Space.AddressSpaces.{Spaces}
 use Rattle.mapping_set.specs.Pieces.{list_number}
 
 -- the regions under their names
-abbrev pub Tree : Type 0
-Tree = Rows (PairRow Region)
+abbrev pub RegionRows : Type 0
+RegionRows = Rows (PairRow Region)
 
 -- the region of each name that was given
-abbrev pub regions_of : Tree → ℕ → Option Region
+abbrev pub regions_of : RegionRows → ℕ → Option Region
 regions_of tree = values_of tree 0
 
 -- the name was given to a region that is live

@@ -8,7 +8,7 @@ ghost use Rattle.pair_map.specs.Maps.{values_of, extents_of};
 ghost use Rattle.vm_model.specs.Space.Regions.{end_of, lies_in, reaches_over};
 ghost use Rattle.mapping_set.specs.Tables.{table_of, HasNoClear, IsFirstClear};
 ghost use Rattle.region_tree.specs.Tree.{is_live_region};
-ghost use Rattle.region_tree.specs.inside.TreeFields.{ReachesOut, IsBetween, HasNoneBetween};
+ghost use Rattle.region_tree.specs.inside.TreeFields.{ReachesOut, IsBetween, HasNoExtentBetween};
 
 use mapping_set::MappingSet;
 use pair_map::{ExtentMap, PairMap};
@@ -112,7 +112,7 @@ pub(crate) fn child_in(
     first: PageNo,
     count: u64,
 ) -> Option<RegionName>
-    ensures { MatchOption result (HasNoneBetween (extents_of children.now region.0) first (first + count))
+    ensures { MatchOption result (HasNoExtentBetween (extents_of children.now region.0) first (first + count))
         (λ name. IsBetween (extents_of children.now region.0) first (first + count) name.0) }
 {
     let _apart = children.len();

@@ -10,7 +10,7 @@ use Rattle.std.proofs.lemmas.List.{take-append-drop}
 use Rattle.vm_model.proofs.WordLaws.{is_one_word}
 use Rattle.vm_model.proofs.FieldLaws.{decimal_word}
 use Rattle.reply_text.proofs.DigitLaws.{same_digits}
-use Rattle.reply_text.specs.Spaces.{is_space, begins_space, spaced, all_spaced}
+use Rattle.reply_text.specs.Spaces.{is_space, begins_space, spaced_number, all_spaced}
 
 -- the bytes hold no space
 abbrev pub is_solid : List ℕ → Bool
@@ -77,17 +77,17 @@ module _ (text behind : List ℕ) (first : ℕ) (parts : text ≡ first ∷ behi
   len = position_or_len is_space behind
 
   -- it begins with no space
-  pub no_number_space : first ≢ 32 → (n : ℕ) (more : List ℕ) → n < 2 ^ 64 → begins_space more ≡ true → text ≢ spaced n ++ more
+  pub no_number_space : first ≢ 32 → (n : ℕ) (more : List ℕ) → n < 2 ^ 64 → begins_space more ≡ true → text ≢ spaced_number n ++ more
   no_number_space apart n more h b e = apart (heads first 32 behind (decimal n ++ more) (sym parts ∙ e)).0
 
   -- its word spells no number
-  pub no_number_word : ((n : ℕ) → n < 2 ^ 64 → take len behind ≢ decimal n) → (n : ℕ) (more : List ℕ) → n < 2 ^ 64 → begins_space more ≡ true → text ≢ spaced n ++ more
+  pub no_number_word : ((n : ℕ) → n < 2 ^ 64 → take len behind ≢ decimal n) → (n : ℕ) (more : List ℕ) → n < 2 ^ 64 → begins_space more ≡ true → text ≢ spaced_number n ++ more
   no_number_word none n more h b e =
       none n h (solid_same (take len behind) (decimal n) (drop len behind) more (cut_solid behind) (decimal_solid n h) (cut_begins behind) b
       (take-append-drop len behind ∙ (heads first 32 behind (decimal n ++ more) (sym parts ∙ e)).1)).0
 
   -- it spells one
-  pub is_number : (n : ℕ) → first ≡ 32 → take len behind ≡ decimal n → (text ≡ spaced n ++ drop len behind) × (begins_space (drop len behind) ≡ true)
+  pub is_number : (n : ℕ) → first ≡ 32 → take len behind ≡ decimal n → (text ≡ spaced_number n ++ drop len behind) × (begins_space (drop len behind) ≡ true)
   is_number n space word = (parts ∙ (λ i. space i ∷ (sym (take-append-drop len behind) ∙ ap (λ (xs : List ℕ). xs ++ drop len behind) word) i), cut_begins behind)
 
 -- ---- all numbers
@@ -107,15 +107,15 @@ spaced_begins (n ∷ numbers) = refl
 
 module _ (text numbers rest : List ℕ) (read : IsRead text numbers rest) where
   -- another number
-  pub IsRead-more : (n : ℕ) (more : List ℕ) → rest ≡ spaced n ++ more → begins_space more ≡ true → n < 2 ^ 64 → IsRead text (numbers ++ n ∷ []) more
+  pub IsRead-more : (n : ℕ) (more : List ℕ) → rest ≡ spaced_number n ++ more → begins_space more ≡ true → n < 2 ^ 64 → IsRead text (numbers ++ n ∷ []) more
   IsRead-more n more e b h = record {
-    front = read.front ∙ (ap (λ (xs : List ℕ). all_spaced numbers ++ xs) e ∙ (sym (append_assoc (all_spaced numbers) (spaced n) more)
-        ∙ ap (λ (xs : List ℕ). xs ++ more) (sym (flat_map-append spaced numbers (n ∷ []) ∙ ap (λ (xs : List ℕ). all_spaced numbers ++ xs) (append-nil (spaced n))))));
+    front = read.front ∙ (ap (λ (xs : List ℕ). all_spaced numbers ++ xs) e ∙ (sym (append_assoc (all_spaced numbers) (spaced_number n) more)
+        ∙ ap (λ (xs : List ℕ). xs ++ more) (sym (flat_map-append spaced_number numbers (n ∷ []) ∙ ap (λ (xs : List ℕ). all_spaced numbers ++ xs) (append-nil (spaced_number n))))));
     only = λ all fits is.
         let known = read.only all fits is in
         next all known.0 known.1 known.2 (sym e ∙ known.3);
   } where
-    next : (all left : List ℕ) → all ≡ numbers ++ left → AllByRecursion (λ m. m < 2 ^ 64) left → spaced n ++ more ≡ all_spaced left
+    next : (all left : List ℕ) → all ≡ numbers ++ left → AllByRecursion (λ m. m < 2 ^ 64) left → spaced_number n ++ more ≡ all_spaced left
         → (later : List ℕ) × (all ≡ (numbers ++ n ∷ []) ++ later) × AllByRecursion (λ m. m < 2 ^ 64) later × (more ≡ all_spaced later)
     next all [] f fits g = absurd cc
     next all (m ∷ left) f fits g =
@@ -131,7 +131,7 @@ module _ (text numbers rest : List ℕ) (read : IsRead text numbers rest) where
     nil_from (x ∷ xs) e = absurd (omega (arith, e))
 
   -- what is left begins with no number
-  pub IsRead-none : length rest ≢ 0 → ((n : ℕ) (more : List ℕ) → n < 2 ^ 64 → begins_space more ≡ true → rest ≢ spaced n ++ more)
+  pub IsRead-none : length rest ≢ 0 → ((n : ℕ) (more : List ℕ) → n < 2 ^ 64 → begins_space more ≡ true → rest ≢ spaced_number n ++ more)
       → (all : List ℕ) → AllByRecursion (λ n. n < 2 ^ 64) all → text ≢ all_spaced all
   IsRead-none some none all fits e = let known = read.only all fits e in go known.0 known.2 known.3 where
     go : (left : List ℕ) → AllByRecursion (λ n. n < 2 ^ 64) left → rest ≡ all_spaced left → ⊥

@@ -12,8 +12,8 @@ begins_space [] = true
 begins_space (b ∷ bs) = is_space b
 
 -- a number behind a space, and numbers so
-abbrev pub spaced : ℕ → List ℕ
-spaced n = 32 ∷ decimal n
+abbrev pub spaced_number : ℕ → List ℕ
+spaced_number n = 32 ∷ decimal n
 
 abbrev pub all_spaced : List ℕ → List ℕ
-all_spaced numbers = flat_map spaced numbers
+all_spaced numbers = flat_map spaced_number numbers

@@ -6,7 +6,7 @@ ghost use Rattle.std.specs.Fmt.{digits, digit_glyph};
 ghost use Rattle.vm_model.specs.Language.Text.{reply_lines};
 ghost use Rattle.vm_model.specs.declared.reply.Reply.{Reply};
 ghost use Rattle.vm_base.specs.declared.limits.TheConstants.{PIN_PAGES};
-ghost use Rattle.reply_text.specs.Spaces.{is_space, begins_space, spaced, all_spaced};
+ghost use Rattle.reply_text.specs.Spaces.{is_space, begins_space, spaced_number, all_spaced};
 
 use vm_model::PinNumbers;
 
@@ -64,8 +64,8 @@ fn numbers_of(text: &[u8]) -> Option<PinNumbers>
 /// space.
 fn next_number(text: &[u8]) -> Option<(u64, &[u8])>
     ensures number { MatchOption result
-        ((n : ℕ) (more : List ℕ) → n < 2 ^ 64 → begins_space more ≡ true → text.now ≢ spaced n ++ more)
-        (λ r. (text.now ≡ spaced r.0 ++ r.1.now) × (begins_space r.1.now ≡ true) × (r.0 < 2 ^ 64)) }
+        ((n : ℕ) (more : List ℕ) → n < 2 ^ 64 → begins_space more ≡ true → text.now ≢ spaced_number n ++ more)
+        (λ r. (text.now ≡ spaced_number r.0 ++ r.1.now) × (begins_space r.1.now ≡ true) × (r.0 < 2 ^ 64)) }
     ensures shorter { IfSome result (λ r. length r.1.now < length text.now) }
 {
     let Some((first, behind)) = text.split_first() else {

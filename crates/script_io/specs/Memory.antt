@@ -8,7 +8,7 @@ pub record Tally : Type 0 where
   pub faults : ℕ
 
 -- the bytes that a source has left, and how many it gives a call
-pub record SourceState : Type 0 where
+pub record RemainingSource : Type 0 where
   pub remaining : List ℕ
   pub piece : ℕ
   pub tally : Tally

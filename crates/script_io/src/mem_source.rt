@@ -3,7 +3,7 @@
 ghost use Rattle.std.specs.Prelude.{◌≡◌, ◌≤◌, ◌<◌, ◌↔◌, Some, min, length, drop, IfOk, is_ok, IsErr, Contains, if◌then◌else◌};
 ghost use Rattle.std.specs.Io.KnownBytes.{ReadConsumes};
 ghost use Rattle.script_io.specs.Faults.{next_count, HasCause};
-ghost use Rattle.script_io.specs.Memory.{SourceState};
+ghost use Rattle.script_io.specs.Memory.{RemainingSource};
 
 use crate::plan::Plan;
 use crate::source::{Source, copy_front};
@@ -23,9 +23,9 @@ pub struct MemSource {
 
 impl Model for MemSource {
     ghost use Rattle.std.specs.Prelude.{drop, ◌≤◌, vec_len};
-    ghost use Rattle.script_io.specs.Memory.{SourceState};
+    ghost use Rattle.script_io.specs.Memory.{RemainingSource};
 
-    ghost Value = { SourceState };
+    ghost Value = { RemainingSource };
 
     ghost view = { λ s. record { remaining = drop s.at s.bytes.items; piece = s.piece; tally = s.plan } };
 

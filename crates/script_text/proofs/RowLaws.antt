@@ -7,7 +7,7 @@ use Rattle.std.proofs.lemmas.Bool.{eqb-false, ne_eqb}
 use Rattle.std.proofs.lemmas.Slice.Eq.{bytes_eq-Decides}
 use Rattle.vm_model.specs.declared.command.Command.{Command}
 use Rattle.vm_model.specs.Language.Reading.{by_word, command, commands, is_word}
-use Rattle.script_text.specs.inside.Rows.{rows_of}
+use Rattle.script_text.specs.inside.Rows.{command_rows_of}
 
 abbrev Row : Type 0
 Row = List ℕ × (List (List ℕ) → Option Command)
@@ -45,10 +45,10 @@ by_word-none (row ∷ rows) word arguments apart =
     ] refl apart
 
 pub command_of_length : (len : ℕ) (word : List ℕ) (arguments : List (List ℕ)) → length word ≡ len
-    → command word arguments ≡ by_word (rows_of len) word arguments
+    → command word arguments ≡ by_word (command_rows_of len) word arguments
 unfolding command
 command_of_length len word arguments same =
-    by_word-of_length commands word arguments ∙ ap (λ n. by_word (rows_of n) word arguments) same
+    by_word-of_length commands word arguments ∙ ap (λ n. by_word (command_rows_of n) word arguments) same
 
 -- no command word has another length
 pub command_of_other_length : (word : List ℕ) (arguments : List (List ℕ)) → 4 ≢ length word → 7 ≢ length word

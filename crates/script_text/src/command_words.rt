@@ -3,7 +3,7 @@
 ghost use Rattle.std.specs.Prelude.{◌≡◌, ◌≤◌, length, map, option_map};
 ghost use Rattle.vm_model.specs.Language.Reading.{by_word, command};
 ghost use Rattle.vm_model.specs.Machine.Lent.{command_of};
-ghost use Rattle.script_text.specs.inside.Rows.{rows_of};
+ghost use Rattle.script_text.specs.inside.Rows.{command_rows_of};
 
 use crate::region_commands::{
     maps, mem_read, mem_write, root_create, stat, vmar_allocate, vmar_destroy, vmar_map,
@@ -41,7 +41,7 @@ pub fn call<'a>(word: &[u8], arguments: &[&[u8]], room: &'a mut [u8]) -> Option<
 
 /// Returns the command of a word of four bytes.
 fn call_of_four<'a>(word: &[u8], arguments: &[&[u8]]) -> Option<Call<'a>>
-    ensures { option_map command_of result ≡ by_word (rows_of 4) word.now (map (λ a. a.now) arguments.now) }
+    ensures { option_map command_of result ≡ by_word (command_rows_of 4) word.now (map (λ a. a.now) arguments.now) }
 {
     if is_word(word, b"stat") {
         stat(arguments)
@@ -54,7 +54,7 @@ fn call_of_four<'a>(word: &[u8], arguments: &[&[u8]]) -> Option<Call<'a>>
 
 /// Returns the command of a word of seven bytes.
 fn call_of_seven<'a>(word: &[u8], arguments: &[&[u8]]) -> Option<Call<'a>>
-    ensures { option_map command_of result ≡ by_word (rows_of 7) word.now (map (λ a. a.now) arguments.now) }
+    ensures { option_map command_of result ≡ by_word (command_rows_of 7) word.now (map (λ a. a.now) arguments.now) }
 {
     if is_word(word, b"vmo_pin") {
         vmo_pin(arguments)
@@ -65,7 +65,7 @@ fn call_of_seven<'a>(word: &[u8], arguments: &[&[u8]]) -> Option<Call<'a>>
 
 /// Returns the command of a word of eight bytes.
 fn call_of_eight<'a>(word: &[u8], arguments: &[&[u8]]) -> Option<Call<'a>>
-    ensures { option_map command_of result ≡ by_word (rows_of 8) word.now (map (λ a. a.now) arguments.now) }
+    ensures { option_map command_of result ≡ by_word (command_rows_of 8) word.now (map (λ a. a.now) arguments.now) }
 {
     if is_word(word, b"vmo_size") {
         vmo_size(arguments)
@@ -89,7 +89,7 @@ fn call_of_eight<'a>(word: &[u8], arguments: &[&[u8]]) -> Option<Call<'a>>
 /// Returns the command of a word of nine bytes.
 fn call_of_nine<'a>(word: &[u8], arguments: &[&[u8]], room: &'a mut [u8]) -> Option<Call<'a>>
     requires { DATA_BYTES ≤ length room.old }
-    ensures { option_map command_of result ≡ by_word (rows_of 9) word.now (map (λ a. a.now) arguments.now) }
+    ensures { option_map command_of result ≡ by_word (command_rows_of 9) word.now (map (λ a. a.now) arguments.now) }
 {
     if is_word(word, b"vmo_close") {
         vmo_close(arguments)
@@ -106,7 +106,7 @@ fn call_of_nine<'a>(word: &[u8], arguments: &[&[u8]], room: &'a mut [u8]) -> Opt
 
 /// Returns the command of a word of ten bytes.
 fn call_of_ten<'a>(word: &[u8], arguments: &[&[u8]]) -> Option<Call<'a>>
-    ensures { option_map command_of result ≡ by_word (rows_of 10) word.now (map (λ a. a.now) arguments.now) }
+    ensures { option_map command_of result ≡ by_word (command_rows_of 10) word.now (map (λ a. a.now) arguments.now) }
 {
     if is_word(word, b"vmo_create") {
         vmo_create(arguments)
@@ -121,7 +121,7 @@ fn call_of_ten<'a>(word: &[u8], arguments: &[&[u8]]) -> Option<Call<'a>>
 
 /// Returns the command of a word of eleven bytes.
 fn call_of_eleven<'a>(word: &[u8], arguments: &[&[u8]]) -> Option<Call<'a>>
-    ensures { option_map command_of result ≡ by_word (rows_of 11) word.now (map (λ a. a.now) arguments.now) }
+    ensures { option_map command_of result ≡ by_word (command_rows_of 11) word.now (map (λ a. a.now) arguments.now) }
 {
     if is_word(word, b"root_create") {
         root_create(arguments)
@@ -132,7 +132,7 @@ fn call_of_eleven<'a>(word: &[u8], arguments: &[&[u8]]) -> Option<Call<'a>>
 
 /// Returns the command of a word of twelve bytes.
 fn call_of_twelve<'a>(word: &[u8], arguments: &[&[u8]]) -> Option<Call<'a>>
-    ensures { option_map command_of result ≡ by_word (rows_of 12) word.now (map (λ a. a.now) arguments.now) }
+    ensures { option_map command_of result ≡ by_word (command_rows_of 12) word.now (map (λ a. a.now) arguments.now) }
 {
     if is_word(word, b"vmo_set_size") {
         vmo_set_size(arguments)
@@ -149,7 +149,7 @@ fn call_of_twelve<'a>(word: &[u8], arguments: &[&[u8]]) -> Option<Call<'a>>
 
 /// Returns the command of a word of thirteen bytes.
 fn call_of_thirteen<'a>(word: &[u8], arguments: &[&[u8]]) -> Option<Call<'a>>
-    ensures { option_map command_of result ≡ by_word (rows_of 13) word.now (map (λ a. a.now) arguments.now) }
+    ensures { option_map command_of result ≡ by_word (command_rows_of 13) word.now (map (λ a. a.now) arguments.now) }
 {
     if is_word(word, b"vmar_allocate") {
         vmar_allocate(arguments)
@@ -160,7 +160,7 @@ fn call_of_thirteen<'a>(word: &[u8], arguments: &[&[u8]]) -> Option<Call<'a>>
 
 /// Returns the command of a word of sixteen bytes.
 fn call_of_sixteen<'a>(word: &[u8], arguments: &[&[u8]]) -> Option<Call<'a>>
-    ensures { option_map command_of result ≡ by_word (rows_of 16) word.now (map (λ a. a.now) arguments.now) }
+    ensures { option_map command_of result ≡ by_word (command_rows_of 16) word.now (map (λ a. a.now) arguments.now) }
 {
     if is_word(word, b"vmo_create_child") {
         vmo_create_child(arguments)

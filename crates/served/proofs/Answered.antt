@@ -16,7 +16,7 @@ use Rattle.vm_base.specs.declared.limits.TheConstants.{LINE_BYTES}
 use Rattle.vm_model.specs.Contents.Content.{Content}
 use Rattle.served.specs.Answering.{Answering, syntax_text}
 use Rattle.served.specs.Outcome.{AnswersLine, EndsAs, SinkTakes}
-use Rattle.served.specs.Serving.{IsServed, IsReady, bytes_left, write_fault}
+use Rattle.served.specs.Serving.{IsServed, IsReady, bytes_left, write_failure}
 use Rattle.served.proofs.Served.{IsAnswered, IsServed-answered, BreaksOff-answered}
 
 -- a text that was pushed, whole or in part
@@ -100,27 +100,27 @@ bytes_left-answered m old new source_old source_new sink_old sink_new before aft
 pub IsServed-after : {S T E : Type 0} (m : Answering S) (frames limit : ℕ) (old new : Reader) (source_old source_mid source_new sink_old sink_mid sink_new : Option (List ℕ)) (before after : S) (c : Content) (result : Result T E)
     → m.content after ≡ c → (s : IsServed m frames limit old source_old source_mid sink_old sink_mid before)
     → IsAnswered m old new source_mid source_new sink_mid sink_new before after s.pending result → new.limit ≡ old.limit → (old.ended ≡ true → new.taken ≡ old.taken)
-    → MatchOption (write_fault result) (IsServed m frames limit new source_old source_new sink_old sink_new after) (λ status. EndsAs m status frames limit source_old source_new sink_old sink_new c)
+    → MatchOption (write_failure result) (IsServed m frames limit new source_old source_new sink_old sink_new after) (λ status. EndsAs m status frames limit source_old source_new sink_old sink_new c)
 IsServed-after m frames limit old new source_old source_mid source_new sink_old sink_mid sink_new before after c (Ok x) holds s a same none =
     IsServed-answered m frames limit old new source_old source_mid source_new sink_old sink_mid sink_new before after c holds (Ok x) s a same none x refl
 IsServed-after m frames limit old new source_old source_mid source_new sink_old sink_mid sink_new before after c (Err e) holds s a same none =
     BreaksOff-answered m frames limit old new source_old source_mid source_new sink_old sink_mid sink_new before after c holds (Err e) s a same none e refl
 
-pub write_fault-none : {T E P : Type 0} (result : Result T E) → P → IfNone (write_fault result) P
-write_fault-none (Ok x) p = p
-write_fault-none (Err e) p = tt
+pub write_failure-none : {T E P : Type 0} (result : Result T E) → P → IfNone (write_failure result) P
+write_failure-none (Ok x) p = p
+write_failure-none (Err e) p = tt
 
-pub write_fault-caused : {T E P : Type 0} (result : Result T E) → OnErr result P → write_fault result ≡ Some WriteFault → P
-write_fault-caused (Ok x) failed e = absurd cc
-write_fault-caused (Err x) failed e = failed
+pub write_failure-caused : {T E P : Type 0} (result : Result T E) → OnErr result P → write_failure result ≡ Some WriteFault → P
+write_failure-caused (Ok x) failed e = absurd cc
+write_failure-caused (Err x) failed e = failed
 
-pub write_fault-no_read : {T E P : Type 0} (result : Result T E) → write_fault result ≡ Some ReadFault → P
-write_fault-no_read (Ok x) e = absurd cc
-write_fault-no_read (Err x) e = absurd cc
+pub write_failure-no_read : {T E P : Type 0} (result : Result T E) → write_failure result ≡ Some ReadFault → P
+write_failure-no_read (Ok x) e = absurd cc
+write_failure-no_read (Err x) e = absurd cc
 
-pub write_fault-no_memory : {T E : Type 0} (result : Result T E) → write_fault result ≢ Some HostMemory
-write_fault-no_memory (Ok x) e = cc
-write_fault-no_memory (Err x) e = cc
+pub write_failure-no_memory : {T E : Type 0} (result : Result T E) → write_failure result ≢ Some HostMemory
+write_failure-no_memory (Ok x) e = cc
+write_failure-no_memory (Err x) e = cc
 
 -- statuses of other codes differ
 pub other_status : {P : Type 0} (s t : Status) → eqb (code_of s) (code_of t) ≡ false → Some s ≡ Some t → P

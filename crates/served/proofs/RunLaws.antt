@@ -1,7 +1,7 @@
 -- Laws of lines and runs.
 use Rattle.std.proofs.Common.{◌≡◌, ◌≢◌, ℕ, suc, ◌<◌, cond, List, [], ◌∷◌, ◌++◌, length, get_or, refl, sym, ap, subst, ◌∙◌, append_assoc, append-nil, arith}
 use Rattle.vm_model.specs.Scripts.Run.{onto_first, lines_of, before_whole, whole_lines}
-use Rattle.served.specs.Answering.{Answering, Run}
+use Rattle.served.specs.Answering.{Answering, AnsweringRun}
 use Rattle.vm_base.proofs.SearchLaws.{eqb_apart}
 
 -- no byte is a line feed
@@ -49,12 +49,12 @@ lines_of-piece [] some h = absurd (omega arith)
 lines_of-piece (b ∷ piece) some h = lines_of-last b piece h
 
 -- a run, and one line more
-pub Run-more : {S : Type 0} (m : Answering S) (old mid new : S) (lines : List (List ℕ)) (line : List ℕ) (before now : List ℕ) → Run m old lines before mid → m.Gives line mid now new → Run m old (lines ++ line ∷ []) (before ++ now) new
-Run-more m old mid new [] line before now run gives =
+pub AnsweringRun-more : {S : Type 0} (m : Answering S) (old mid new : S) (lines : List (List ℕ)) (line : List ℕ) (before now : List ℕ) → AnsweringRun m old lines before mid → m.Gives line mid now new → AnsweringRun m old (lines ++ line ∷ []) (before ++ now) new
+AnsweringRun-more m old mid new [] line before now run gives =
     let here = subst (λ s. m.Gives line s now new) run.1 gives in
     let all : before ++ now ≡ now ++ [] = ap (λ (rs : List ℕ). rs ++ now) run.0 ∙ sym (append-nil now) in
     (new, now, [], here, (refl, refl), all)
-Run-more m old mid new (first ∷ lines) line before now run gives =
-    let rest = Run-more m run.0 mid new lines line run.2 now run.4 gives in
+AnsweringRun-more m old mid new (first ∷ lines) line before now run gives =
+    let rest = AnsweringRun-more m run.0 mid new lines line run.2 now run.4 gives in
     let all : before ++ now ≡ run.1 ++ (run.2 ++ now) = ap (λ (rs : List ℕ). rs ++ now) run.5 ∙ append_assoc run.1 run.2 now in
     (run.0, run.1, run.2 ++ now, run.3, rest, all)

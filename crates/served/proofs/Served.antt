@@ -9,8 +9,8 @@ use Rattle.script_io.specs.Reader.{Reader, HasNoFeed}
 use Rattle.script_io.specs.Fetching.{IsPending, IsFirstLine}
 use Rattle.vm_model.specs.Contents.Content.{Content}
 use Rattle.vm_model.specs.Scripts.Run.{lines_of, whole_lines}
-use Rattle.served.specs.Answering.{Answering, Run}
-use Rattle.served.proofs.RunLaws.{lines_of-line, lines_of-piece, lines_of-nil, whole_lines-line, whole_lines-none, Run-more}
+use Rattle.served.specs.Answering.{Answering, AnsweringRun}
+use Rattle.served.proofs.RunLaws.{lines_of-line, lines_of-piece, lines_of-nil, whole_lines-line, whole_lines-none, AnsweringRun-more}
 use Rattle.served.specs.Outcome.{AnswersAll, AnswersPart, Completes, StopsReading, ReachesLimit, BreaksOff, SinkTakes}
 use Rattle.served.specs.Serving.{AreLines, AreAll, IsServed}
 
@@ -219,7 +219,7 @@ module _ {S T E : Type 0} (m : Answering S) (frames limit : ℕ) (old new : Read
       within = omega (arith, a.within, size_all, ap (λ (xs : List ℕ). length xs) parts, length-append front a.left, same, s.bounded);
       split = split;
       out = s.out ++ a.text;
-      run = Run-more m (m.start frames) before after s.lines a.line s.out a.text s.run a.gives;
+      run = AnsweringRun-more m (m.start frames) before after s.lines a.line s.out a.text s.run a.gives;
       good = a.good;
       written = written;
     }
@@ -249,7 +249,7 @@ module _ {S T E : Type 0} (m : Answering S) (frames limit : ℕ) (old new : Read
       next = ap (λ (ls : List (List ℕ)). slice_get ls (length s.lines)) e ∙ get_behind s.lines a.line rest;
       before = s.out;
       mid = before;
-      run = subst (λ (ls : List (List ℕ)). Run m (m.start frames) ls s.out before) (sym (ap (take (length s.lines)) e ∙ take_front s.lines (a.line ∷ rest))) s.run;
+      run = subst (λ (ls : List (List ℕ)). AnsweringRun m (m.start frames) ls s.out before) (sym (ap (take (length s.lines)) e ∙ take_front s.lines (a.line ∷ rest))) s.run;
       text = a.text;
       last = after;
       gives = a.gives;

@@ -11,10 +11,10 @@ pub record Answering (S : Type 0) : Type 1 where
   pub Gives : List ℕ → S → List ℕ → S → Type 0
 
 -- from old, the lines may be answered by this text and lead to new
-abbrev pub Run : {S : Type 0} → Answering S → S → List (List ℕ) → List ℕ → S → Type 0
-Run m old [] out new = (out ≡ []) × (new ≡ old)
-Run {S} m old (line ∷ lines) out new =
-    (mid : S) × (now later : List ℕ) × m.Gives line old now mid × Run m mid lines later new × (out ≡ now ++ later)
+abbrev pub AnsweringRun : {S : Type 0} → Answering S → S → List (List ℕ) → List ℕ → S → Type 0
+AnsweringRun m old [] out new = (out ≡ []) × (new ≡ old)
+AnsweringRun {S} m old (line ∷ lines) out new =
+    (mid : S) × (now later : List ℕ) × m.Gives line old now mid × AnsweringRun m mid lines later new × (out ≡ now ++ later)
 
 -- what a line outside the grammar is answered
 abbrev pub syntax_text : List ℕ

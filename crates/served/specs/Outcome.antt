@@ -7,7 +7,7 @@ use Rattle.script_io.specs.declared.status.Status.TheVariants.{Done, Usage, Host
 use Rattle.script_io.specs.Faults.{IsCutOff}
 use Rattle.vm_model.specs.Contents.Content.{Content, HasNoVmo}
 use Rattle.vm_model.specs.Scripts.Run.{lines_of, whole_lines}
-use Rattle.served.specs.Answering.{Answering, Run}
+use Rattle.served.specs.Answering.{Answering, AnsweringRun}
 
 -- ---- what was answered
 
@@ -29,7 +29,7 @@ pub record AnswersAll {S : Type 0} (m : Answering S) (frames : ℕ) (lines : Lis
     (sink_old sink_new : Option (List ℕ)) (content : Content) : Type 0 where
   pub out : List ℕ
   pub last : S
-  pub run : Run m (m.start frames) lines out last
+  pub run : AnsweringRun m (m.start frames) lines out last
   pub good : m.IsGood last
   pub written : Appends sink_old sink_new out
   pub store : content ≡ m.content last
@@ -43,7 +43,7 @@ pub record AnswersPart {S : Type 0} (m : Answering S) (frames : ℕ) (lines : Li
   pub next : slice_get lines answered ≡ Some line
   pub before : List ℕ
   pub mid : S
-  pub run : Run m (m.start frames) (take answered lines) before mid
+  pub run : AnsweringRun m (m.start frames) (take answered lines) before mid
   pub text : List ℕ
   pub last : S
   pub gives : m.Gives line mid text last

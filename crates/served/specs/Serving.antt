@@ -7,7 +7,7 @@ use Rattle.script_io.specs.declared.line_reader.Fetch.{Fetch}
 use Rattle.script_io.specs.declared.status.Status.{Status}
 use Rattle.script_io.specs.declared.status.Status.TheVariants.{WriteFault}
 use Rattle.vm_model.specs.Scripts.Run.{lines_of, whole_lines}
-use Rattle.served.specs.Answering.{Answering, Run}
+use Rattle.served.specs.Answering.{Answering, AnsweringRun}
 
 -- These bytes are these lines, each with its line feed: whatever comes behind them begins a line.
 pub record AreLines (bytes : List ℕ) (lines : List (List ℕ)) : Type 0 where
@@ -34,7 +34,7 @@ pub record IsServed {S : Type 0} (m : Answering S) (frames limit : ℕ) (reader 
   pub within : length front ≤ limit
   pub split : AreLines front lines ⊎ AreAll reader front pending lines
   pub out : List ℕ
-  pub run : Run m (m.start frames) lines out now
+  pub run : AnsweringRun m (m.start frames) lines out now
   pub good : m.IsGood now
   pub written : Appends sink_old sink_now out
 
@@ -55,6 +55,6 @@ FetchesOnce old new source_old source_new = (pending : List ℕ) → IsPending o
     → (answer : Fetch) × Fetches old new source_old source_new pending answer
 
 -- the status that serving ends with behind a line, if any
-abbrev pub write_fault : {T E : Type 0} → Result T E → Option Status
-write_fault (Ok x) = None
-write_fault (Err e) = Some WriteFault
+abbrev pub write_failure : {T E : Type 0} → Result T E → Option Status
+write_failure (Ok x) = None
+write_failure (Err e) = Some WriteFault

@@ -3,7 +3,7 @@
 ghost use Rattle.std.specs.Prelude.{◌≡◌, ◌+◌, ◌^◌, ◌<◌, ◌≤◌, ℕ, Option, List, IfNone, Some, MatchOption, ◌≢◌};
 ghost use Rattle.script_io.specs.Faults.{HasFailed};
 ghost use Rattle.served.specs.Outcome.{EndsAs};
-ghost use Rattle.served.specs.Serving.{IsServed, IsReady, FetchesOnce, bytes_left, write_fault};
+ghost use Rattle.served.specs.Serving.{IsServed, IsReady, FetchesOnce, bytes_left, write_failure};
 
 use crate::interpreter::Interpreter;
 use crate::replies::push_syntax;
@@ -14,7 +14,7 @@ use vm_base::Failed;
 /// Returns the status that serving ends with behind a line: `WriteFault` if the sink failed, else none.
 #[inline(always)]
 fn write_fault(pushed: Result<(), Failed>) -> Option<Status>
-    ensures { result ≡ write_fault pushed }
+    ensures { result ≡ write_failure pushed }
 {
     match pushed {
         Ok(()) => None,

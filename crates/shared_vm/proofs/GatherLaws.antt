@@ -10,7 +10,7 @@ use Rattle.script_io.specs.Reader.{Reader}
 use Rattle.script_io.specs.Fetching.{IsPending, IsFirstLine, Fetches}
 use Rattle.script_io.specs.declared.line_reader.Fetch.TheVariants.{Line, TooLong}
 use Rattle.vm_base.specs.declared.limits.TheConstants.{LINE_BYTES, INPUT_BYTES}
-use Rattle.served.specs.Answering.{Run}
+use Rattle.served.specs.Answering.{AnsweringRun}
 use Rattle.served.specs.Serving.{IsReady, bytes_left}
 use Rattle.served.proofs.Served.{IsAnswered, IsServed-answered}
 use Rattle.served.proofs.Beginning.{fresh, IsPending-fresh}
@@ -18,11 +18,12 @@ use Rattle.served.proofs.Answered.{IsReady-answered, bytes_left-answered}
 use Rattle.vm_model.specs.Contents.Content.{nothing}
 use Rattle.shared_vm.specs.declared.task.Task.{Task}
 use Rattle.shared_vm.specs.Tasks.{Lists, no_tasks, task_count, with_task, with_line, with_lines}
-use Rattle.shared_vm.specs.Gathering.{gathering, IsGathered, EndsReading, Gathers, GathersAs, lack, told}
+use Rattle.shared_vm.specs.Gathering.{gathering, IsGathered, EndsReading, Gathers, GathersAs, lists_or_status}
+use Rattle.script_io.specs.Ending.{memory_failure}
 use Rattle.shared_vm.proofs.TaskLaws.{count-line, with_line-long}
 
 -- the tasks of the lines that were fetched
-pub gathered : (old new : Lists) (lines : List (List ℕ)) (out : List ℕ) → Run gathering old lines out new → new ≡ with_lines old lines
+pub gathered : (old new : Lists) (lines : List (List ℕ)) (out : List ℕ) → AnsweringRun gathering old lines out new → new ≡ with_lines old lines
 gathered old new [] out run = run.1
 gathered old new (line ∷ lines) out run = gathered run.0 new lines run.2 run.4 ∙ ap (λ (m : Lists). with_lines m lines) run.3.1
 
@@ -57,7 +58,7 @@ answered old new source_old source_new pending line before after f e = record {
 pub IsGathered-more : {T E : Type 0} (old new : Reader) (source_old source_mid source_new : Option (List ℕ)) (line : List ℕ) (before after : Lists) (result : Result T E)
     → (s : IsGathered old source_old source_mid before) → IsFetched old new source_mid source_new s.pending line → OnOk result (after ≡ with_line before line)
     → new.limit ≡ old.limit → (old.ended ≡ true → new.taken ≡ old.taken)
-    → MatchOption (lack result) (IsGathered new source_old source_new after) (λ status. GathersAs status source_old source_new after)
+    → MatchOption (memory_failure result) (IsGathered new source_old source_new after) (λ status. GathersAs status source_old source_new after)
 IsGathered-more old new source_old source_mid source_new line before after (Ok x) s f e same none =
     IsServed-answered gathering 0 INPUT_BYTES old new source_old source_mid source_new (Some []) (Some []) (Some []) before after nothing refl (Ok tt) s
     (answered old new source_mid source_new s.pending line before after f e) same none tt refl
@@ -69,7 +70,7 @@ IsGathered-more old new source_old source_mid source_new line before after (Err 
 
 pub IsReady-more : {T E : Type 0} (old new : Reader) (source_old source_new : Option (List ℕ)) (line : List ℕ) (before after : Lists) (result : Result T E)
     → (r : IsReady old source_old (task_count before + 1)) → IsFetched old new source_old source_new r.pending line → OnOk result (after ≡ with_line before line)
-    → IfNone (lack result) (IsReady new source_new (task_count after + 1))
+    → IfNone (memory_failure result) (IsReady new source_new (task_count after + 1))
 IsReady-more old new source_old source_new line before after (Ok x) r f e =
     IsReady-answered gathering old new source_old source_new (Some []) (Some []) before after (task_count before + 1) (task_count after + 1) (Ok tt) r
     (answered old new source_old source_new r.pending line before after f e)
@@ -78,18 +79,18 @@ IsReady-more old new source_old source_new line before after (Err x) r f e = tt
 
 pub falls-more : {T E : Type 0} (old new : Reader) (source_old source_new : Option (List ℕ)) (line : List ℕ) (before after : Lists) (result : Result T E)
     → (r : IsReady old source_old (task_count before + 1)) → IsFetched old new source_old source_new r.pending line → OnOk result (after ≡ with_line before line)
-    → new.limit ≡ old.limit → IfNone (lack result) (bytes_left new < bytes_left old)
+    → new.limit ≡ old.limit → IfNone (memory_failure result) (bytes_left new < bytes_left old)
 falls-more old new source_old source_new line before after (Ok x) r f e same =
     bytes_left-answered gathering old new source_old source_new (Some []) (Some []) before after (task_count before + 1) (Ok tt) r
     (answered old new source_old source_new r.pending line before after f e) same
 falls-more old new source_old source_new line before after (Err x) r f e same = tt
 
 -- want of memory is neither the end of the input nor a fault
-pub lack-no_end : {T E P : Type 0} (result : Result T E) → lack result ≡ Some Done → P
+pub lack-no_end : {T E P : Type 0} (result : Result T E) → memory_failure result ≡ Some Done → P
 lack-no_end (Ok x) e = absurd cc
 lack-no_end (Err x) e = absurd cc
 
-pub lack-no_fault : {T E P : Type 0} (result : Result T E) → lack result ≡ Some ReadFault → P
+pub lack-no_fault : {T E P : Type 0} (result : Result T E) → memory_failure result ≡ Some ReadFault → P
 lack-no_fault (Ok x) e = absurd cc
 lack-no_fault (Err x) e = absurd cc
 
@@ -132,27 +133,27 @@ IsReady-none reader source lists e f = subst (λ (r : Reader). IsReady r source 
   koids = omega (arith, ap task_count f);
 })
 
-pub told-gathers : (status : Status) (source_old source_new : Option (List ℕ)) (lists : Lists) → GathersAs status source_old source_new lists
-    → MatchResult (told status lists) (λ l. Gathers l source_old source_new) (λ s. EndsReading s source_old source_new)
-told-gathers Done source_old source_new lists h = h
-told-gathers Usage source_old source_new lists h = absurd h
-told-gathers HostMemory source_old source_new lists h = h
-told-gathers ReadFault source_old source_new lists h = h
-told-gathers WriteFault source_old source_new lists h = absurd h
-told-gathers ScriptLimit source_old source_new lists h = h
+pub lists_or_status-gathers : (status : Status) (source_old source_new : Option (List ℕ)) (lists : Lists) → GathersAs status source_old source_new lists
+    → MatchResult (lists_or_status status lists) (λ l. Gathers l source_old source_new) (λ s. EndsReading s source_old source_new)
+lists_or_status-gathers Done source_old source_new lists h = h
+lists_or_status-gathers Usage source_old source_new lists h = absurd h
+lists_or_status-gathers HostMemory source_old source_new lists h = h
+lists_or_status-gathers ReadFault source_old source_new lists h = h
+lists_or_status-gathers WriteFault source_old source_new lists h = absurd h
+lists_or_status-gathers ScriptLimit source_old source_new lists h = h
 
-pub told-few : (status : Status) (lists : Lists) → (Some status ≡ Some Done → task_count lists ≤ INPUT_BYTES) → IfOk (told status lists) (λ l. task_count l < 2 ^ 32)
-told-few Done lists h = omega (arith, h refl)
-told-few Usage lists h = tt
-told-few HostMemory lists h = tt
-told-few ReadFault lists h = tt
-told-few WriteFault lists h = tt
-told-few ScriptLimit lists h = tt
+pub lists_or_status-few : (status : Status) (lists : Lists) → (Some status ≡ Some Done → task_count lists ≤ INPUT_BYTES) → IfOk (lists_or_status status lists) (λ l. task_count l < 2 ^ 32)
+lists_or_status-few Done lists h = omega (arith, h refl)
+lists_or_status-few Usage lists h = tt
+lists_or_status-few HostMemory lists h = tt
+lists_or_status-few ReadFault lists h = tt
+lists_or_status-few WriteFault lists h = tt
+lists_or_status-few ScriptLimit lists h = tt
 
-pub told-fault : {P : Type 0} (status : Status) (lists : Lists) → (Some status ≡ Some ReadFault → P) → told status lists ≡ Err ReadFault → P
-told-fault Done lists h e = absurd cc
-told-fault Usage lists h e = absurd cc
-told-fault HostMemory lists h e = absurd cc
-told-fault ReadFault lists h e = h refl
-told-fault WriteFault lists h e = absurd cc
-told-fault ScriptLimit lists h e = absurd cc
+pub lists_or_status-fault : {P : Type 0} (status : Status) (lists : Lists) → (Some status ≡ Some ReadFault → P) → lists_or_status status lists ≡ Err ReadFault → P
+lists_or_status-fault Done lists h e = absurd cc
+lists_or_status-fault Usage lists h e = absurd cc
+lists_or_status-fault HostMemory lists h e = absurd cc
+lists_or_status-fault ReadFault lists h e = h refl
+lists_or_status-fault WriteFault lists h e = absurd cc
+lists_or_status-fault ScriptLimit lists h e = absurd cc

@@ -12,8 +12,8 @@ use Rattle.shared_vm.specs.declared.counts.Counts.{Counts}
 use Rattle.shared_vm.specs.declared.task.Task.{Task}
 use Rattle.shared_vm.specs.declared.task.Deed.{Deed}
 use Rattle.shared_vm.specs.Tasks.{Lists, tasks_of}
-use Rattle.shared_vm.specs.Journal.{done_by, Does, JournalRun}
-use Rattle.shared_vm.specs.Rooms.{Session, IsRoom, TurnsOnce, count_of, raised, machine_in}
+use Rattle.shared_vm.specs.Journal.{done_by, DoesTask, JournalRun}
+use Rattle.shared_vm.specs.Rooms.{Session, IsRoom, TurnsOnce, actor_count, raised, session_machine}
 use Rattle.shared_vm.proofs.FourLaws.{fewer, some_of_all, raised_all, raised_own, raised_other}
 use Rattle.shared_vm.proofs.RunLaws.{done_by-more, one_by-own, one_by-other, RunsOn-more}
 
@@ -29,29 +29,29 @@ task_at lists actor at count tasks task e f is =
 
 module _ {S : Type 0} (content : S → Content) (s : Session S) (done : Counts) (spare : ℕ) (room : IsRoom content s done spare) (actor : ℕ) (le : actor ≤ 3) where
   -- a task is left, so there is room for its deed
-  pub room_left : count_of done actor < length (tasks_of s.lists actor) → 0 < spare
+  pub room_left : actor_count done actor < length (tasks_of s.lists actor) → 0 < spare
   room_left less = omega (arith, room.all, room.room, fewer s.lists done actor le room.within less)
 
-  pub count_small : count_of done actor < length (tasks_of s.lists actor) → count_of done actor + 1 < 2 ^ 64
+  pub count_small : actor_count done actor < length (tasks_of s.lists actor) → actor_count done actor + 1 < 2 ^ 64
   count_small less = omega (arith, less, room.few, some_of_all s.lists actor le)
 
-  pub koid_left : count_of done actor < length (tasks_of s.lists actor) → (content s.store).next < KOIDS
+  pub koid_left : actor_count done actor < length (tasks_of s.lists actor) → (content s.store).next < KOIDS
   koid_left less = omega (arith, room.koids, room.few, room.all, fewer s.lists done actor le room.within less)
 
-  module _ (task : Task) (reply : Reply) (vm : Parts) (store : S) (next : slice_get (tasks_of s.lists actor) (count_of done actor) ≡ Some task)
-      (does : Does task reply (machine_in content s) (machine_of (content store) vm)) where
+  module _ (task : Task) (reply : Reply) (vm : Parts) (store : S) (next : slice_get (tasks_of s.lists actor) (actor_count done actor) ≡ Some task)
+      (does : DoesTask task reply (session_machine content s) (machine_of (content store) vm)) where
     abbrev deed : Deed
     deed = record { actor = actor; reply = reply }
 
     legal : JournalRun s.frames s.lists (s.journal ++ deed ∷ []) (machine_of (content store) vm)
     legal = record {
-      run = RunsOn-more s.lists [] _ (machine_in content s) (machine_of (content store) vm) s.journal deed task room.legal.run le
+      run = RunsOn-more s.lists [] _ (session_machine content s) (machine_of (content store) vm) s.journal deed task room.legal.run le
           (subst (λ (n : ℕ). slice_get (tasks_of s.lists actor) n ≡ Some task) (room.counted actor le) next) does;
     }
 
-    counted : (a : ℕ) → a ≤ 3 → count_of (raised done actor) a ≡ done_by a (s.journal ++ deed ∷ [])
-    counted a less = elim (actor == a) as (λ t. (actor == a) ≡ t → count_of (raised done actor) a ≡ done_by a (s.journal ++ deed ∷ [])) [
-      | true ↦ λ e. subst (λ (n : ℕ). count_of (raised done actor) n ≡ done_by n (s.journal ++ deed ∷ [])) (eqb-true actor a e)
+    counted : (a : ℕ) → a ≤ 3 → actor_count (raised done actor) a ≡ done_by a (s.journal ++ deed ∷ [])
+    counted a less = elim (actor == a) as (λ t. (actor == a) ≡ t → actor_count (raised done actor) a ≡ done_by a (s.journal ++ deed ∷ [])) [
+      | true ↦ λ e. subst (λ (n : ℕ). actor_count (raised done actor) n ≡ done_by n (s.journal ++ deed ∷ [])) (eqb-true actor a e)
           (omega (arith, raised_own done actor le, room.counted actor le, done_by-more actor s.journal deed, one_by-own actor reply))
       | false ↦ λ e. omega (
         arith,
@@ -62,10 +62,10 @@ module _ {S : Type 0} (content : S → Content) (s : Session S) (done : Counts) 
       )
     ] refl
 
-    within : (a : ℕ) → a ≤ 3 → count_of (raised done actor) a ≤ length (tasks_of s.lists a)
-    within a less = elim (actor == a) as (λ t. (actor == a) ≡ t → count_of (raised done actor) a ≤ length (tasks_of s.lists a)) [
-      | true ↦ λ e. subst (λ (n : ℕ). count_of (raised done actor) n ≤ length (tasks_of s.lists n)) (eqb-true actor a e)
-          (omega (arith, raised_own done actor le, slice_get_within (tasks_of s.lists actor) (count_of done actor) task next))
+    within : (a : ℕ) → a ≤ 3 → actor_count (raised done actor) a ≤ length (tasks_of s.lists a)
+    within a less = elim (actor == a) as (λ t. (actor == a) ≡ t → actor_count (raised done actor) a ≤ length (tasks_of s.lists a)) [
+      | true ↦ λ e. subst (λ (n : ℕ). actor_count (raised done actor) n ≤ length (tasks_of s.lists n)) (eqb-true actor a e)
+          (omega (arith, raised_own done actor le, slice_get_within (tasks_of s.lists actor) (actor_count done actor) task next))
       | false ↦ λ e. omega (arith, raised_other done actor a le less (eqb-false actor a e), room.within a less)
     ] refl
 

@@ -7,15 +7,15 @@ use Rattle.shared_vm.specs.declared.counts.Counts.{Counts}
 use Rattle.shared_vm.specs.declared.task.Deed.{Deed}
 use Rattle.shared_vm.specs.Tasks.{Lists, task_count}
 use Rattle.shared_vm.specs.Journal.{JournalRun}
-use Rattle.shared_vm.specs.Rooms.{IsRoom, count_of}
+use Rattle.shared_vm.specs.Rooms.{IsRoom, actor_count}
 use Rattle.shared_vm.proofs.FourLaws.{by_four}
 
 -- no actor did a task
 abbrev pub no_counts : Counts
 no_counts = record { a0 = 0; a1 = 0; a2 = 0; a3 = 0 }
 
-none : (actor : ℕ) → actor ≤ 3 → count_of no_counts actor ≡ 0
-none actor le = by_four (λ a. count_of no_counts a ≡ 0) refl refl refl refl actor le
+none : (actor : ℕ) → actor ≤ 3 → actor_count no_counts actor ≡ 0
+none actor le = by_four (λ a. actor_count no_counts a ≡ 0) refl refl refl refl actor le
 
 module _ {S : Type 0} (content : S → Content) (frames : ℕ) (lists : Lists) (vm : Parts) (store : S) (before : Content) (filled : content store ≡ record before { frames = frames })
     (empty : before ≡ nothing) (bare : (c : Content) → machine_of c vm ≡ bare_machine c) (agrees : (c : Content) → HasNoVmo c → 1 ≤ c.next → Agrees c vm) where

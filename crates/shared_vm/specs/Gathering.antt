@@ -1,5 +1,5 @@
 -- Reading the tasks of an input, line by line.
-use Rattle.std.specs.Prelude.{◌≡◌, ℕ, ◌≤◌, List, [], length, Option, None, Some, Result, Ok, Err}
+use Rattle.std.specs.Prelude.{◌≡◌, ℕ, ◌≤◌, List, [], length, Option, Some, Result, Ok, Err}
 use Rattle.std.specs.Io.KnownBytes.{Consumes}
 use Rattle.script_io.specs.declared.status.Status.{Status}
 use Rattle.script_io.specs.declared.status.Status.TheVariants.{Done, Usage, HostMemory, ReadFault, WriteFault, ScriptLimit}
@@ -53,12 +53,7 @@ GathersAs HostMemory source_old source_new lists = EndsReading HostMemory source
 GathersAs WriteFault source_old source_new lists = ⊥
 GathersAs Usage source_old source_new lists = ⊥
 
--- the status that reading ends with behind a line, if any
-abbrev pub lack : {T E : Type 0} → Result T E → Option Status
-lack (Ok x) = None
-lack (Err e) = Some HostMemory
-
 -- the tasks, if an input was read to its end, else the status that reading ended with
-abbrev pub told : {A : Type 0} → Status → A → Result A Status
-told Done lists = Ok lists
-told status lists = Err status
+abbrev pub lists_or_status : {A : Type 0} → Status → A → Result A Status
+lists_or_status Done lists = Ok lists
+lists_or_status status lists = Err status

@@ -20,20 +20,20 @@ done_by actor [] = 0
 done_by actor (deed ∷ deeds) = one_by actor deed + done_by actor deeds
 
 -- from old, the task may have this reply and lead to new
-abbrev pub Does : Task → Reply → Machine → Machine → Type 0
-Does (Task.Order command) reply old new = MachineStep old command reply new
-Does Task.Outside reply old new = (reply ≡ Refused Syntax) × (new ≡ old)
+abbrev pub DoesTask : Task → Reply → Machine → Machine → Type 0
+DoesTask (Task.Order command) reply old new = MachineStep old command reply new
+DoesTask Task.Outside reply old new = (reply ≡ Refused Syntax) × (new ≡ old)
 
 -- a deed of an actor is that one of its tasks which comes next behind its earlier deeds
-abbrev pub IsNext : Lists → List Deed → Deed → Task → Type 0
-IsNext lists earlier deed task = slice_get (tasks_of lists deed.actor) (done_by deed.actor earlier) ≡ Some task
+abbrev pub IsNextTask : Lists → List Deed → Deed → Task → Type 0
+IsNextTask lists earlier deed task = slice_get (tasks_of lists deed.actor) (done_by deed.actor earlier) ≡ Some task
 
 -- behind earlier deeds, and from old, these deeds may follow, and lead to last
 abbrev pub RunsOn : Lists → List Deed → Machine → List Deed → Machine → Type 0
 RunsOn lists earlier old [] last = last ≡ old
 RunsOn lists earlier old (deed ∷ deeds) last =
-    (task : Task) × (mid : Machine) × (deed.actor ≤ ACTOR_MAX) × IsNext lists earlier deed task
-    × Does task deed.reply old mid × RunsOn lists (earlier ++ deed ∷ []) mid deeds last
+    (task : Task) × (mid : Machine) × (deed.actor ≤ ACTOR_MAX) × IsNextTask lists earlier deed task
+    × DoesTask task deed.reply old mid × RunsOn lists (earlier ++ deed ∷ []) mid deeds last
 
 -- On a machine with this many frames and nothing else, the actors may have done these deeds, each in the order of its own
 -- tasks, and they lead to last.
@@ -41,5 +41,5 @@ pub record JournalRun (frames : ℕ) (lists : Lists) (journal : List Deed) (last
   pub run : RunsOn lists [] (empty_machine frames) journal last
 
 -- each actor has as many deeds as tasks
-abbrev pub IsWhole : Lists → List Deed → Type 0
-IsWhole lists journal = (actor : ℕ) → actor ≤ ACTOR_MAX → done_by actor journal ≡ length (tasks_of lists actor)
+abbrev pub IsWholeJournal : Lists → List Deed → Type 0
+IsWholeJournal lists journal = (actor : ℕ) → actor ≤ ACTOR_MAX → done_by actor journal ≡ length (tasks_of lists actor)

@@ -9,7 +9,7 @@ use Rattle.shared_vm.specs.declared.counts.Counts.{Counts}
 use Rattle.shared_vm.specs.declared.task.Task.{Task}
 use Rattle.shared_vm.specs.declared.task.Deed.{Deed}
 use Rattle.shared_vm.specs.Tasks.{Lists, tasks_of, task_count}
-use Rattle.shared_vm.specs.Journal.{done_by, IsNext, Does, JournalRun}
+use Rattle.shared_vm.specs.Journal.{done_by, IsNextTask, DoesTask, JournalRun}
 
 -- A machine began with so many frames, the actors have tasks and did some of them, and the machine's parts and its store are
 -- what these deeds led to. S is the type of the store.
@@ -21,16 +21,16 @@ pub record Session (S : Type 0) : Type 0 where
   pub store : S
 
 -- the machine that the parts and the store stand for
-abbrev pub machine_in : {S : Type 0} → (S → Content) → Session S → Machine
-machine_in content s = machine_of (content s.store) s.vm
+abbrev pub session_machine : {S : Type 0} → (S → Content) → Session S → Machine
+session_machine content s = machine_of (content s.store) s.vm
 
 -- the journal is a run that ends in this machine
 abbrev pub IsLegal : {S : Type 0} → (S → Content) → Session S → Type 0
-IsLegal content s = JournalRun s.frames s.lists s.journal (machine_in content s)
+IsLegal content s = JournalRun s.frames s.lists s.journal (session_machine content s)
 
 -- the count of an actor
-abbrev pub count_of : Counts → ℕ → ℕ
-count_of done actor = if actor == 0 then done.a0 else (if actor == 1 then done.a1 else (if actor == 2 then done.a2 else done.a3))
+abbrev pub actor_count : Counts → ℕ → ℕ
+actor_count done actor = if actor == 0 then done.a0 else (if actor == 1 then done.a1 else (if actor == 2 then done.a2 else done.a3))
 
 -- one more for an actor
 abbrev pub raised : Counts → ℕ → Counts
@@ -46,8 +46,8 @@ pub record IsRoom {S : Type 0} (content : S → Content) (s : Session S) (done :
   pub agrees : Agrees (content s.store) s.vm
   pub koids : (content s.store).next ≤ 1 + length s.journal
   pub few : task_count s.lists < 2 ^ 32
-  pub counted : (actor : ℕ) → actor ≤ ACTOR_MAX → count_of done actor ≡ done_by actor s.journal
-  pub within : (actor : ℕ) → actor ≤ ACTOR_MAX → count_of done actor ≤ length (tasks_of s.lists actor)
+  pub counted : (actor : ℕ) → actor ≤ ACTOR_MAX → actor_count done actor ≡ done_by actor s.journal
+  pub within : (actor : ℕ) → actor ≤ ACTOR_MAX → actor_count done actor ≤ length (tasks_of s.lists actor)
   pub all : length s.journal ≡ done.a0 + done.a1 + done.a2 + done.a3
   pub room : task_count s.lists ≤ length s.journal + spare
 
@@ -55,13 +55,13 @@ pub record IsRoom {S : Type 0} (content : S → Content) (s : Session S) (done :
 pub record TurnsOnce {S : Type 0} (content : S → Content) (old new : Session S) (actor : ℕ) : Type 0 where
   pub reply : Reply
   pub task : Task
-  pub next : IsNext old.lists old.journal (record { actor = actor; reply = reply }) task
-  pub does : Does task reply (machine_in content old) (machine_in content new)
+  pub next : IsNextTask old.lists old.journal (record { actor = actor; reply = reply }) task
+  pub does : DoesTask task reply (session_machine content old) (session_machine content new)
   pub journal : new.journal ≡ old.journal ++ record { actor = actor; reply = reply } ∷ []
   pub lists : new.lists ≡ old.lists
   pub frames : new.frames ≡ old.frames
 
 -- a turn of an actor: it did a task, or it had none left
-abbrev pub Turns : {S : Type 0} → (S → Content) → Session S → Session S → ℕ → Bool → Type 0
-Turns content old new actor true = TurnsOnce content old new actor
-Turns content old new actor false = (new ≡ old) × (done_by actor old.journal ≡ length (tasks_of old.lists actor))
+abbrev pub TakesTurn : {S : Type 0} → (S → Content) → Session S → Session S → ℕ → Bool → Type 0
+TakesTurn content old new actor true = TurnsOnce content old new actor
+TakesTurn content old new actor false = (new ≡ old) × (done_by actor old.journal ≡ length (tasks_of old.lists actor))

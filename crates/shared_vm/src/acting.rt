@@ -2,7 +2,7 @@
 
 ghost use Rattle.std.specs.Prelude.{◌≡◌, ◌≢◌, ◌≤◌, ℕ, length};
 ghost use Rattle.vm_base.specs.declared.limits.TheConstants.{ACTOR_MAX};
-ghost use Rattle.shared_vm.specs.Journal.{done_by, IsWhole};
+ghost use Rattle.shared_vm.specs.Journal.{done_by, IsWholeJournal};
 ghost use Rattle.shared_vm.specs.Rooms.{IsLegal};
 ghost use Rattle.shared_vm.specs.Tasks.{Lists, no_tasks, tasks_of};
 
@@ -124,7 +124,7 @@ pub fn act_all<R: Threads + Wait + Sync, P: PageStore + Send, J: Journal + Send,
 ) -> Room<P, J>
     ensures frames { result.frames ≡ room.frames }
     ensures lists { result.lists ≡ room.lists }
-    ensures whole { IsWhole result.lists result.journal }
+    ensures whole { IsWholeJournal result.lists result.journal }
     ensures legal { IsLegal P.content result }
 {
     let mut room = act_on::<Brand, R, P, J, G>(rt, gate, room);

@@ -1,7 +1,7 @@
 //! How many tasks each actor did.
 
 ghost use Rattle.std.specs.Prelude.{◌≡◌, ◌+◌, ◌^◌, ◌<◌, ◌≤◌};
-ghost use Rattle.shared_vm.specs.Rooms.{count_of, raised};
+ghost use Rattle.shared_vm.specs.Rooms.{actor_count, raised};
 
 /// The number of tasks that each actor did.
 #[derive(Clone, Copy)]
@@ -27,7 +27,7 @@ impl Counts {
 
     /// Returns how many tasks an actor did.
     pub(crate) fn of(self, actor: u32) -> u64
-        ensures { result ≡ count_of self actor }
+        ensures { result ≡ actor_count self actor }
     {
         match actor {
             0 => self.a0,
@@ -39,7 +39,7 @@ impl Counts {
 
     /// Returns the counts when an actor did one task more.
     pub(crate) fn raised(self, actor: u32) -> Counts
-        requires { count_of self actor + 1 < 2 ^ 64 }
+        requires { actor_count self actor + 1 < 2 ^ 64 }
         ensures { result ≡ raised self actor }
     {
         match actor {

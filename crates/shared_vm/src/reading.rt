@@ -3,7 +3,8 @@
 ghost use Rattle.std.specs.Prelude.{◌≡◌, ◌≢◌, ◌+◌, ◌^◌, ◌<◌, ◌≤◌, List, Option, ℕ, IfNone, MatchOption, MatchResult, Some, OnErr, IfOk, IfErr, Err};
 ghost use Rattle.script_io.specs.Faults.{HasFailed};
 ghost use Rattle.served.specs.Serving.{IsReady, bytes_left};
-ghost use Rattle.shared_vm.specs.Gathering.{EndsReading, Gathers, GathersAs, IsGathered, lack, told};
+ghost use Rattle.shared_vm.specs.Gathering.{EndsReading, Gathers, GathersAs, IsGathered, lists_or_status};
+ghost use Rattle.script_io.specs.Ending.{memory_failure};
 ghost use Rattle.shared_vm.specs.Tasks.{task_count};
 ghost use Rattle.vm_base.specs.declared.limits.TheConstants.{INPUT_BYTES};
 
@@ -15,7 +16,7 @@ use vm_base::{HostMemory, INPUT_BYTES};
 /// Returns the status that reading ends with behind a line: one if the host had too little memory for its task, else
 /// none.
 fn lack(added: Result<(), HostMemory>) -> Option<Status>
-    ensures { result ≡ lack added }
+    ensures { result ≡ memory_failure added }
 {
     match added {
         Ok(()) => None,
@@ -48,7 +49,7 @@ fn add_next<S: Source>(scripts: &mut Scripts, lines: &mut Lines, source: &mut S)
 
 /// Returns the tasks if all lines were read, else the status that reading ended with.
 fn told(status: Status, scripts: Scripts) -> Result<Scripts, Status>
-    ensures { result ≡ told status scripts }
+    ensures { result ≡ lists_or_status status scripts }
 {
     match status {
         Status::Done => Ok(scripts),

@@ -5,8 +5,8 @@ ghost use Rattle.vm_base.specs.declared.limits.TheConstants.{ACTOR_MAX, DATA_BYT
 ghost use Rattle.vm_model.specs.Contents.Content.{nothing};
 ghost use Rattle.vm_model.specs.Machine.Lent.{reply_for};
 ghost use Rattle.vm_core.specs.Vm.{Agrees, machine_of};
-ghost use Rattle.shared_vm.specs.Journal.{done_by, Does};
-ghost use Rattle.shared_vm.specs.Rooms.{IsLegal, Turns};
+ghost use Rattle.shared_vm.specs.Journal.{done_by, DoesTask};
+ghost use Rattle.shared_vm.specs.Rooms.{IsLegal, TakesTurn};
 ghost use Rattle.shared_vm.specs.Tasks.{task_count, tasks_of};
 ghost use Rattle.shared_vm.specs.inside.TaskPlaces.{task_of_line};
 
@@ -117,7 +117,7 @@ impl<P: PageStore, J: Journal> Room<P, J> {
     /// no task left, and then nothing changes.
     pub fn turn(&mut self, actor: u32) -> bool
         requires { actor ≤ ACTOR_MAX }
-        ensures turns { Turns P.content self.old self.new actor result }
+        ensures turns { TakesTurn P.content self.old self.new actor result }
         ensures legal { IsLegal P.content self.new }
     {
         let at = self.done.of(actor) as usize;
@@ -215,7 +215,7 @@ fn answer_to<'a, P: PageStore>(
     requires pinned { PIN_PAGES ≤ length pinned.old }
     requires agrees { Agrees (P.content store.old) vm.old }
     requires next { (P.content store.old).next < KOIDS }
-    ensures does { Does (task_of_line line.now) (reply_for result) (machine_of (P.content store.old) vm.old)
+    ensures does { DoesTask (task_of_line line.now) (reply_for result) (machine_of (P.content store.old) vm.old)
         (machine_of (P.content store.new) vm.new) }
     ensures agrees { Agrees (P.content store.new) vm.new }
     ensures next { (P.content store.new).next ≤ (P.content store.old).next + 1 }

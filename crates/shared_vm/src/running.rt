@@ -5,7 +5,8 @@ ghost use Rattle.script_io.specs.Faults.{HasFailed};
 ghost use Rattle.vm_base.specs.declared.limits.TheConstants.{FRAMES};
 ghost use Rattle.vm_model.specs.Contents.Content.{nothing};
 ghost use Rattle.served.specs.Words.{frames_asked};
-ghost use Rattle.shared_vm.specs.Outcome.{EndsAs, status_of};
+ghost use Rattle.shared_vm.specs.Outcome.{ActorsEndAs};
+ghost use Rattle.script_io.specs.Ending.{status_of_writing};
 
 use crate::acting::act_all;
 use crate::gate::Gate;
@@ -22,7 +23,7 @@ use vm_base::Failed;
 
 /// Returns the status of a run that has done its tasks, by whether its text was written.
 fn status_of(pushed: Result<(), Failed>) -> Status
-    ensures { result ≡ status_of pushed }
+    ensures { result ≡ status_of_writing pushed }
 {
     match pushed {
         Ok(()) => Status::Done,
@@ -42,7 +43,7 @@ fn run_on<R: Threads + Wait + Sync, P: PageStore + Send, G: Gate, S: Source, K: 
 ) -> (Status, Option<P>)
     requires empty { P.content store ≡ nothing }
     requires frames { 1 ≤ frames × frames ≤ FRAMES }
-    ensures ends { EndsAs result.0 frames (S.remaining source.old) (S.remaining source.new)
+    ensures ends { ActorsEndAs result.0 frames (S.remaining source.old) (S.remaining source.new)
         (K.contents sink.old) (K.contents sink.new) (option_map P.content result.1) }
     ensures read_cause { result.0 ≡ Status.ReadFault → HasFailed (S.faults source.old) (S.faults source.new) }
     ensures write_cause { result.0 ≡ Status.WriteFault → HasFailed (K.faults sink.old) (K.faults sink.new) }
@@ -91,7 +92,7 @@ pub fn run_actors<R: Threads + Wait + Sync, P: PageStore + Send, G: Gate, S: Sou
     // says that they are the text of a journal that has each task of each actor once, as one legal run of the machine, and that
     // the store contains what the machine has in the end of this run.
     ensures ends { IfSome (frames_asked (codes "actors") words.now) (λ frames.
-        EndsAs result.0 frames (S.remaining source.old) (S.remaining source.new)
+        ActorsEndAs result.0 frames (S.remaining source.old) (S.remaining source.new)
         (K.contents sink.old) (K.contents sink.new) (option_map P.content result.1)) }
 
     // A fault is answered only if the source or the sink failed.

@@ -11,7 +11,8 @@ use Rattle.vm_model.specs.Contents.Sharing.{without, only}
 use Rattle.source_model.specs.declared.backing.Backing.{Backing}
 use Rattle.source_model.specs.declared.link.Link.{Link}
 use Rattle.source_model.specs.Sources.{backing_text, held_text, text_over}
-use Rattle.source_model.specs.Links.{VmoPage, Below, page_below, end_over, read_end, walked}
+use Rattle.source_model.specs.Links.{Below, page_below, end_over, read_end, walked}
+use Rattle.vm_model.specs.Contents.Owning.{VmoPage}
 use Rattle.source_model.specs.State.{with_text, child_text}
 use Rattle.source_model.proofs.WalkLaws.{cases_below, end_over-none, end_over-some}
 use Rattle.source_model.proofs.LinkLaws.{AreSmaller, below-same, below-some, below-seen, below-past, below-unlinked, goes_down, walked-end, walked-through}

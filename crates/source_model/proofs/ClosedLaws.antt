@@ -10,7 +10,7 @@ use Rattle.vm_model.specs.Machine.Refusals.{first_of}
 use Rattle.source_model.specs.declared.command.SourceCommand.TheVariants.{Close}
 use Rattle.source_model.specs.State.{SourceState}
 use Rattle.source_model.specs.Living.{LivesBy, by_name, by_child, StaysAt}
-use Rattle.source_model.specs.Commands.{SourceStep, StepAfter, refusals}
+use Rattle.source_model.specs.Commands.{SourceStep, SourceStepAfter, source_refusals}
 use Rattle.source_model.specs.Good.{IsGoodSources}
 
 -- what lives without a name is there
@@ -25,7 +25,7 @@ StaysAt-same old new v e =
 pub closed_stays : (old new : SourceState) (name : VmoName) (reply : Reply) → IsGoodSources old → SourceStep old (Close name) reply new → (v : ℕ)
     → LivesBy (without_key old.names name.0) old.link v → IsSome (new.content.count v) × StaysAt old new v
 closed_stays old new name reply good step v live = (ap is_some stays.count ∙ lives_there old name.0 v good live, stays) where
-  go : (o : Option Refusal) → StepAfter o old (Close name) reply new → StaysAt old new v
+  go : (o : Option Refusal) → SourceStepAfter o old (Close name) reply new → StaysAt old new v
   go (Some refusal) refused = StaysAt-same old new v refused.same
   go None (inr lacked) = StaysAt-same old new v lacked.0.same
   go None (inl effect) = elim (effect.1.each v) [
@@ -34,4 +34,4 @@ closed_stays old new name reply good step v live = (ap is_some stays.count ∙ l
   ]
 
   stays : StaysAt old new v
-  stays = go (first_of (refusals old (Close name))) step.outcome
+  stays = go (first_of (source_refusals old (Close name))) step.outcome

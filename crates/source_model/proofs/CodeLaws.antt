@@ -10,7 +10,8 @@ use Rattle.vm_model.specs.Contents.Content.{Content, Page, is_held}
 use Rattle.vm_model.specs.Contents.Sharing.{without, only}
 use Rattle.source_model.specs.declared.backing.Backing.{Backing}
 use Rattle.source_model.specs.declared.link.Link.{Link}
-use Rattle.source_model.specs.Links.{VmoPage, page_below, read_end}
+use Rattle.source_model.specs.Links.{page_below, read_end}
+use Rattle.vm_model.specs.Contents.Owning.{VmoPage}
 use Rattle.source_model.specs.State.{SourceState, state_over, is_absent, wanted}
 use Rattle.source_model.specs.Living.{IsLive, by_name, by_child}
 use Rattle.source_model.specs.Good.{IsGoodSources}

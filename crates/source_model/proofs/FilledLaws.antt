@@ -12,7 +12,8 @@ use Rattle.vm_model.proofs.WritingLaws.{Written, Written-from_WritesPiece, Writt
 use Rattle.source_model.specs.declared.backing.Backing.{Backing}
 use Rattle.source_model.specs.declared.link.Link.{Link}
 use Rattle.source_model.specs.Sources.{backing_text, held_text, text_over}
-use Rattle.source_model.specs.Links.{VmoPage, Below, page_below, read_end, walked, shows}
+use Rattle.source_model.specs.Links.{Below, page_below, read_end, walked, shows_through}
+use Rattle.vm_model.specs.Contents.Owning.{VmoPage}
 use Rattle.source_model.specs.State.{SourceState, state_over, pushed, Fills}
 use Rattle.source_model.proofs.FillingLaws.{replaced-whole}
 use Rattle.source_model.proofs.WalkLaws.{shows-here, shown_end, not_shown, end_cut}
@@ -57,15 +58,15 @@ module _ (old new : Content) (backing : ℕ → Option Backing) (link : ℕ → 
   others u q apart = below-same old new link link u q (ap is_some (Written-other old new v p Written-filled u q apart)) refl
 
   -- the page has its bytes in each page that shows it, and in no other
-  text_at : (u q : ℕ) → walked new backing after u q ≡ cond (shows before v p u q) (replaced (walked old backing before u q) at bytes) (walked old backing before u q)
+  text_at : (u q : ℕ) → walked new backing after u q ≡ cond (shows_through before v p u q) (replaced (walked old backing before u q) at bytes) (walked old backing before u q)
   unfolding walked text_over held_text
-  text_at u q = go (shows before v p u q) refl where
-    ends : (bit : Bool) → shows before v p u q ≡ bit
+  text_at u q = go (shows_through before v p u q) refl where
+    ends : (bit : Bool) → shows_through before v p u q ≡ bit
         → read_end after u q ≡ cond bit (record { koid = v; page = p }) (read_end before u q)
     ends bit e = end_cut before after v p (below-held new link v p _ now_held) others u u q
         ∙ ap (λ (t : Bool). cond t (record { koid = v; page = p }) (read_end before u q)) e
 
-    go : (bit : Bool) → shows before v p u q ≡ bit
+    go : (bit : Bool) → shows_through before v p u q ≡ bit
         → text_over new backing (read_end after u q).koid (read_end after u q).page
         ≡ cond bit (replaced (text_over old backing (read_end before u q).koid (read_end before u q).page) at bytes) (text_over old backing (read_end before u q).koid (read_end before u q).page)
     go true e =

@@ -25,9 +25,10 @@ use Rattle.source_model.specs.declared.link.Link.{Link}
 use Rattle.source_model.specs.declared.command.SourceCommand.{SourceCommand}
 use Rattle.source_model.specs.declared.command.SourceCommand.TheVariants.{Create, Child, Loose, Close, Read, Write, Supply, Evict, Stat}
 use Rattle.source_model.specs.Sources.{backing_text, held_text, text_over}
-use Rattle.source_model.specs.Links.{VmoPage, page_below, read_end, walked}
-use Rattle.source_model.specs.State.{SourceState, empty_sources, state_over, below_of, is_open, koid_of, FillsEach, is_absent, supply_of, is_clean, evicted, seen_of, moved, with_source, with_child, with_loose}
-use Rattle.source_model.specs.Commands.{SourceStep, StepAfter, Effect, refusals}
+use Rattle.source_model.specs.Links.{page_below, read_end, walked}
+use Rattle.vm_model.specs.Contents.Owning.{VmoPage}
+use Rattle.source_model.specs.State.{SourceState, empty_sources, state_over, below_of, is_source_open, source_koid_of, FillsEach, is_absent, supply_of, is_clean, evicted, seen_of, moved, with_source, with_child, with_loose}
+use Rattle.source_model.specs.Commands.{SourceStep, SourceStepAfter, SourceEffect, source_refusals}
 use Rattle.source_model.specs.Good.{IsGoodSources, IsGoodBacking, IsGoodLink}
 use Rattle.source_model.proofs.LinkLaws.{below-same, below-unlinked, text-only, walked-end}
 use Rattle.source_model.proofs.BesideLaws.{IsFresh, text_source, text_loose, links_smaller}
@@ -313,53 +314,53 @@ loose_good s new name v start pages good closed few there e =
 -- ---- each command
 
 -- the VMO of an open name
-opened : (s : SourceState) (name : ℕ) → IsGoodSources s → not (is_open s name) ≡ false → (s.names name ≡ Some (koid_of s name)) × IsSome (s.content.count (koid_of s name))
-unfolding koid_of
+opened : (s : SourceState) (name : ℕ) → IsGoodSources s → not (is_source_open s name) ≡ false → (s.names name ≡ Some (source_koid_of s name)) × IsSome (s.content.count (source_koid_of s name))
+unfolding source_koid_of
 opened s name good e =
-    let there = some_is (s.names name) (not-false (is_open s name) e) in
-    let koid : koid_of s name ≡ there.0 = ap (λ (o : Option ℕ). unwrap_or o 0) there.1 in
-    let named : s.names name ≡ Some (koid_of s name) = there.1 ∙ ap (λ (k : ℕ). Some k) (sym koid) in
-    (named, good.known name (koid_of s name) named)
+    let there = some_is (s.names name) (not-false (is_source_open s name) e) in
+    let koid : source_koid_of s name ≡ there.0 = ap (λ (o : Option ℕ). unwrap_or o 0) there.1 in
+    let named : s.names name ≡ Some (source_koid_of s name) = there.1 ∙ ap (λ (k : ℕ). Some k) (sym koid) in
+    (named, good.known name (source_koid_of s name) named)
 
 -- one that is not loose has a backing
 backed : (s : SourceState) (v : ℕ) → IsGoodSources s → IsSome (s.content.count v) → is_some (s.link v) ≡ false → (s.link v ≡ None) × ((b : Backing) × (s.backing v ≡ Some b))
 backed s v good there tight = (none_is (s.link v) tight, some_is (s.backing v) (good.either v there ∙ ap not tight))
 
-effect_keeps : (old new : SourceState) (command : SourceCommand) (reply : Reply) → IsGoodSources old → first_of (refusals old command) ≡ None
-    → Effect old command reply new → KeepsSources old new
+effect_keeps : (old new : SourceState) (command : SourceCommand) (reply : Reply) → IsGoodSources old → first_of (source_refusals old command) ≡ None
+    → SourceEffect old command reply new → KeepsSources old new
 effect_keeps old new (Create name size kind seed) reply good none effect =
-    let off = AllOff-from_none (refusals old (Create name size kind seed)) none in
+    let off = AllOff-from_none (source_refusals old (Create name size kind seed)) none in
     let known = ltb-false 2 kind off.1.0 in
     let fits = ltb-false SOURCE_BYTES (rounded size) off.1.1.0 in
     create_good old new name.0 (rounded size / PAGE) _ good (none_is (old.names name.0) off.0) (omega (arith, fits)) known (omega arith) (omega (arith, fits)) effect.1
 effect_keeps old new (Child name parent offset size) reply good none effect =
-    let off = AllOff-from_none (refusals old (Child name parent offset size)) none in
+    let off = AllOff-from_none (source_refusals old (Child name parent offset size)) none in
     let of = opened old parent.0 good off.0 in
-    let back = backed old (koid_of old parent.0) good of.1 off.1.1.1.0 in
+    let back = backed old (source_koid_of old parent.0) good of.1 off.1.1.1.0 in
     let fits = ltb-false SOURCE_BYTES (offset + rounded size) off.1.1.1.1.0 in
-    child_good old new name.0 (koid_of old parent.0) (offset / PAGE) (rounded size / PAGE) back.1.0 good (none_is (old.names name.0) off.1.0) (omega (arith, fits)) back.1.1 back.0 effect.1
+    child_good old new name.0 (source_koid_of old parent.0) (offset / PAGE) (rounded size / PAGE) back.1.0 good (none_is (old.names name.0) off.1.0) (omega (arith, fits)) back.1.1 back.0 effect.1
 effect_keeps old new (Loose name parent offset size) reply good none effect =
-    let off = AllOff-from_none (refusals old (Loose name parent offset size)) none in
+    let off = AllOff-from_none (source_refusals old (Loose name parent offset size)) none in
     let of = opened old parent.0 good off.0 in
     let fits = ltb-false SOURCE_BYTES (offset + rounded size) off.1.1.1.0 in
-    loose_good old new name.0 (koid_of old parent.0) (offset / PAGE) (rounded size / PAGE) good (none_is (old.names name.0) off.1.0) (omega (arith, fits)) of.1 effect.1
+    loose_good old new name.0 (source_koid_of old parent.0) (offset / PAGE) (rounded size / PAGE) good (none_is (old.names name.0) off.1.0) (omega (arith, fits)) of.1 effect.1
 effect_keeps old new (Close name) reply good none effect = left_good old new good name.0 effect.1
 effect_keeps old new (Read name offset len) reply good none effect = read_good old new _ good effect.1
 effect_keeps old new (Write name offset bytes) reply good none effect =
-    let off = AllOff-from_none (refusals old (Write name offset bytes)) none in
-    write_good old new (koid_of old name.0) offset bytes good (ltb-false (pages_of old.content (koid_of old name.0) * PAGE) (offset + length bytes) off.1.0) effect.1
+    let off = AllOff-from_none (source_refusals old (Write name offset bytes)) none in
+    write_good old new (source_koid_of old name.0) offset bytes good (ltb-false (pages_of old.content (source_koid_of old name.0) * PAGE) (offset + length bytes) off.1.0) effect.1
 effect_keeps old new (Supply name offset len) reply good none effect =
-    let off = AllOff-from_none (refusals old (Supply name offset len)) none in
-    supply_good old new (koid_of old name.0) offset len _ good (ltb-false (pages_of old.content (koid_of old name.0) * PAGE) (offset + len) off.1.1.1.0) effect.1
+    let off = AllOff-from_none (source_refusals old (Supply name offset len)) none in
+    supply_good old new (source_koid_of old name.0) offset len _ good (ltb-false (pages_of old.content (source_koid_of old name.0) * PAGE) (offset + len) off.1.1.1.0) effect.1
 effect_keeps old new (Evict name offset len) reply good none effect =
-    let off = AllOff-from_none (refusals old (Evict name offset len)) none in
-    subst (KeepsSources old) (sym effect.1) (evict_good old good (koid_of old name.0) (offset / PAGE) ((offset + len) / PAGE) (none_is (old.link (koid_of old name.0)) off.1.1.0))
+    let off = AllOff-from_none (source_refusals old (Evict name offset len)) none in
+    subst (KeepsSources old) (sym effect.1) (evict_good old good (source_koid_of old name.0) (offset / PAGE) ((offset + len) / PAGE) (none_is (old.link (source_koid_of old name.0)) off.1.1.0))
 effect_keeps old new Stat reply good none effect = KeepsSources-same old new good effect.1
 
 -- a step keeps the state good, and gives at most one koid
 pub SourceStep-keeps : (old new : SourceState) (command : SourceCommand) (reply : Reply) → IsGoodSources old → SourceStep old command reply new → KeepsSources old new
-SourceStep-keeps old new command reply good step = go (first_of (refusals old command)) refl step.outcome where
-  go : (o : Option Refusal) → first_of (refusals old command) ≡ o → StepAfter o old command reply new → KeepsSources old new
+SourceStep-keeps old new command reply good step = go (first_of (source_refusals old command)) refl step.outcome where
+  go : (o : Option Refusal) → first_of (source_refusals old command) ≡ o → SourceStepAfter o old command reply new → KeepsSources old new
   go (Some refusal) e refused = KeepsSources-same old new good refused.same
   go None e (inr lacked) = KeepsSources-same old new good lacked.0.same
   go None e (inl effect) = effect_keeps old new command reply good e effect

@@ -8,7 +8,8 @@ use Rattle.vm_model.specs.Contents.Content.{Content, Page, IsGood, is_held}
 use Rattle.source_model.specs.declared.backing.Backing.{Backing}
 use Rattle.source_model.specs.declared.link.Link.{Link}
 use Rattle.source_model.specs.Sources.{backing_text, held_text, text_over}
-use Rattle.source_model.specs.Links.{VmoPage, Below, seen_through, page_below, end_over, read_end, walked}
+use Rattle.source_model.specs.Links.{Below, seen_through, page_below, end_over, read_end, walked}
+use Rattle.vm_model.specs.Contents.Owning.{VmoPage}
 use Rattle.source_model.specs.State.{SourceState, state_over, below_of}
 use Rattle.source_model.specs.Good.{IsTextOf}
 use Rattle.source_model.proofs.FillingLaws.{length-held_text}

@@ -1,8 +1,9 @@
 -- The pages that show a page are those that a write to it comes to.
 use Rattle.std.proofs.Common.{◌≡◌, ℕ, zero, suc, ◌+◌, ◌≤◌, inl, inr, true, Some, sym, ap, ◌∙◌, arith}
-use Rattle.source_model.specs.Links.{VmoPage, Below, shows_over, shows}
+use Rattle.source_model.specs.Links.{Below, shows_over, shows_through}
+use Rattle.vm_model.specs.Contents.Owning.{VmoPage}
 use Rattle.source_model.specs.State.{SourceState, below_of}
-use Rattle.source_model.specs.Reaching.{Reaches, at_page, to_child}
+use Rattle.source_model.specs.Reaching.{WriteReaches, at_page, to_child}
 use Rattle.source_model.proofs.WalkLaws.{GoesDown, cases_below, is_page, shows-here, shows-none, shows-through, shows-zero}
 use Rattle.source_model.proofs.LinkLaws.{AreSmaller, below-some, below-seen, goes_down}
 
@@ -32,9 +33,9 @@ shows_alike below down (suc n) (suc m) v p w q h k e = elim (is_page v p w q) [
 ]
 
 -- a page that goes on to one that shows it, shows it
-shows-next : (below : Below) → GoesDown below → (v p w q : ℕ) (u : VmoPage) → below w q ≡ Some u → shows below v p u.koid u.page ≡ true → shows below v p w q ≡ true
-shows-next below down v p zero q u e live = absurd (let less = down.smaller zero q u e in omega (arith, less))
-shows-next below down v p (suc w) q u e live = elim (is_page v p (suc w) q) [
+shows_through-next : (below : Below) → GoesDown below → (v p w q : ℕ) (u : VmoPage) → below w q ≡ Some u → shows_through below v p u.koid u.page ≡ true → shows_through below v p w q ≡ true
+shows_through-next below down v p zero q u e live = absurd (let less = down.smaller zero q u e in omega (arith, less))
+shows_through-next below down v p (suc w) q u e live = elim (is_page v p (suc w) q) [
   | inl same ↦ rw (same.0, same.1) (shows-here v below v p)
   | inr apart ↦
       let less = down.smaller (suc w) q u e in
@@ -42,7 +43,7 @@ shows-next below down v p (suc w) q u e live = elim (is_page v p (suc w) q) [
 ]
 
 module _ (s : SourceState) (smaller : AreSmaller s.link) where
-  reaches_over : (n v p w q : ℕ) → shows_over n (below_of s) v p w q ≡ true → Reaches s v p w q
+  reaches_over : (n v p w q : ℕ) → shows_over n (below_of s) v p w q ≡ true → WriteReaches s v p w q
   reaches_over zero v p w q e = elim (is_page v p w q) [
     | inl same ↦ at_page w q same.0 same.1
     | inr apart ↦ absurd (let differs = sym (shows-zero (below_of s) v p w q ∙ apart.1) ∙ e in cc)
@@ -59,13 +60,13 @@ module _ (s : SourceState) (smaller : AreSmaller s.link) where
     ]
   ]
 
-  pub shows-reaches : (v p w q : ℕ) → shows (below_of s) v p w q ≡ true → Reaches s v p w q
-  shows-reaches v p w q e = reaches_over w v p w q e
+  pub shows_through-reaches : (v p w q : ℕ) → shows_through (below_of s) v p w q ≡ true → WriteReaches s v p w q
+  shows_through-reaches v p w q e = reaches_over w v p w q e
 
-  pub reaches-shows : (v p w q : ℕ) → Reaches s v p w q → shows (below_of s) v p w q ≡ true
+  pub reaches-shows : (v p w q : ℕ) → WriteReaches s v p w q → shows_through (below_of s) v p w q ≡ true
   reaches-shows v p w q (at_page x y same here) = rw (same, here) (shows-here v (below_of s) v p)
   reaches-shows v p w q (to_child u r x y l up is koid free h page) =
       let next = below-seen s.content s.link x y l free is h in
       let live = reaches-shows v p u r up in
-      shows-next (below_of s) (goes_down s.content s.link smaller) v p x y (record { koid = l.parent.0; page = l.base + y }) next
-      (ap (λ (k : ℕ). shows (below_of s) v p k (l.base + y)) koid ∙ (ap (λ (k : ℕ). shows (below_of s) v p u k) page ∙ live))
+      shows_through-next (below_of s) (goes_down s.content s.link smaller) v p x y (record { koid = l.parent.0; page = l.base + y }) next
+      (ap (λ (k : ℕ). shows_through (below_of s) v p k (l.base + y)) koid ∙ (ap (λ (k : ℕ). shows_through (below_of s) v p u k) page ∙ live))

@@ -7,14 +7,15 @@ use Rattle.vm_model.specs.declared.reply.Reply.{Reply}
 use Rattle.vm_model.specs.Machine.Refusals.{first_of}
 use Rattle.source_model.specs.declared.command.SourceCommand.{SourceCommand}
 use Rattle.source_model.specs.declared.command.SourceCommand.TheVariants.{Read, Supply, Evict}
-use Rattle.source_model.specs.Links.{VmoPage, shows}
+use Rattle.source_model.specs.Links.{shows_through}
+use Rattle.vm_model.specs.Contents.Owning.{VmoPage}
 use Rattle.source_model.specs.State.{SourceState, below_of, pushed, supply_of, FillsEach}
-use Rattle.source_model.specs.Commands.{SourceStep, StepAfter, Effect, refusals}
+use Rattle.source_model.specs.Commands.{SourceStep, SourceStepAfter, SourceEffect, source_refusals}
 use Rattle.source_model.proofs.FillingLaws.{replaced-none}
 
 pub pushed-none : (s : SourceState) (v p w q : ℕ) → pushed s (supply_of v p) w q ≡ s.text w q
 unfolding pushed
-pushed-none s v p w q = go (shows (below_of s) v p w q) where
+pushed-none s v p w q = go (shows_through (below_of s) v p w q) where
   go : (bit : Bool) → cond bit (replaced (s.text w q) 0 []) (s.text w q) ≡ s.text w q
   go true = replaced-none (s.text w q)
   go false = refl
@@ -24,9 +25,9 @@ supplies_stay of old new [] fills w q = ap (λ (s : SourceState). s.text w q) fi
 supplies_stay of old new (x ∷ xs) fills w q =
     supplies_stay of fills.0 new xs fills.2 w q ∙ (ap (λ (s : SourceState). s.text w q) fills.1.rest ∙ pushed-none old (of x).koid (of x).page w q)
 
-stays_by : (old new : SourceState) (command : SourceCommand) (reply : Reply) → (Effect old command reply new → new.text ≡ old.text) → SourceStep old command reply new → new.text ≡ old.text
-stays_by old new command reply effect_stays step = go (first_of (refusals old command)) step.outcome where
-  go : (o : Option Refusal) → StepAfter o old command reply new → new.text ≡ old.text
+stays_by : (old new : SourceState) (command : SourceCommand) (reply : Reply) → (SourceEffect old command reply new → new.text ≡ old.text) → SourceStep old command reply new → new.text ≡ old.text
+stays_by old new command reply effect_stays step = go (first_of (source_refusals old command)) step.outcome where
+  go : (o : Option Refusal) → SourceStepAfter o old command reply new → new.text ≡ old.text
   go (Some refusal) refused = ap (λ (s : SourceState). s.text) refused.same
   go None (inr lacked) = ap (λ (s : SourceState). s.text) lacked.0.same
   go None (inl effect) = effect_stays effect

@@ -3,7 +3,8 @@ use Rattle.std.proofs.Common.{◌≡◌, ℕ, zero, suc, ◌<◌, ◌≤◌, ◌
 use Rattle.std.proofs.lemmas.Bool.{cases_Bool, and_parts}
 use Rattle.vm_base.specs.Entries.{passes}
 use Rattle.vm_base.proofs.SearchLaws.{eqb_same, eqb_is}
-use Rattle.source_model.specs.Links.{VmoPage, Below, onwards, end_over, read_end, shows_over}
+use Rattle.source_model.specs.Links.{Below, onwards, end_over, read_end, shows_over}
+use Rattle.vm_model.specs.Contents.Owning.{VmoPage}
 
 -- a page goes on to a VMO with a smaller koid
 pub record GoesDown (below : Below) : Type 0 where

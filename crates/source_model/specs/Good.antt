@@ -4,7 +4,7 @@ use Rattle.vm_model.specs.Contents.Content.{Content, Page, IsGood, pages_of}
 use Rattle.source_model.specs.declared.backing.Backing.{Backing}
 use Rattle.source_model.specs.declared.link.Link.{Link}
 use Rattle.vm_base.specs.declared.limits.TheConstants.{SOURCE_PAGES, SOURCE_KIND_MAX}
-use Rattle.source_model.specs.Links.{VmoPage}
+use Rattle.vm_model.specs.Contents.Owning.{VmoPage}
 use Rattle.source_model.specs.Sources.{backing_text}
 use Rattle.source_model.specs.State.{SourceState, below_of}
 use Rattle.source_model.specs.Living.{IsLive}

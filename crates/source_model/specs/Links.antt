@@ -6,11 +6,7 @@ use Rattle.vm_model.specs.Contents.Content.{Content, is_held}
 use Rattle.source_model.specs.declared.backing.Backing.{Backing}
 use Rattle.source_model.specs.declared.link.Link.{Link}
 use Rattle.source_model.specs.Sources.{text_over}
-
--- a page of a VMO
-pub record VmoPage : Type 0 where
-  pub koid : ℕ
-  pub page : ℕ
+use Rattle.vm_model.specs.Contents.Owning.{VmoPage}
 
 -- where pages go on: the page that a page shows, if it shows that of another VMO
 abbrev pub Below : Type 0
@@ -52,5 +48,5 @@ shows_over zero below v p w q = (w == v) && (q == p)
 shows_over (suc n) below v p w q =
     ((w == v) && (q == p)) || passes (λ (u : VmoPage). shows_over n below v p u.koid u.page) (below w q)
 
-abbrev pub shows : Below → (v p w q : ℕ) → Bool
-shows below v p w q = shows_over w below v p w q
+abbrev pub shows_through : Below → (v p w q : ℕ) → Bool
+shows_through below v p w q = shows_over w below v p w q

@@ -12,7 +12,8 @@ use Rattle.vm_model.specs.Contents.Zeroing.{is_within}
 use Rattle.source_model.specs.declared.backing.Backing.{Backing}
 use Rattle.source_model.specs.declared.link.Link.{Link}
 use Rattle.source_model.specs.Sources.{backing_text}
-use Rattle.source_model.specs.Links.{VmoPage, Below, page_below, read_end, walked, shows}
+use Rattle.source_model.specs.Links.{Below, page_below, read_end, walked, shows_through}
+use Rattle.vm_model.specs.Contents.Owning.{VmoPage}
 
 -- A content, names that stand for koids, the backing or the link of each VMO, and the text of each: the bytes of each page, whether
 -- the page is in memory or not. A VMO with a link is loose. The text is zeros where no VMO or no page is.
@@ -34,20 +35,20 @@ empty_sources frames = record {
 }
 
 -- a name is open
-abbrev pub is_open : SourceState → ℕ → Bool
-is_open s name = is_some (s.names name)
+abbrev pub is_source_open : SourceState → ℕ → Bool
+is_source_open s name = is_some (s.names name)
 
 -- the koid of a name. Where it is not open, this means nothing
-unfoldable pub koid_of : SourceState → ℕ → ℕ
-koid_of s name = unwrap_or (s.names name) 0
+unfoldable pub source_koid_of : SourceState → ℕ → ℕ
+source_koid_of s name = unwrap_or (s.names name) 0
 
 -- the bytes of a name's VMO
-abbrev pub size_of : SourceState → ℕ → ℕ
-size_of s name = pages_of s.content (koid_of s name) * PAGE
+abbrev pub source_size_of : SourceState → ℕ → ℕ
+source_size_of s name = pages_of s.content (source_koid_of s name) * PAGE
 
 -- a name's VMO is loose
 abbrev pub is_loose : SourceState → ℕ → Bool
-is_loose s name = is_some (s.link (koid_of s name))
+is_loose s name = is_some (s.link (source_koid_of s name))
 
 -- where the pages of loose VMOs go on
 abbrev pub below_of : SourceState → Below
@@ -85,7 +86,7 @@ wanted s v ps = filter (λ (at : VmoPage). is_absent s.content (s.backing at.koi
 -- of its VMO, and by theirs, until they write the page themselves.
 unfoldable pub pushed : SourceState → Piece → ℕ → ℕ → List ℕ
 pushed s part w q =
-    if shows (below_of s) part.koid part.page w q then replaced (s.text w q) part.at part.bytes else s.text w q
+    if shows_through (below_of s) part.koid part.page w q then replaced (s.text w q) part.at part.bytes else s.text w q
 
 -- From old, filling a page may lead to new: it is owned, and holds its whole text, with the bytes of the piece replaced. In the
 -- kernel's terms a pager supplies the page, and what is written is written then.

@@ -9,12 +9,12 @@ ghost use Rattle.source_model.specs.declared.backing.Backing.{Backing};
 ghost use Rattle.source_model.specs.declared.command.SourceCommand.{SourceCommand};
 ghost use Rattle.source_model.specs.declared.command.SourceCommand.TheVariants.{Close, Read, Supply, Evict};
 ghost use Rattle.source_model.specs.declared.link.Link.{Link};
-ghost use Rattle.source_model.specs.Links.{shows, walked};
+ghost use Rattle.source_model.specs.Links.{shows_through, walked};
 ghost use Rattle.source_model.specs.State.{SourceState, below_of, empty_sources, state_over};
 ghost use Rattle.source_model.specs.Living.{LivesBy, IsLive, StaysAt};
 ghost use Rattle.source_model.specs.Commands.{SourceStep};
 ghost use Rattle.source_model.specs.Good.{IsGoodSources, IsTextOf};
-ghost use Rattle.source_model.specs.Reaching.{Reaches};
+ghost use Rattle.source_model.specs.Reaching.{WriteReaches};
 
 /// States that a machine of page sources with page frames and nothing else is good.
 pub fn the_empty_sources_are_good()
@@ -53,7 +53,7 @@ pub fn look_ups_find_the_text()
 /// write comes to from child to child, by pages that the children show and do not hold.
 pub fn a_write_comes_to_what_shows_its_page()
     ensures { (s : SourceState) → IsGoodSources s → (v p w q : ℕ) →
-        (shows (below_of s) v p w q ≡ true) ↔ Reaches s v p w q }
+        (shows_through (below_of s) v p w q ≡ true) ↔ WriteReaches s v p w q }
 {}
 
 /// States that after a close each VMO that is there lives. A VMO that lives without the closed name, by another name or by a

@@ -13,7 +13,7 @@ use Rattle.vmo_ops.proofs.ModelLaws.{count_from-none, count_from-not, count_from
 use Rattle.source_model.specs.declared.backing.Backing.{Backing}
 use Rattle.source_model.specs.State.{is_absent}
 use Rattle.source_model.proofs.FillingLaws.{absent-zero, absent-held}
-use Rattle.source_vm.specs.Pages.{Backings, Links, FillsPages, IsSupplied, absent_ends, absent_touched, end_piece, is_end_absent}
+use Rattle.source_vm.specs.Pages.{Backings, LooseLinks, FillsPages, IsSupplied, absent_ends, absent_touched, end_piece, is_end_absent}
 use Rattle.source_vm.proofs.SupplyLaws.{filter_count}
 
 -- where all pass, all are counted
@@ -97,7 +97,7 @@ filter_front test first last end low high behind =
     ∙ (filter-append test (range_with_len first (last - first)) (range_with_len (first + (last - first)) (end - last))
     ∙ (ap (λ (xs : List ℕ). filter test (range_with_len first (last - first)) ++ xs) none ∙ append-nil (filter test (range_with_len first (last - first)))))))
 
-pub IsSupplied-front : (bs : Backings) (ls : Links) (v : ℕ) (old new : Content) (first last end : ℕ) → first ≤ last → last ≤ end
+pub IsSupplied-front : (bs : Backings) (ls : LooseLinks) (v : ℕ) (old new : Content) (first last end : ℕ) → first ≤ last → last ≤ end
     → ((c : Content) (p : ℕ) → last ≤ p → p < end → is_end_absent bs ls c v p ≡ false) → IsSupplied bs ls v old first last new → IsSupplied bs ls v old first end new
 IsSupplied-front bs ls v old new first last end low high behind s = record {
   fills = subst (λ (ps : List ℕ). FillsPages bs ls old (map (end_piece ls old v) ps) new)
@@ -109,7 +109,7 @@ IsSupplied-front bs ls v old new first last end low high behind s = record {
 
 -- ---- what a range touches
 
-module _ (bs : Backings) (ls : Links) (c : Content) (v offset len : ℕ) where
+module _ (bs : Backings) (ls : LooseLinks) (c : Content) (v offset len : ℕ) where
   module _ (first end : ℕ) (pages : touched offset len ≡ range_with_len first (end - first)) where
     -- the pages that it touches are those of a range
     pub touched-ends : absent_touched bs ls c v offset len ≡ absent_ends bs ls c v first end

@@ -15,7 +15,7 @@ use Rattle.source_model.specs.declared.command.SourceCommand.TheVariants.{Read, 
 use Rattle.source_model.specs.State.{SourceState, state_over, is_absent, wanted, FillsEach, text_in}
 use Rattle.source_model.specs.Commands.{SourceStep, is_aligned}
 use Rattle.source_model.specs.Good.{IsGoodSources}
-use Rattle.source_vm.specs.Pages.{Backings, Links, IsReadable, IsSupplied, FillsPages, LacksFrames, absent_ends, absent_touched, end_piece}
+use Rattle.source_vm.specs.Pages.{Backings, LooseLinks, IsReadable, IsSupplied, FillsPages, LacksFrames, absent_ends, absent_touched, end_piece}
 use Rattle.source_vm.proofs.EndLaws.{wanted-pieces, wanted-length, absent_ends-unlinked, pieces-unlinked}
 use Rattle.source_vm.proofs.ReadLaws.{text_in-same}
 use Rattle.source_vm.proofs.TextLaws.{supplied-text}
@@ -36,7 +36,7 @@ linked_of s v good there e = some_is (s.link v) (go (is_some (s.link v)) (sym (a
   go false f = absurd cc
 
 -- pages of a good state may be looked up
-pub readable_of : (c : Content) (names : ℕ → Option ℕ) (bs : Backings) (ls : Links) → IsGoodSources (state_over c names bs ls) → IsReadable c bs ls
+pub readable_of : (c : Content) (names : ℕ → Option ℕ) (bs : Backings) (ls : LooseLinks) → IsGoodSources (state_over c names bs ls) → IsReadable c bs ls
 readable_of c names bs ls good = record {
   good = good.content;
   sources = λ v b e. record { kind = (good.backing v b e).kind; inside = (good.backing v b e).inside };
@@ -50,7 +50,7 @@ readable_of c names bs ls good = record {
     go (Some n) f = ap is_some f
     go None f = absurd (let no : ◌≡◌ {A = Option Backing} None (Some b) = sym (good.others v f).0 ∙ e in cc)
 
-module _ (c : Content) (names : ℕ → Option ℕ) (bs : Backings) (ls : Links) (name : VmoName) (v : ℕ) (named : names name.0 ≡ Some v) (offset len : ℕ)
+module _ (c : Content) (names : ℕ → Option ℕ) (bs : Backings) (ls : LooseLinks) (name : VmoName) (v : ℕ) (named : names name.0 ≡ Some v) (offset len : ℕ)
     (inside : nat_lt (pages_of c v * PAGE) (offset + len) ≡ false) where
   abbrev s : SourceState
   s = state_over c names bs ls

@@ -9,32 +9,33 @@ use Rattle.vm_model.specs.Contents.Content.{Content, Page}
 use Rattle.vm_model.specs.Contents.Writing.{Piece}
 use Rattle.source_model.specs.declared.backing.Backing.{Backing}
 use Rattle.source_model.specs.Sources.{backing_text, text_over}
-use Rattle.source_model.specs.Links.{VmoPage, page_below, walked}
+use Rattle.source_model.specs.Links.{page_below, walked}
+use Rattle.vm_model.specs.Contents.Owning.{VmoPage}
 use Rattle.source_model.specs.State.{SourceState, is_absent, supply_of, wanted}
 use Rattle.source_model.proofs.FillingLaws.{absent-zero, backing-behind}
 use Rattle.source_model.proofs.LinkLaws.{goes_down}
 use Rattle.source_model.proofs.WalkLaws.{end_over-none, end_through}
 use Rattle.source_model.proofs.CodeLaws.{end-unlinked, end-supplied, absent-supplied, absent-unlinked}
-use Rattle.source_vm.specs.Pages.{Backings, Links, IsReadable, end_of, end_piece, is_end_absent, absent_ends}
+use Rattle.source_vm.specs.Pages.{Backings, LooseLinks, IsReadable, lookup_end, end_piece, is_end_absent, absent_ends}
 use Rattle.source_vm.proofs.FillingLaws.{text-free}
 
 -- ---- look-ups
 
 -- a page that goes on nowhere is the end
-pub end-here : (c : Content) (ls : Links) (v p : ℕ) → page_below c ls v p ≡ None → end_of ls c v p ≡ record { koid = v; page = p }
+pub end-here : (c : Content) (ls : LooseLinks) (v p : ℕ) → page_below c ls v p ≡ None → lookup_end ls c v p ≡ record { koid = v; page = p }
 end-here c ls v p none = end_over-none v (page_below c ls) (record { koid = v; page = p }) none
 
 -- one that goes on ends where the next does
-pub end-next : (c : Content) (bs : Backings) (ls : Links) (v p : ℕ) (u : VmoPage) → IsReadable c bs ls → page_below c ls v p ≡ Some u → end_of ls c v p ≡ end_of ls c u.koid u.page
+pub end-next : (c : Content) (bs : Backings) (ls : LooseLinks) (v p : ℕ) (u : VmoPage) → IsReadable c bs ls → page_below c ls v p ≡ Some u → lookup_end ls c v p ≡ lookup_end ls c u.koid u.page
 end-next c bs ls v p u readable on = end_through (page_below c ls) (goes_down c ls readable.smaller) v p u on
 
 -- what a page shows is what the end has
-pub walked-from_end : (c : Content) (bs : Backings) (ls : Links) (v p : ℕ) (at : VmoPage) → at ≡ end_of ls c v p → text_over c bs at.koid at.page ≡ walked c bs (page_below c ls) v p
+pub walked-from_end : (c : Content) (bs : Backings) (ls : LooseLinks) (v p : ℕ) (at : VmoPage) → at ≡ lookup_end ls c v p → text_over c bs at.koid at.page ≡ walked c bs (page_below c ls) v p
 unfolding walked
 walked-from_end c bs ls v p at e = ap (λ (u : VmoPage). text_over c bs u.koid u.page) e
 
 -- whether the end is absent
-pub absent-end : (c : Content) (bs : Backings) (ls : Links) (v p : ℕ) (at : VmoPage) (bit : Bool) → at ≡ end_of ls c v p → bit ≡ is_absent c (bs at.koid) at.koid at.page
+pub absent-end : (c : Content) (bs : Backings) (ls : LooseLinks) (v p : ℕ) (at : VmoPage) (bit : Bool) → at ≡ lookup_end ls c v p → bit ≡ is_absent c (bs at.koid) at.koid at.page
     → bit ≡ is_end_absent bs ls c v p
 unfolding is_end_absent
 absent-end c bs ls v p at bit e is = is ∙ ap (λ (u : VmoPage). is_absent c (bs u.koid) u.koid u.page) e
@@ -62,7 +63,7 @@ zeros-end c bs v p free tight = text-free c bs v p free ∙ go (bs v) refl where
 
 -- ---- a VMO that is not loose
 
-module _ (c : Content) (bs : Backings) (ls : Links) (v : ℕ) (b : Backing) (backed : bs v ≡ Some b) (unlinked : ls v ≡ None) where
+module _ (c : Content) (bs : Backings) (ls : LooseLinks) (v : ℕ) (b : Backing) (backed : bs v ≡ Some b) (unlinked : ls v ≡ None) where
   pub end_absent-unlinked : (p : ℕ) → is_end_absent bs ls c v p ≡ is_absent c (Some b) v p
   unfolding is_end_absent
   end_absent-unlinked p = ap (λ (u : VmoPage). is_absent c (bs u.koid) u.koid u.page) (end-unlinked c ls v p unlinked) ∙ ap (λ (o : Option Backing). is_absent c o v p) backed
@@ -80,7 +81,7 @@ module _ (s : SourceState) (v : ℕ) where
   test = is_end_absent s.backing s.link s.content v
 
   abbrev at_end : ℕ → VmoPage
-  at_end = end_of s.link s.content v
+  at_end = lookup_end s.link s.content v
 
   wanted_next : (p : ℕ) (ps : List ℕ) → wanted s v (p ∷ ps) ≡ cond (test p) (at_end p ∷ wanted s v ps) (wanted s v ps)
   unfolding is_end_absent
@@ -111,18 +112,18 @@ module _ (s : SourceState) (v : ℕ) where
 -- ---- pages that are supplied
 
 -- the end of one look-up was filled: the others end where they did, at pages that are absent if they were
-module _ (bs : Backings) (ls : Links) (old new : Content) (readable : IsReadable old bs ls) (v p : ℕ) (absent : is_end_absent bs ls old v p ≡ true)
-    (others : (w r : ℕ) → (w ≡ (end_of ls old v p).koid → r ≡ (end_of ls old v p).page → ⊥) → new.page w r ≡ old.page w r) where
-  end_unlinked : ls (end_of ls old v p).koid ≡ None
+module _ (bs : Backings) (ls : LooseLinks) (old new : Content) (readable : IsReadable old bs ls) (v p : ℕ) (absent : is_end_absent bs ls old v p ≡ true)
+    (others : (w r : ℕ) → (w ≡ (lookup_end ls old v p).koid → r ≡ (lookup_end ls old v p).page → ⊥) → new.page w r ≡ old.page w r) where
+  end_unlinked : ls (lookup_end ls old v p).koid ≡ None
   unfolding is_end_absent
-  end_unlinked = absent-unlinked (record { content = old; names = λ n. None; backing = bs; link = ls; text = λ w q. zeros }) (end_of ls old v p).koid (end_of ls old v p).page
-      (readable.either (end_of ls old v p).koid) absent
+  end_unlinked = absent-unlinked (record { content = old; names = λ n. None; backing = bs; link = ls; text = λ w q. zeros }) (lookup_end ls old v p).koid (lookup_end ls old v p).page
+      (readable.either (lookup_end ls old v p).koid) absent
 
-  pub end-stays : (w q : ℕ) → end_of ls new w q ≡ end_of ls old w q
-  end-stays w q = end-supplied old new ls (end_of ls old v p).koid (end_of ls old v p).page end_unlinked others w q
+  pub end-stays : (w q : ℕ) → lookup_end ls new w q ≡ lookup_end ls old w q
+  end-stays w q = end-supplied old new ls (lookup_end ls old v p).koid (lookup_end ls old v p).page end_unlinked others w q
 
   pub absent-stays : (q : ℕ) → q ≢ p → is_end_absent bs ls new v q ≡ is_end_absent bs ls old v q
   unfolding is_end_absent
   absent-stays q apart =
       ap (λ (u : VmoPage). is_absent new (bs u.koid) u.koid u.page) (end-stays v q)
-      ∙ absent-supplied old new ls (end_of ls old v p).koid (end_of ls old v p).page end_unlinked others bs v p q readable.smaller refl apart
+      ∙ absent-supplied old new ls (lookup_end ls old v p).koid (lookup_end ls old v p).page end_unlinked others bs v p q readable.smaller refl apart

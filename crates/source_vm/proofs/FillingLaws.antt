@@ -18,11 +18,11 @@ use Rattle.source_model.specs.State.{SourceState, state_over, pushed}
 use Rattle.source_model.proofs.FillingLaws.{replaced-whole}
 use Rattle.source_model.proofs.LinkLaws.{below-held, walked-end, length-walked}
 use Rattle.source_model.proofs.FilledLaws.{Fills-from, pushed-here}
-use Rattle.source_vm.specs.Pages.{Backings, Links, IsReadable, FillsPage, is_clean_page}
+use Rattle.source_vm.specs.Pages.{Backings, LooseLinks, IsReadable, FillsPage, is_clean_page}
 
 -- ---- a page that is filled
 
-module _ (bs : Backings) (ls : Links) (old new : Content) (v p at : ℕ) (bytes : List ℕ) (readable : IsReadable old bs ls) (h : p < pages_of old v) (fits : at + length bytes ≤ PAGE) where
+module _ (bs : Backings) (ls : LooseLinks) (old new : Content) (v p at : ℕ) (bytes : List ℕ) (readable : IsReadable old bs ls) (h : p < pages_of old v) (fits : at + length bytes ≤ PAGE) where
   -- its whole text is written
   pub FillsPage-from : (whole : List ℕ) → whole ≡ replaced (walked old bs (page_below old ls) v p) at bytes
       → WritesPiece old (record { koid = v; page = p; at = 0; bytes = whole }) new → FillsPage bs ls old (record { koid = v; page = p; at = at; bytes = bytes }) new
@@ -63,7 +63,7 @@ module _ (bs : Backings) (ls : Links) (old new : Content) (v p at : ℕ) (bytes 
       (fills.each (λ n. None)).content
 
 -- pages that change leave what may be looked up
-pub IsReadable-kept : (bs : Backings) (ls : Links) (old new : Content) → IsReadable old bs ls → IsGood new → ((w : ℕ) → pages_of new w ≡ pages_of old w) → IsReadable new bs ls
+pub IsReadable-kept : (bs : Backings) (ls : LooseLinks) (old new : Content) → IsReadable old bs ls → IsGood new → ((w : ℕ) → pages_of new w ≡ pages_of old w) → IsReadable new bs ls
 IsReadable-kept bs ls old new readable good pages = record {
   good = good;
   sources = readable.sources;

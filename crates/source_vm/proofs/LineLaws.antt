@@ -18,11 +18,12 @@ use Rattle.source_model.specs.State.{SourceState, state_over, empty_sources}
 use Rattle.source_model.specs.Commands.{SourceStep}
 use Rattle.source_model.specs.Good.{IsGoodSources}
 use Rattle.source_model.specs.declared.link.Link.{Link}
-use Rattle.source_model.specs.Links.{VmoPage, page_below, walked}
+use Rattle.source_model.specs.Links.{page_below, walked}
+use Rattle.vm_model.specs.Contents.Owning.{VmoPage}
 use Rattle.source_model.proofs.LinkLaws.{below-unlinked, walked-end}
 use Rattle.source_vm.proofs.FillingLaws.{text-free}
 use Rattle.source_vm.specs.Reading.{SourceReading, Order, Outside, source_reading}
-use Rattle.source_vm.specs.Answering.{GivesAs, source_rules}
+use Rattle.source_vm.specs.Answering.{SourceGivesAs, source_rules}
 
 -- a line that is an order, one step, and its reply
 pub AnswersLine-order : {T E : Type 0} (line : List ℕ) (command : SourceCommand) (old new : SourceState) (reply : Reply) (before after : Option (List ℕ)) (result : Result T E)
@@ -30,7 +31,7 @@ pub AnswersLine-order : {T E : Type 0} (line : List ℕ) (command : SourceComman
     → AnswersLine source_rules line old new before after result
 AnswersLine-order line command old new reply before after result e step ok err = record {
   text = text reply;
-  gives = record { answer = subst (λ (r : SourceReading). GivesAs r old (text reply) new) e (reply, refl, step) };
+  gives = record { answer = subst (λ (r : SourceReading). SourceGivesAs r old (text reply) new) e (reply, refl, step) };
   written = written_or_cut result before after (text reply) ok err;
 }
 
@@ -39,7 +40,7 @@ pub AnswersLine-outside : {T E : Type 0} (line : List ℕ) (old : SourceState) (
     → Outside ≡ source_reading line → OnOk result (Appends before after syntax_text) → OnErr result (IsCutOff before after syntax_text) → AnswersLine source_rules line old old before after result
 AnswersLine-outside line old before after result e ok err = record {
   text = syntax_text;
-  gives = record { answer = subst (λ (r : SourceReading). GivesAs r old syntax_text old) e (refl, refl) };
+  gives = record { answer = subst (λ (r : SourceReading). SourceGivesAs r old syntax_text old) e (refl, refl) };
   written = written_or_cut result before after syntax_text ok err;
 }
 

@@ -3,7 +3,7 @@ use Rattle.std.proofs.Common.{◌≡◌, ℕ, ◌<◌, Bool, true, false, cond, 
 use Rattle.std.specs.Prelude.{codes}
 use Rattle.vm_model.specs.Language.Reading.{is_word}
 use Rattle.source_model.specs.declared.command.SourceCommand.{SourceCommand}
-use Rattle.source_vm.specs.Reading.{order_in, source_command}
+use Rattle.source_vm.specs.Reading.{source_order_in, source_command}
 
 none_either : (bit : Bool) (o : Option SourceCommand) → o ≡ None → cond bit None o ≡ None
 none_either true o e = refl
@@ -23,7 +23,7 @@ command_of_six word a b c d e f ws =
     (none_either (is_word word (codes "stat")) _ refl)))))))
 
 -- a command has six words at most
-pub order_of_many : (ws : List (List ℕ)) → 6 < length ws → order_in ws ≡ None
+pub order_of_many : (ws : List (List ℕ)) → 6 < length ws → source_order_in ws ≡ None
 order_of_many [] h = absurd (omega arith)
 order_of_many (word ∷ []) h = absurd (omega arith)
 order_of_many (word ∷ a ∷ []) h = absurd (omega arith)

@@ -12,17 +12,17 @@ use Rattle.vm_model.specs.Contents.Content.{Content, used}
 use Rattle.vm_model.specs.Machine.Refusals.{first_of}
 use Rattle.source_model.specs.declared.command.SourceCommand.{SourceCommand}
 use Rattle.source_model.specs.declared.backing.Backing.{Backing}
-use Rattle.source_model.specs.State.{SourceState, state_over, koid_of}
-use Rattle.source_model.specs.Commands.{SourceStep, StepAfter, Effect, refusals, may_lack_memory, lacks}
+use Rattle.source_model.specs.State.{SourceState, state_over, source_koid_of}
+use Rattle.source_model.specs.Commands.{SourceStep, SourceStepAfter, SourceEffect, source_refusals, source_may_lack_memory, lacks}
 use Rattle.source_model.specs.declared.link.Link.{Link}
 use Rattle.source_model.specs.Good.{IsGoodSources}
 use Rattle.source_model.proofs.KeepLaws.{state_is}
 use Rattle.source_model.proofs.GoodLaws.{SourceStep-keeps}
 use Rattle.source_vm.specs.Pages.{LacksFrames}
 
-pub koid_of-named : (s : SourceState) (name v : ℕ) → s.names name ≡ Some v → koid_of s name ≡ v
-unfolding koid_of
-koid_of-named s name v e = rw e refl
+pub source_koid_of-named : (s : SourceState) (name v : ℕ) → s.names name ≡ Some v → source_koid_of s name ≡ v
+unfolding source_koid_of
+source_koid_of-named s name v e = rw e refl
 
 -- a range that lies in its VMO, and one that does not
 pub in_range : (answer : Bool) (bytes end : ℕ) → IsTrue answer ↔ (end ≤ bytes) → answer ≡ true → nat_lt bytes end ≡ false
@@ -34,23 +34,23 @@ out_of_range answer bytes end test e = lt-ltb bytes end (past (λ inside. let ye
   past outside = omega (arith, outside)
 
 module _ (s : SourceState) (command : SourceCommand) where
-  pub refused : (refusal : Refusal) → first_of (refusals s command) ≡ Some refusal → SourceStep s command (Refused refusal) s
+  pub refused : (refusal : Refusal) → first_of (source_refusals s command) ≡ Some refusal → SourceStep s command (Refused refusal) s
   refused refusal e = record {
-    outcome = subst (λ (o : Option Refusal). StepAfter o s command (Refused refusal) s) (sym e) (record { answer = refl; same = refl });
+    outcome = subst (λ (o : Option Refusal). SourceStepAfter o s command (Refused refusal) s) (sym e) (record { answer = refl; same = refl });
   }
 
-  pub lacked : first_of (refusals s command) ≡ None → may_lack_memory s command ≡ true → SourceStep s command (Refused HostMemory) s
+  pub lacked : first_of (source_refusals s command) ≡ None → source_may_lack_memory s command ≡ true → SourceStep s command (Refused HostMemory) s
   lacked e lack = record {
-    outcome = subst (λ (o : Option Refusal). StepAfter o s command (Refused HostMemory) s) (sym e) (inr (record { answer = refl; same = refl }, lack));
+    outcome = subst (λ (o : Option Refusal). SourceStepAfter o s command (Refused HostMemory) s) (sym e) (inr (record { answer = refl; same = refl }, lack));
   }
 
-  pub done : (reply : Reply) (new : SourceState) → first_of (refusals s command) ≡ None → Effect s command reply new → SourceStep s command reply new
+  pub done : (reply : Reply) (new : SourceState) → first_of (source_refusals s command) ≡ None → SourceEffect s command reply new → SourceStep s command reply new
   done reply new e effect = record {
-    outcome = subst (λ (o : Option Refusal). StepAfter o s command reply new) (sym e) (inl effect);
+    outcome = subst (λ (o : Option Refusal). SourceStepAfter o s command reply new) (sym e) (inl effect);
   }
 
   -- the frames that a command takes are the last that may be refused
-  pub short : (n : ℕ) (refusal : Refusal) → first_of (refusals s command) ≡ first_of ((lacks s n, NoMemory) ∷ []) → may_lack_memory s command ≡ nat_lt 0 n
+  pub short : (n : ℕ) (refusal : Refusal) → first_of (source_refusals s command) ≡ first_of ((lacks s n, NoMemory) ∷ []) → source_may_lack_memory s command ≡ nat_lt 0 n
       → LacksFrames s.content n refusal → SourceStep s command (Refused refusal) s
   short n refusal rows wants (inl few) =
       subst (λ (r : Refusal). SourceStep s command (Refused r) s) (sym few.0)

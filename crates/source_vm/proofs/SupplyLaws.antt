@@ -9,10 +9,10 @@ use Rattle.vm_model.proofs.OwningLaws.{count_from, count_from-same}
 use Rattle.vm_model.proofs.WritingLaws.{IsKept-same, Written-other}
 use Rattle.vmo_ops.proofs.ModelLaws.{count_from-next, count_from-split}
 use Rattle.vmo_ops.proofs.RowLaws.{Run, Takes, IsUnderWay, IsUnderWay-start, IsUnderWay-step}
-use Rattle.source_model.specs.Links.{VmoPage}
+use Rattle.vm_model.specs.Contents.Owning.{VmoPage}
 use Rattle.source_model.specs.State.{state_over, is_absent, supply_of}
 use Rattle.source_model.proofs.FillingLaws.{absent-held}
-use Rattle.source_vm.specs.Pages.{Backings, Links, IsReadable, FillsPage, FillsPages, IsSupplied, end_of, end_piece, is_end_absent, absent_ends}
+use Rattle.source_vm.specs.Pages.{Backings, LooseLinks, IsReadable, FillsPage, FillsPages, IsSupplied, lookup_end, end_piece, is_end_absent, absent_ends}
 use Rattle.source_vm.proofs.FillingLaws.{Written-from_fills, IsReadable-kept}
 use Rattle.source_vm.proofs.EndLaws.{end-stays, absent-stays}
 
@@ -52,7 +52,7 @@ module _ (test : ℕ → Bool) (first page n : ℕ) (order : first ≤ page) (co
 
 -- ---- pages that are filled
 
-module _ (bs : Backings) (ls : Links) where
+module _ (bs : Backings) (ls : LooseLinks) where
   pub FillsPages-more : (old mid new : Content) (part : Piece) (parts : List Piece) → FillsPage bs ls old part mid → FillsPages bs ls mid parts new → FillsPages bs ls old (part ∷ parts) new
   FillsPages-more old mid new part parts first rest = record {
     each = λ names. (state_over mid names bs ls, first.each names, rest.each names);
@@ -70,7 +70,7 @@ used_more now mid false bit e f = let one : ◌≡◌ {A = ℕ} (cond bit 1 0) 1
 cases_below : (q from : ℕ) → q < from + 1 → (q < from) ⊎ (q ≡ from)
 cases_below q from h = elim (cases_lt q from) [ inl less ↦ inl less | inr past ↦ inr (omega (arith, h, past)) ]
 
-module _ (bs : Backings) (ls : Links) (v : ℕ) (start : Content) where
+module _ (bs : Backings) (ls : LooseLinks) (v : ℕ) (start : Content) where
   abbrev began : ℕ → Bool
   began = is_end_absent bs ls start v
 
@@ -92,7 +92,7 @@ module _ (bs : Backings) (ls : Links) (v : ℕ) (start : Content) where
   pub record IsSupplying (now : Content) (first from end spare : ℕ) : Type 0 where
     pub way : IsUnderWay supplying takes v start (range_with_len first (end - first)) now from end
     pub readable : IsReadable now bs ls
-    pub ends : (w q : ℕ) → end_of ls now w q ≡ end_of ls start w q
+    pub ends : (w q : ℕ) → lookup_end ls now w q ≡ lookup_end ls start w q
     pub same : (q : ℕ) → from ≤ q → is_end_absent bs ls now v q ≡ began q
     pub none : (q : ℕ) → first ≤ q → q < from → is_end_absent bs ls now v q ≡ false
     pub rows : count_from (takes now) from (end - from) ≤ spare
@@ -116,7 +116,7 @@ module _ (bs : Backings) (ls : Links) (v : ℕ) (start : Content) where
 
   module _ (now mid : Content) (first from end spare left : ℕ) (s : IsSupplying now first from end spare) (h : from < end)
       (absent : is_end_absent bs ls now v from ≡ true → FillsPage bs ls now (end_piece ls now v from) mid × (spare ≤ left + 1))
-      (inside : (end_of ls now v from).page < pages_of now (end_of ls now v from).koid)
+      (inside : (lookup_end ls now v from).page < pages_of now (lookup_end ls now v from).koid)
       (other : is_end_absent bs ls now v from ≡ false → (mid ≡ now) × (left ≡ spare)) where
     next : count_from (takes now) from (end - from) ≡ cond (takes now from) 1 0 + count_from (takes now) (from + 1) (end - (from + 1))
     next = count_from-next (takes now) from end h
@@ -126,13 +126,13 @@ module _ (bs : Backings) (ls : Links) (v : ℕ) (start : Content) where
     step_absent e =
         let fills = (absent e).0 in
         let cost = (absent e).1 in
-        let k = (end_of ls now v from).koid in
-        let r = (end_of ls now v from).page in
+        let k = (lookup_end ls now v from).koid in
+        let r = (lookup_end ls now v from).page in
         let written = Written-from_fills bs ls now mid k r 0 [] s.readable inside (omega arith) fills in
         let beside : (w q : ℕ) → (w ≡ k → q ≡ r → ⊥) → mid.page w q ≡ now.page w q = λ w q apart. Written-other now mid k r written w q apart in
         let others : (q : ℕ) → q ≢ from → is_end_absent bs ls mid v q ≡ is_end_absent bs ls now v q
         = λ q apart. absent-stays bs ls now mid s.readable v from e beside q apart in
-        let stays : (w q : ℕ) → end_of ls mid w q ≡ end_of ls now w q = λ w q. end-stays bs ls now mid s.readable v from e beside w q in
+        let stays : (w q : ℕ) → lookup_end ls mid w q ≡ lookup_end ls now w q = λ w q. end-stays bs ls now mid s.readable v from e beside w q in
         let one : ◌≡◌ {A = ℕ} (cond (takes now from) 1 0) 1 = ap (λ (t : Bool). cond t 1 0) e in
         let rest : count_from (takes mid) (from + 1) (end - (from + 1)) ≡ count_from (takes now) (from + 1) (end - (from + 1)) =
         count_from-same (takes mid) (takes now) (from + 1) (end - (from + 1)) (λ q low less. let apart : q ≢ from = omega arith in others q apart) in

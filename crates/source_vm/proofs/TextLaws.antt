@@ -18,21 +18,21 @@ use Rattle.source_model.specs.Good.{IsGoodSources}
 use Rattle.source_model.proofs.GoodLaws.{fresh_of}
 use Rattle.source_model.proofs.LinkLaws.{below-held, walked-end}
 use Rattle.source_model.proofs.TextLaws.{supplies_stay}
-use Rattle.source_vm.specs.Pages.{Backings, Links, FillsPages, end_of, end_piece, is_clean_at, cleared}
+use Rattle.source_vm.specs.Pages.{Backings, LooseLinks, FillsPages, lookup_end, end_piece, is_clean_at, cleared}
 use Rattle.source_vm.specs.Table.{AreIndexed}
 use Rattle.source_vm.proofs.FillingLaws.{clean-zero, clean-held, text-held}
 
 -- ---- supplying
 
 -- no text changes
-pub supplied-text : (old new : Content) (names : ℕ → Option ℕ) (bs : Backings) (ls : Links) (v : ℕ) (ps : List ℕ) → FillsPages bs ls old (map (end_piece ls old v) ps) new
+pub supplied-text : (old new : Content) (names : ℕ → Option ℕ) (bs : Backings) (ls : LooseLinks) (v : ℕ) (ps : List ℕ) → FillsPages bs ls old (map (end_piece ls old v) ps) new
     → (w q : ℕ) → walked new bs (page_below new ls) w q ≡ walked old bs (page_below old ls) w q
 supplied-text old new names bs ls v ps fills w q =
-    supplies_stay (end_of ls old v) (state_over old names bs ls) (state_over new names bs ls) ps (fills.each names) w q
+    supplies_stay (lookup_end ls old v) (state_over old names bs ls) (state_over new names bs ls) ps (fills.each names) w q
 
 -- ---- evicting
 
-module _ (c : Content) (names : ℕ → Option ℕ) (bs : Backings) (ls : Links) (v : ℕ) (b : Backing) (e : bs v ≡ Some b) where
+module _ (c : Content) (names : ℕ → Option ℕ) (bs : Backings) (ls : LooseLinks) (v : ℕ) (b : Backing) (e : bs v ≡ Some b) where
   pub clean_is : (q : ℕ) → is_clean (state_over c names bs ls) v q ≡ is_clean_at b c v q
   unfolding is_clean
   clean_is q = go (c.page v q) refl where

@@ -11,16 +11,16 @@ use Rattle.vm_model.proofs.RangeLaws.{part_fits, touched-row, touched-nil}
 use Rattle.vmo_ops.specs.Costs.{LacksRoom}
 use Rattle.vmo_ops.proofs.RowLaws.{Run}
 use Rattle.vmo_ops.proofs.OwningLaws.{IsOwning, IsOwning-step}
-use Rattle.source_vm.specs.Pages.{Backings, Links, IsReadable, FillsPage, FillsPages, LacksFrames}
+use Rattle.source_vm.specs.Pages.{Backings, LooseLinks, IsReadable, FillsPage, FillsPages, LacksFrames}
 use Rattle.source_vm.proofs.FillingLaws.{Written-from_fills, IsReadable-kept}
 use Rattle.source_vm.proofs.SupplyLaws.{FillsPages-more}
 
 -- a write at this offset, from a content over pages of v to another
-abbrev pub filling : Backings → Links → ℕ → ℕ → List ℕ → Run
+abbrev pub filling : Backings → LooseLinks → ℕ → ℕ → List ℕ → Run
 filling bs ls v offset bytes c ps new = FillsPages bs ls c (map (piece v offset bytes) ps) new
 
 -- the piece of a write that falls into the next page is written, by its place in the page and its bytes
-pub IsOwning-filled : (bs : Backings) (ls : Links) (offset : ℕ) (bytes : List ℕ) {v : ℕ} {old : Content} {all : List ℕ} {now mid : Content}
+pub IsOwning-filled : (bs : Backings) (ls : LooseLinks) (offset : ℕ) (bytes : List ℕ) {v : ℕ} {old : Content} {all : List ℕ} {now mid : Content}
     {from end spare left at : ℕ} {part : List ℕ}
     → IsReadable now bs ls → IsOwning (filling bs ls v offset bytes) v old all now from end spare → from < end → offset / PAGE ≤ from
     → FillsPage bs ls now (record { koid = v; page = from; at = at; bytes = part }) mid → at ≡ part_at offset from
@@ -33,7 +33,7 @@ IsOwning-filled bs ls offset bytes {v} {old} {all} {now} {mid} {from} readable o
     (λ ps last w. FillsPages-more bs ls now mid last (piece v offset bytes from) (map (piece v offset bytes) ps) here w)
 
 -- pages may be looked up as before
-pub IsReadable-filled : (bs : Backings) (ls : Links) (now mid : Content) (v p at : ℕ) (part : List ℕ) → IsReadable now bs ls → p < pages_of now v → at + length part ≤ PAGE
+pub IsReadable-filled : (bs : Backings) (ls : LooseLinks) (now mid : Content) (v p at : ℕ) (part : List ℕ) → IsReadable now bs ls → p < pages_of now v → at + length part ≤ PAGE
     → FillsPage bs ls now (record { koid = v; page = p; at = at; bytes = part }) mid → IsReadable mid bs ls
 IsReadable-filled bs ls now mid v p at part readable h fits fills =
     let written = Written-from_fills bs ls now mid v p at part readable h fits fills in

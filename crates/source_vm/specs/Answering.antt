@@ -14,14 +14,14 @@ use Rattle.source_vm.specs.Reading.{SourceReading, Blank, Order, Outside, source
 
 -- by which text a line that is read so may be answered: a blank line by none, a line outside the grammar by its refusal, an
 -- order by that of one step's reply
-abbrev pub GivesAs : SourceReading → SourceState → List ℕ → SourceState → Type 0
-GivesAs Blank old out new = (out ≡ []) × (new ≡ old)
-GivesAs (Order command) old out new = (reply : Reply) × (out ≡ text reply) × SourceStep old command reply new
-GivesAs Outside old out new = (out ≡ syntax_text) × (new ≡ old)
+abbrev pub SourceGivesAs : SourceReading → SourceState → List ℕ → SourceState → Type 0
+SourceGivesAs Blank old out new = (out ≡ []) × (new ≡ old)
+SourceGivesAs (Order command) old out new = (reply : Reply) × (out ≡ text reply) × SourceStep old command reply new
+SourceGivesAs Outside old out new = (out ≡ syntax_text) × (new ≡ old)
 
 -- from old, the line may be answered by this text and lead to new
 pub record SourceGives (line : List ℕ) (old : SourceState) (out : List ℕ) (new : SourceState) : Type 0 where
-  pub answer : GivesAs (source_reading line) old out new
+  pub answer : SourceGivesAs (source_reading line) old out new
 
 -- the machine of page sources
 abbrev pub source_rules : Answering SourceState
@@ -35,5 +35,5 @@ source_reading-long line long =
 
 pub SourceGives-long : (s : SourceState) (line : List ℕ) → LINE_BYTES < length line → SourceGives line s syntax_text s
 SourceGives-long s line long = record {
-  answer = subst (λ (r : SourceReading). GivesAs r s syntax_text s) (sym (source_reading-long line long)) (refl, refl);
+  answer = subst (λ (r : SourceReading). SourceGivesAs r s syntax_text s) (sym (source_reading-long line long)) (refl, refl);
 }

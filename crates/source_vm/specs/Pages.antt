@@ -11,7 +11,8 @@ use Rattle.vm_model.specs.Contents.Zeroing.{is_within}
 use Rattle.source_model.specs.declared.backing.Backing.{Backing}
 use Rattle.source_model.specs.declared.link.Link.{Link}
 use Rattle.source_model.specs.Sources.{backing_text}
-use Rattle.source_model.specs.Links.{VmoPage, page_below, read_end}
+use Rattle.source_model.specs.Links.{page_below, read_end}
+use Rattle.vm_model.specs.Contents.Owning.{VmoPage}
 use Rattle.source_model.specs.State.{SourceState, state_over, Fills, FillsEach, is_absent, supply_of}
 use Rattle.source_model.specs.Commands.{is_aligned}
 use Rattle.source_vm.specs.declared.walk.Place.{Place}
@@ -20,8 +21,8 @@ use Rattle.source_vm.specs.declared.walk.Place.{Place}
 abbrev pub Backings : Type 0
 Backings = ℕ → Option Backing
 
-abbrev pub Links : Type 0
-Links = ℕ → Option Link
+abbrev pub LooseLinks : Type 0
+LooseLinks = ℕ → Option Link
 
 -- a backing by one of the functions, within their bytes
 pub record IsSource (b : Backing) : Type 0 where
@@ -29,7 +30,7 @@ pub record IsSource (b : Backing) : Type 0 where
   pub inside : b.base + b.seen ≤ SOURCE_PAGES
 
 -- Pages may be looked up: the content is good, each backing is within its source, and each link leads to pages of an older VMO.
-pub record IsReadable (c : Content) (backings : Backings) (links : Links) : Type 0 where
+pub record IsReadable (c : Content) (backings : Backings) (links : LooseLinks) : Type 0 where
   pub good : IsGood c
   pub sources : (v : ℕ) (b : Backing) → backings v ≡ Some b → IsSource b
   pub smaller : (v : ℕ) (l : Link) → links v ≡ Some l → l.parent.0 < v
@@ -41,36 +42,36 @@ abbrev pub page_at : Place → VmoPage
 page_at at = record { koid = at.koid.0; page = at.page }
 
 -- the page at which a look-up of page p of v ends
-abbrev pub end_of : Links → Content → ℕ → ℕ → VmoPage
-end_of links c v p = read_end (page_below c links) v p
+abbrev pub lookup_end : LooseLinks → Content → ℕ → ℕ → VmoPage
+lookup_end links c v p = read_end (page_below c links) v p
 
 -- that page is absent
-unfoldable pub is_end_absent : Backings → Links → Content → ℕ → ℕ → Bool
+unfoldable pub is_end_absent : Backings → LooseLinks → Content → ℕ → ℕ → Bool
 is_end_absent backings links c v p =
-    is_absent c (backings (end_of links c v p).koid) (end_of links c v p).koid (end_of links c v p).page
+    is_absent c (backings (lookup_end links c v p).koid) (lookup_end links c v p).koid (lookup_end links c v p).page
 
 -- the piece of supplying it
-abbrev pub end_piece : Links → Content → ℕ → ℕ → Piece
-end_piece links c v p = supply_of (end_of links c v p).koid (end_of links c v p).page
+abbrev pub end_piece : LooseLinks → Content → ℕ → ℕ → Piece
+end_piece links c v p = supply_of (lookup_end links c v p).koid (lookup_end links c v p).page
 
 -- the pages from `first` to below `end` of v whose look-ups end at absent pages
-abbrev pub absent_ends : Backings → Links → Content → ℕ → (first end : ℕ) → List ℕ
+abbrev pub absent_ends : Backings → LooseLinks → Content → ℕ → (first end : ℕ) → List ℕ
 absent_ends backings links c v first end = filter (is_end_absent backings links c v) (range_with_len first (end - first))
 
 -- those of the pages that a range touches
-abbrev pub absent_touched : Backings → Links → Content → ℕ → (offset len : ℕ) → List ℕ
+abbrev pub absent_touched : Backings → LooseLinks → Content → ℕ → (offset len : ℕ) → List ℕ
 absent_touched backings links c v offset len = filter (is_end_absent backings links c v) (touched offset len)
 
 -- From old, filling a page may lead to new.
-pub record FillsPage (backings : Backings) (links : Links) (old : Content) (part : Piece) (new : Content) : Type 0 where
+pub record FillsPage (backings : Backings) (links : LooseLinks) (old : Content) (part : Piece) (new : Content) : Type 0 where
   pub each : (names : ℕ → Option ℕ) → Fills (state_over old names backings links) part (state_over new names backings links)
 
 -- the same of pages one after another
-pub record FillsPages (backings : Backings) (links : Links) (old : Content) (parts : List Piece) (new : Content) : Type 0 where
+pub record FillsPages (backings : Backings) (links : LooseLinks) (old : Content) (parts : List Piece) (new : Content) : Type 0 where
   pub each : (names : ℕ → Option ℕ) → FillsEach (state_over old names backings links) parts (state_over new names backings links)
 
 -- The absent pages at which the look-ups of the pages from `first` to below `end` of v end were supplied: none of them is absent now.
-pub record IsSupplied (backings : Backings) (links : Links) (v : ℕ) (old : Content) (first end : ℕ) (new : Content) : Type 0 where
+pub record IsSupplied (backings : Backings) (links : LooseLinks) (v : ℕ) (old : Content) (first end : ℕ) (new : Content) : Type 0 where
   pub fills : FillsPages backings links old (map (end_piece links old v) (absent_ends backings links old v first end)) new
   pub none : (p : ℕ) → first ≤ p → p < end → is_end_absent backings links new v p ≡ false
   pub readable : IsReadable new backings links
@@ -98,7 +99,7 @@ LacksFrames c n refusal =
     ((refusal ≡ NoMemory) × (c.frames < used c + n)) ⊎ ((refusal ≡ HostMemory) × (used c + n ≤ c.frames) × (0 < n))
 
 -- A range of whole pages lies inside the VMO v of an open name, which is not loose and has this backing.
-pub record IsOfPages (s : SourceState) (name offset len v : ℕ) (b : Backing) : Type 0 where
+pub record IsRangeOfPages (s : SourceState) (name offset len v : ℕ) (b : Backing) : Type 0 where
   pub named : s.names name ≡ Some v
   pub backed : s.backing v ≡ Some b
   pub unlinked : s.link v ≡ None

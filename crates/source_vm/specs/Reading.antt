@@ -87,9 +87,9 @@ source_command word arguments =
     else None
 
 -- the command of a line with these words
-abbrev pub order_in : List (List ℕ) → Option SourceCommand
-order_in [] = None
-order_in (word ∷ arguments) = source_command word arguments
+abbrev pub source_order_in : List (List ℕ) → Option SourceCommand
+source_order_in [] = None
+source_order_in (word ∷ arguments) = source_command word arguments
 
 -- a line is blank, an order, or outside the grammar
 pub data SourceReading : Type 0 where
@@ -97,27 +97,27 @@ pub data SourceReading : Type 0 where
   Order : (command : SourceCommand) → SourceReading
   Outside : SourceReading
 
-abbrev pub order_or_outside : Option SourceCommand → SourceReading
-order_or_outside None = Outside
-order_or_outside (Some command) = Order command
+abbrev pub source_order_or_outside : Option SourceCommand → SourceReading
+source_order_or_outside None = Outside
+source_order_or_outside (Some command) = Order command
 
 abbrev pub source_reading_of_words : List (List ℕ) → SourceReading
 source_reading_of_words [] = Blank
 source_reading_of_words (word ∷ arguments) =
-    if is_comment word then Blank else order_or_outside (source_command word arguments)
+    if is_comment word then Blank else source_order_or_outside (source_command word arguments)
 
 -- what a line says, without its line feed. A line over the limit is outside the grammar, whatever it holds
 unfoldable pub source_reading : List ℕ → SourceReading
 source_reading line = if nat_lt LINE_BYTES (length line) then Outside else source_reading_of_words (words line)
 
 -- an answer of `read_source_line` as a reading
-abbrev pub reading_of : Result SourceLine SyntaxFault → SourceReading
-reading_of (Ok BlankLine) = Blank
-reading_of (Ok (OrderLine command)) = Order command
-reading_of (Err fault) = Outside
+abbrev pub source_reading_of : Result SourceLine SyntaxFault → SourceReading
+source_reading_of (Ok BlankLine) = Blank
+source_reading_of (Ok (OrderLine command)) = Order command
+source_reading_of (Err fault) = Outside
 
 -- an answer of `read_source_call` as a reading
-abbrev pub reading_of_call : Result (Option SourceCall) SyntaxFault → SourceReading
-reading_of_call (Ok None) = Blank
-reading_of_call (Ok (Some call)) = Order (source_command_of call)
-reading_of_call (Err fault) = Outside
+abbrev pub source_reading_of_call : Result (Option SourceCall) SyntaxFault → SourceReading
+source_reading_of_call (Ok None) = Blank
+source_reading_of_call (Ok (Some call)) = Order (source_command_of call)
+source_reading_of_call (Err fault) = Outside

@@ -11,8 +11,8 @@ use Rattle.source_model.specs.Good.{IsGoodSources}
 use Rattle.source_vm.specs.declared.table.SourceTable.{SourceTable}
 
 -- the koid of each name
-abbrev pub names_of : SourceTable → ℕ → Option ℕ
-names_of t = λ n. option_map (λ (v : Koid). v.0) (values_of t.names 0 n)
+abbrev pub source_names_of : SourceTable → ℕ → Option ℕ
+source_names_of t = λ n. option_map (λ (v : Koid). v.0) (values_of t.names 0 n)
 
 -- the name of each VMO
 abbrev pub owners_of : SourceTable → ℕ → Option ℕ
@@ -23,8 +23,8 @@ abbrev pub backings_of : SourceTable → ℕ → Option Backing
 backings_of t = λ v. values_of t.backings 0 v
 
 -- the link of each loose VMO
-abbrev pub links_of : SourceTable → ℕ → Option Link
-links_of t = λ v. values_of t.links 0 v
+abbrev pub loose_links_of : SourceTable → ℕ → Option Link
+loose_links_of t = λ v. values_of t.links 0 v
 
 -- whether the second VMO is a loose child of the first
 abbrev pub children_of : SourceTable → ℕ → ℕ → Bool
@@ -46,7 +46,7 @@ pub record AreIndexed (names owners : ℕ → Option ℕ) (links : ℕ → Optio
   pub child : (p w : ℕ) → children p w ≡ true → (l : Link) × (links w ≡ Some l) × (l.parent.0 ≡ p)
 
 abbrev pub IsIndexed : SourceTable → Type 0
-IsIndexed t = AreIndexed (names_of t) (owners_of t) (links_of t) (children_of t)
+IsIndexed t = AreIndexed (source_names_of t) (owners_of t) (loose_links_of t) (children_of t)
 
 -- whether a VMO has a name, or a loose child
 pub record IsKeptBy (owners : ℕ → Option ℕ) (children : ℕ → ℕ → Bool) (v : ℕ) (answer : Bool) : Type 0 where
@@ -54,10 +54,10 @@ pub record IsKeptBy (owners : ℕ → Option ℕ) (children : ℕ → ℕ → Bo
   pub not_kept : answer ≡ false → (owners v ≡ None) × ((w : ℕ) → children v w ≡ false)
 
 -- the state that the tables and the content of their store stand for
-abbrev pub state_of : Content → SourceTable → SourceState
-state_of c t = state_over c (names_of t) (backings_of t) (links_of t)
+abbrev pub source_state_of : Content → SourceTable → SourceState
+source_state_of c t = state_over c (source_names_of t) (backings_of t) (loose_links_of t)
 
 -- they stand together for a good state
-pub record Agrees (c : Content) (t : SourceTable) : Type 0 where
-  pub good : IsGoodSources (state_of c t)
+pub record SourcesAgree (c : Content) (t : SourceTable) : Type 0 where
+  pub good : IsGoodSources (source_state_of c t)
   pub indexed : IsIndexed t

@@ -5,9 +5,9 @@ ghost use Rattle.vm_model.specs.Contents.Content.{pages_of, IsGood};
 ghost use Rattle.vm_model.specs.Machine.Lent.{reply_for};
 ghost use Rattle.vm_model.specs.Machine.Refusals.{first_of};
 ghost use Rattle.source_model.specs.declared.command.SourceCommand.{SourceCommand};
-ghost use Rattle.source_model.specs.Commands.{SourceStep, is_aligned, refusals};
-ghost use Rattle.source_vm.specs.Pages.{IsOfPages};
-ghost use Rattle.source_vm.specs.Table.{Agrees, state_of};
+ghost use Rattle.source_model.specs.Commands.{SourceStep, is_aligned, source_refusals};
+ghost use Rattle.source_vm.specs.Pages.{IsRangeOfPages};
+ghost use Rattle.source_vm.specs.Table.{SourcesAgree, source_state_of};
 
 use crate::ranges::{evict_pages, read_range, supply_pages, write_pages};
 use crate::source_fn::SourceFn;
@@ -47,10 +47,10 @@ pub(crate) fn read<'a, P: PageStore>(
     room: &'a mut [u8],
 ) -> Answer<'a>
     requires kinds { map (λ f. f.kind) functions.now ≡ 0 ∷ 1 ∷ 2 ∷ [] }
-    requires agrees { Agrees (P.content store.old) table.now }
+    requires agrees { SourcesAgree (P.content store.old) table.now }
     requires room { DATA_BYTES ≤ length room.old }
-    ensures { SourceStep (state_of (P.content store.old) table.now) (SourceCommand.Read name offset len)
-        (reply_for result) (state_of (P.content store.new) table.now) }
+    ensures { SourceStep (source_state_of (P.content store.old) table.now) (SourceCommand.Read name offset len)
+        (reply_for result) (source_state_of (P.content store.new) table.now) }
 {
     let Some(v) = find(table, name) else {
         return Answer::Refused(Refusal::BadHandle);
@@ -78,9 +78,9 @@ pub(crate) fn write<'a, P: PageStore>(
     bytes: &[u8],
 ) -> Answer<'a>
     requires kinds { map (λ f. f.kind) functions.now ≡ 0 ∷ 1 ∷ 2 ∷ [] }
-    requires agrees { Agrees (P.content store.old) table.now }
-    ensures { SourceStep (state_of (P.content store.old) table.now) (SourceCommand.Write name offset bytes.now)
-        (reply_for result) (state_of (P.content store.new) table.now) }
+    requires agrees { SourcesAgree (P.content store.old) table.now }
+    ensures { SourceStep (source_state_of (P.content store.old) table.now) (SourceCommand.Write name offset bytes.now)
+        (reply_for result) (source_state_of (P.content store.new) table.now) }
 {
     let Some(v) = find(table, name) else {
         return Answer::Refused(Refusal::BadHandle);
@@ -104,10 +104,10 @@ fn whole_pages<P: PageStore>(
     offset: u64,
     len: u64,
 ) -> Result<(Koid, Backing), Refusal>
-    requires agrees { Agrees (P.content store.now) table.now }
-    ensures ok { IfOk result (λ r. IsOfPages (state_of (P.content store.now) table.now) name.0 offset len r.0.0 r.1) }
+    requires agrees { SourcesAgree (P.content store.now) table.now }
+    ensures ok { IfOk result (λ r. IsRangeOfPages (source_state_of (P.content store.now) table.now) name.0 offset len r.0.0 r.1) }
     ensures err { IfErr result (λ refusal.
-        first_of (refusals (state_of (P.content store.now) table.now) (SourceCommand.Evict name offset len)) ≡ Some refusal) }
+        first_of (source_refusals (source_state_of (P.content store.now) table.now) (SourceCommand.Evict name offset len)) ≡ Some refusal) }
 {
     let Some(v) = find(table, name) else {
         return Err(Refusal::BadHandle);
@@ -134,9 +134,9 @@ pub(crate) fn supply<'a, P: PageStore>(
     len: u64,
 ) -> Answer<'a>
     requires kinds { map (λ f. f.kind) functions.now ≡ 0 ∷ 1 ∷ 2 ∷ [] }
-    requires agrees { Agrees (P.content store.old) table.now }
-    ensures { SourceStep (state_of (P.content store.old) table.now) (SourceCommand.Supply name offset len)
-        (reply_for result) (state_of (P.content store.new) table.now) }
+    requires agrees { SourcesAgree (P.content store.old) table.now }
+    ensures { SourceStep (source_state_of (P.content store.old) table.now) (SourceCommand.Supply name offset len)
+        (reply_for result) (source_state_of (P.content store.new) table.now) }
 {
     let found = match whole_pages(store, table, name, offset, len) {
         Ok(found) => found,
@@ -159,9 +159,9 @@ pub(crate) fn evict<'a, P: PageStore>(
     len: u64,
 ) -> Answer<'a>
     requires kinds { map (λ f. f.kind) functions.now ≡ 0 ∷ 1 ∷ 2 ∷ [] }
-    requires agrees { Agrees (P.content store.old) table.now }
-    ensures { SourceStep (state_of (P.content store.old) table.now) (SourceCommand.Evict name offset len)
-        (reply_for result) (state_of (P.content store.new) table.now) }
+    requires agrees { SourcesAgree (P.content store.old) table.now }
+    ensures { SourceStep (source_state_of (P.content store.old) table.now) (SourceCommand.Evict name offset len)
+        (reply_for result) (source_state_of (P.content store.new) table.now) }
 {
     let found = match whole_pages(store, table, name, offset, len) {
         Ok(found) => found,

@@ -4,7 +4,7 @@ ghost use Rattle.vm_model.specs.Machine.Lent.{reply_for};
 ghost use Rattle.source_model.specs.declared.command.SourceCommand.{SourceCommand};
 ghost use Rattle.source_model.specs.Commands.{SourceStep};
 ghost use Rattle.source_model.specs.Living.{Leaves};
-ghost use Rattle.source_vm.specs.Table.{Agrees, IsIndexed, state_of};
+ghost use Rattle.source_vm.specs.Table.{SourcesAgree, IsIndexed, source_state_of};
 ghost use Rattle.source_vm.specs.Closing.{IsUnnamed};
 
 use crate::table::{SourceTable, find, is_kept, leave, leave_name};
@@ -18,9 +18,9 @@ pub(crate) fn close<'a, P: PageStore>(
     table: &mut SourceTable,
     name: VmoName,
 ) -> Answer<'a>
-    requires agrees { Agrees (P.content store.old) table.old }
-    ensures step { SourceStep (state_of (P.content store.old) table.old) (SourceCommand.Close name)
-        (reply_for result) (state_of (P.content store.new) table.new) }
+    requires agrees { SourcesAgree (P.content store.old) table.old }
+    ensures step { SourceStep (source_state_of (P.content store.old) table.old) (SourceCommand.Close name)
+        (reply_for result) (source_state_of (P.content store.new) table.new) }
     ensures indexed { IsIndexed table.new }
 {
     let Some(v) = find(table, name) else {
@@ -33,9 +33,9 @@ pub(crate) fn close<'a, P: PageStore>(
 
 /// Lets a VMO whose name was closed leave where nothing keeps it, and then its parents, up to one that something keeps.
 fn leave_upwards<P: PageStore>(store: &mut P, table: &mut SourceTable, v: Koid)
-    requires unnamed { IsUnnamed (state_of (P.content store.old) table.old) v.0 }
+    requires unnamed { IsUnnamed (source_state_of (P.content store.old) table.old) v.0 }
     requires indexed { IsIndexed table.old }
-    ensures leaves { Leaves (state_of (P.content store.old) table.old) (state_of (P.content store.new) table.new) }
+    ensures leaves { Leaves (source_state_of (P.content store.old) table.old) (source_state_of (P.content store.new) table.new) }
     ensures indexed { IsIndexed table.new }
 {
     let mut top = v;

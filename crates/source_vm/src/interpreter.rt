@@ -6,7 +6,7 @@ ghost use Rattle.vm_model.specs.Contents.Content.{Content, IsGood};
 ghost use Rattle.served.specs.Outcome.{AnswersLine};
 ghost use Rattle.source_vm.specs.Answering.{source_rules};
 ghost use Rattle.source_model.specs.State.{empty_sources};
-ghost use Rattle.source_vm.specs.Table.{Agrees, state_of};
+ghost use Rattle.source_vm.specs.Table.{SourcesAgree, source_state_of};
 
 use crate::reading::read_source_call;
 use crate::source_fn::SourceFn;
@@ -40,8 +40,8 @@ pub(crate) struct SourceInterpreter {
 pub(crate) fn new_interpreter(alloc: Global, functions: [SourceFn; 3]) -> SourceInterpreter
     requires kinds { map (λ f. f.kind) functions ≡ 0 ∷ 1 ∷ 2 ∷ [] }
     ensures empty { (c : Content) → IsGood c → ((v : ℕ) → c.count v ≡ None) →
-        state_of c result.vm.table ≡ record (empty_sources c.frames) { content = c } }
-    ensures agrees { (c : Content) → IsGood c → ((v : ℕ) → c.count v ≡ None) → Agrees c result.vm.table }
+        source_state_of c result.vm.table ≡ record (empty_sources c.frames) { content = c } }
+    ensures agrees { (c : Content) → IsGood c → ((v : ℕ) → c.count v ≡ None) → SourcesAgree c result.vm.table }
 {
     SourceInterpreter {
         vm: SourceVm::new(alloc, functions),
@@ -62,9 +62,9 @@ impl<P: PageStore> Interpreter<P> for SourceInterpreter {
 
     ghost rules = { source_rules };
 
-    ghost state = { λ x c. state_of c x.vm.table };
+    ghost state = { λ x c. source_state_of c x.vm.table };
 
-    ghost Agrees = { λ x c. Agrees c x.vm.table };
+    ghost Agrees = { λ x c. SourcesAgree c x.vm.table };
 
     fn answer_line<K: Sink>(
         &mut self,
@@ -89,11 +89,11 @@ fn answer_line<P: PageStore, K: Sink>(
     room: &mut LineRoom,
     line: &[u8],
 ) -> Result<(), Failed>
-    requires agrees { Agrees (P.content store.old) vm.old.table }
+    requires agrees { SourcesAgree (P.content store.old) vm.old.table }
     requires next { (P.content store.old).next < KOIDS }
-    ensures answer { AnswersLine source_rules line.now (state_of (P.content store.old) vm.old.table)
-        (state_of (P.content store.new) vm.new.table) (K.contents sink.old) (K.contents sink.new) result }
-    ensures agrees { Agrees (P.content store.new) vm.new.table }
+    ensures answer { AnswersLine source_rules line.now (source_state_of (P.content store.old) vm.old.table)
+        (source_state_of (P.content store.new) vm.new.table) (K.contents sink.old) (K.contents sink.new) result }
+    ensures agrees { SourcesAgree (P.content store.new) vm.new.table }
     ensures next { (P.content store.new).next ≤ (P.content store.old).next + 1 }
     ensures cause { HasCause (K.faults sink.old) (K.faults sink.new) result }
 {

@@ -7,7 +7,7 @@ ghost use Rattle.vm_model.specs.Machine.Lent.{reply_for};
 ghost use Rattle.source_model.specs.declared.command.SourceCommand.{SourceCommand};
 ghost use Rattle.source_model.specs.Commands.{SourceStep};
 ghost use Rattle.source_model.specs.State.{moved, seen_of};
-ghost use Rattle.source_vm.specs.Table.{Agrees, IsIndexed, state_of};
+ghost use Rattle.source_vm.specs.Table.{SourcesAgree, IsIndexed, source_state_of};
 
 use crate::table::{SourceTable, enter_backing, enter_link, enter_name, find, reserve};
 use page_store::PageStore;
@@ -26,10 +26,10 @@ pub(crate) fn create<'a, P: PageStore>(
     kind: u64,
     seed: u64,
 ) -> Answer<'a>
-    requires agrees { Agrees (P.content store.old) table.old }
+    requires agrees { SourcesAgree (P.content store.old) table.old }
     requires next { (P.content store.old).next < KOIDS }
-    ensures step { SourceStep (state_of (P.content store.old) table.old) (SourceCommand.Create name size kind seed)
-        (reply_for result) (state_of (P.content store.new) table.new) }
+    ensures step { SourceStep (source_state_of (P.content store.old) table.old) (SourceCommand.Create name size kind seed)
+        (reply_for result) (source_state_of (P.content store.new) table.new) }
     ensures indexed { IsIndexed table.new }
 {
     if find(table, name).is_some() {
@@ -68,10 +68,10 @@ pub(crate) fn child<'a, P: PageStore>(
     offset: u64,
     size: u64,
 ) -> Answer<'a>
-    requires agrees { Agrees (P.content store.old) table.old }
+    requires agrees { SourcesAgree (P.content store.old) table.old }
     requires next { (P.content store.old).next < KOIDS }
-    ensures step { SourceStep (state_of (P.content store.old) table.old) (SourceCommand.Child name parent offset size)
-        (reply_for result) (state_of (P.content store.new) table.new) }
+    ensures step { SourceStep (source_state_of (P.content store.old) table.old) (SourceCommand.Child name parent offset size)
+        (reply_for result) (source_state_of (P.content store.new) table.new) }
     ensures indexed { IsIndexed table.new }
 {
     let Some(of) = find(table, parent) else {
@@ -111,10 +111,10 @@ pub(crate) fn loose<'a, P: PageStore>(
     offset: u64,
     size: u64,
 ) -> Answer<'a>
-    requires agrees { Agrees (P.content store.old) table.old }
+    requires agrees { SourcesAgree (P.content store.old) table.old }
     requires next { (P.content store.old).next < KOIDS }
-    ensures step { SourceStep (state_of (P.content store.old) table.old) (SourceCommand.Loose name parent offset size)
-        (reply_for result) (state_of (P.content store.new) table.new) }
+    ensures step { SourceStep (source_state_of (P.content store.old) table.old) (SourceCommand.Loose name parent offset size)
+        (reply_for result) (source_state_of (P.content store.new) table.new) }
     ensures indexed { IsIndexed table.new }
 {
     let Some(of) = find(table, parent) else {

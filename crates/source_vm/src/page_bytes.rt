@@ -9,7 +9,7 @@ ghost use Rattle.source_model.specs.Links.{page_below, walked};
 ghost use Rattle.source_model.specs.Sources.{source_byte, backing_text, text_over};
 ghost use Rattle.source_model.specs.declared.backing.Backing.{Backing};
 ghost use Rattle.source_vm.specs.Pages.{FillsPage, IsReadable, IsSource, is_clean_page, is_end_absent};
-ghost use Rattle.source_vm.specs.Table.{backings_of, links_of};
+ghost use Rattle.source_vm.specs.Table.{backings_of, loose_links_of};
 
 use crate::source_fn::SourceFn;
 use crate::table::SourceTable;
@@ -75,7 +75,7 @@ fn load_end<P: PageStore>(
     out: &mut [u8],
 )
     requires kinds { map (λ f. f.kind) functions.now ≡ 0 ∷ 1 ∷ 2 ∷ [] }
-    requires readable { IsReadable (P.content store.now) (backings_of table.now) (links_of table.now) }
+    requires readable { IsReadable (P.content store.now) (backings_of table.now) (loose_links_of table.now) }
     requires page { end.page < pages_of (P.content store.now) end.koid.0 }
     requires size { length out.old ≡ PAGE }
     ensures { out.new ≡ text_over (P.content store.now) (backings_of table.now) end.koid.0 end.page }
@@ -108,11 +108,11 @@ fn load_text<P: PageStore>(
     out: &mut [u8],
 )
     requires kinds { map (λ f. f.kind) functions.now ≡ 0 ∷ 1 ∷ 2 ∷ [] }
-    requires readable { IsReadable (P.content store.now) (backings_of table.now) (links_of table.now) }
+    requires readable { IsReadable (P.content store.now) (backings_of table.now) (loose_links_of table.now) }
     requires page { at.page < pages_of (P.content store.now) at.koid.0 }
     requires size { length out.old ≡ PAGE }
     ensures { out.new ≡ walked (P.content store.now) (backings_of table.now)
-        (page_below (P.content store.now) (links_of table.now)) at.koid.0 at.page }
+        (page_below (P.content store.now) (loose_links_of table.now)) at.koid.0 at.page }
 {
     let end = find_end(store, table, at);
     load_end(store, table, functions, end, out);
@@ -126,12 +126,12 @@ pub(crate) fn read_shown<P: PageStore>(
     at: u64,
     out: &mut [u8],
 ) -> bool
-    requires readable { IsReadable (P.content store.now) (backings_of table.now) (links_of table.now) }
+    requires readable { IsReadable (P.content store.now) (backings_of table.now) (loose_links_of table.now) }
     requires page { place.page < pages_of (P.content store.now) place.koid.0 }
     requires range { at + length out.old ≤ PAGE }
-    ensures absent { result ≡ is_end_absent (backings_of table.now) (links_of table.now) (P.content store.now) place.koid.0 place.page }
+    ensures absent { result ≡ is_end_absent (backings_of table.now) (loose_links_of table.now) (P.content store.now) place.koid.0 place.page }
     ensures read { result ≡ false → out.new ≡ take (length out.old) (drop at (walked (P.content store.now) (backings_of table.now)
-        (page_below (P.content store.now) (links_of table.now)) place.koid.0 place.page)) }
+        (page_below (P.content store.now) (loose_links_of table.now)) place.koid.0 place.page)) }
 {
     let end = find_end(store, table, place);
     let Some(tag) = store.frame(end.koid, end.page) else {
@@ -156,12 +156,12 @@ pub(crate) fn fill_page<P: PageStore>(
     bytes: &[u8],
 )
     requires kinds { map (λ f. f.kind) functions.now ≡ 0 ∷ 1 ∷ 2 ∷ [] }
-    requires readable { IsReadable (P.content store.old) (backings_of table.now) (links_of table.now) }
+    requires readable { IsReadable (P.content store.old) (backings_of table.now) (loose_links_of table.now) }
     requires page { place.page < pages_of (P.content store.old) place.koid.0 }
     requires within { at + length bytes.now ≤ PAGE }
     requires room { (sole (P.content store.old) place.koid.0 place.page ≡ true)
         ⊎ ((1 ≤ P.spare store.old) × (used (P.content store.old) < (P.content store.old).frames)) }
-    ensures fills { FillsPage (backings_of table.now) (links_of table.now) (P.content store.old)
+    ensures fills { FillsPage (backings_of table.now) (loose_links_of table.now) (P.content store.old)
         (record { koid = place.koid.0; page = place.page; at = at; bytes = bytes.now }) (P.content store.new) }
     ensures spare { P.spare store.old ≤ P.spare store.new + 1 }
 {

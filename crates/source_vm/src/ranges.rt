@@ -8,8 +8,8 @@ ghost use Rattle.vm_model.specs.Contents.Owning.{need};
 ghost use Rattle.vm_model.specs.Contents.Writing.{touched, pieces};
 ghost use Rattle.vmo_ops.specs.Costs.{HasRows};
 ghost use Rattle.source_model.specs.State.{is_absent, text_in};
-ghost use Rattle.source_vm.specs.Pages.{FillsPages, IsReadable, IsSource, FillsPage, IsSupplied, LacksFrames, absent_ends, absent_touched, cleared, end_of, end_piece, is_clean_at, is_end_absent};
-ghost use Rattle.source_vm.specs.Table.{backings_of, links_of, state_of};
+ghost use Rattle.source_vm.specs.Pages.{FillsPages, IsReadable, IsSource, FillsPage, IsSupplied, LacksFrames, absent_ends, absent_touched, cleared, lookup_end, end_piece, is_clean_at, is_end_absent};
+ghost use Rattle.source_vm.specs.Table.{backings_of, loose_links_of, source_state_of};
 
 use crate::page_bytes::{fill_page, is_clean, read_shown};
 use crate::source_fn::SourceFn;
@@ -67,18 +67,18 @@ pub(crate) fn supply_pages<P: PageStore>(
     end: PageNo,
 ) -> Result<(), Refusal>
     requires kinds { map (λ f. f.kind) functions.now ≡ 0 ∷ 1 ∷ 2 ∷ [] }
-    requires readable { IsReadable (P.content store.old) (backings_of table.now) (links_of table.now) }
+    requires readable { IsReadable (P.content store.old) (backings_of table.now) (loose_links_of table.now) }
     requires backed { backings_of table.now v.0 ≡ Some backing.now }
     requires vmo { IsSome ((P.content store.old).count v.0) }
     requires order { first ≤ end }
     requires pages { end ≤ pages_of (P.content store.old) v.0 }
-    ensures ok { OnOk result (IsSupplied (backings_of table.now) (links_of table.now) v.0 (P.content store.old) first end (P.content store.new)) }
+    ensures ok { OnOk result (IsSupplied (backings_of table.now) (loose_links_of table.now) v.0 (P.content store.old) first end (P.content store.new)) }
     ensures free { OnOk result (used (P.content store.old)
-        + (length (absent_ends (backings_of table.now) (links_of table.now) (P.content store.old) v.0 first end))
+        + (length (absent_ends (backings_of table.now) (loose_links_of table.now) (P.content store.old) v.0 first end))
         ≤ (P.content store.old).frames) }
     ensures same { OnErr result (P.content store.new ≡ P.content store.old) }
     ensures err { IfErr result (LacksFrames (P.content store.old)
-        (length (absent_ends (backings_of table.now) (links_of table.now) (P.content store.old) v.0 first end))) }
+        (length (absent_ends (backings_of table.now) (loose_links_of table.now) (P.content store.old) v.0 first end))) }
 {
     let last = seen_end(backing, first, end);
     let need = count_absent(store, backing, v, first, last);
@@ -98,11 +98,11 @@ pub(crate) fn supply_counted<P: PageStore>(
     need: u64,
 ) -> Result<(), Refusal>
     requires kinds { map (λ f. f.kind) functions.now ≡ 0 ∷ 1 ∷ 2 ∷ [] }
-    requires readable { IsReadable (P.content store.old) (backings_of table.now) (links_of table.now) }
+    requires readable { IsReadable (P.content store.old) (backings_of table.now) (loose_links_of table.now) }
     requires order { first ≤ end }
     requires pages { end ≤ pages_of (P.content store.old) v.0 }
-    requires need { need ≡ length (absent_ends (backings_of table.now) (links_of table.now) (P.content store.old) v.0 first end) }
-    ensures ok { OnOk result (IsSupplied (backings_of table.now) (links_of table.now) v.0 (P.content store.old) first end (P.content store.new)) }
+    requires need { need ≡ length (absent_ends (backings_of table.now) (loose_links_of table.now) (P.content store.old) v.0 first end) }
+    ensures ok { OnOk result (IsSupplied (backings_of table.now) (loose_links_of table.now) v.0 (P.content store.old) first end (P.content store.new)) }
     ensures free { OnOk result (used (P.content store.old) + need ≤ (P.content store.old).frames) }
     ensures same { OnErr result (P.content store.new ≡ P.content store.old) }
     ensures err { IfErr result (LacksFrames (P.content store.old) need) }
@@ -127,15 +127,15 @@ fn supply_range<P: PageStore>(
     end: PageNo,
 )
     requires kinds { map (λ f. f.kind) functions.now ≡ 0 ∷ 1 ∷ 2 ∷ [] }
-    requires readable { IsReadable (P.content store.old) (backings_of table.now) (links_of table.now) }
+    requires readable { IsReadable (P.content store.old) (backings_of table.now) (loose_links_of table.now) }
     requires order { first ≤ end }
     requires pages { end ≤ pages_of (P.content store.old) v.0 }
-    requires rows { length (absent_ends (backings_of table.now) (links_of table.now) (P.content store.old) v.0 first end)
+    requires rows { length (absent_ends (backings_of table.now) (loose_links_of table.now) (P.content store.old) v.0 first end)
         ≤ P.spare store.old }
     requires free { used (P.content store.old)
-        + (length (absent_ends (backings_of table.now) (links_of table.now) (P.content store.old) v.0 first end))
+        + (length (absent_ends (backings_of table.now) (loose_links_of table.now) (P.content store.old) v.0 first end))
         ≤ (P.content store.old).frames }
-    ensures { IsSupplied (backings_of table.now) (links_of table.now) v.0 (P.content store.old) first end (P.content store.new) }
+    ensures { IsSupplied (backings_of table.now) (loose_links_of table.now) v.0 (P.content store.old) first end (P.content store.new) }
 {
     for page in first..end {
         supply_end(store, table, functions, Place { koid: v, page });
@@ -150,18 +150,18 @@ fn supply_end<P: PageStore>(
     at: Place,
 )
     requires kinds { map (λ f. f.kind) functions.now ≡ 0 ∷ 1 ∷ 2 ∷ [] }
-    requires readable { IsReadable (P.content store.old) (backings_of table.now) (links_of table.now) }
+    requires readable { IsReadable (P.content store.old) (backings_of table.now) (loose_links_of table.now) }
     requires page { at.page < pages_of (P.content store.old) at.koid.0 }
-    requires room { is_end_absent (backings_of table.now) (links_of table.now) (P.content store.old) at.koid.0 at.page ≡ true
+    requires room { is_end_absent (backings_of table.now) (loose_links_of table.now) (P.content store.old) at.koid.0 at.page ≡ true
         → (1 ≤ P.spare store.old) × (used (P.content store.old) < (P.content store.old).frames) }
-    ensures absent { is_end_absent (backings_of table.now) (links_of table.now) (P.content store.old) at.koid.0 at.page ≡ true
-        → FillsPage (backings_of table.now) (links_of table.now) (P.content store.old)
-        (end_piece (links_of table.now) (P.content store.old) at.koid.0 at.page) (P.content store.new)
+    ensures absent { is_end_absent (backings_of table.now) (loose_links_of table.now) (P.content store.old) at.koid.0 at.page ≡ true
+        → FillsPage (backings_of table.now) (loose_links_of table.now) (P.content store.old)
+        (end_piece (loose_links_of table.now) (P.content store.old) at.koid.0 at.page) (P.content store.new)
         × (P.spare store.old ≤ P.spare store.new + 1) }
-    ensures other { is_end_absent (backings_of table.now) (links_of table.now) (P.content store.old) at.koid.0 at.page ≡ false
+    ensures other { is_end_absent (backings_of table.now) (loose_links_of table.now) (P.content store.old) at.koid.0 at.page ≡ false
         → store.new ≡ store.old }
-    ensures inside { (end_of (links_of table.now) (P.content store.old) at.koid.0 at.page).page
-        < pages_of (P.content store.old) (end_of (links_of table.now) (P.content store.old) at.koid.0 at.page).koid }
+    ensures inside { (lookup_end (loose_links_of table.now) (P.content store.old) at.koid.0 at.page).page
+        < pages_of (P.content store.old) (lookup_end (loose_links_of table.now) (P.content store.old) at.koid.0 at.page).koid }
 {
     let end = find_end(store, table, at);
     if is_absent(store, table, end) {
@@ -181,18 +181,18 @@ pub(crate) fn read_range<P: PageStore>(
     out: &mut [u8],
 ) -> Result<(), Refusal>
     requires kinds { map (λ f. f.kind) functions.now ≡ 0 ∷ 1 ∷ 2 ∷ [] }
-    requires readable { IsReadable (P.content store.old) (backings_of table.now) (links_of table.now) }
+    requires readable { IsReadable (P.content store.old) (backings_of table.now) (loose_links_of table.now) }
     requires inside { offset + length out.old ≤ pages_of (P.content store.old) v.0 * PAGE }
-    ensures ok { OnOk result (FillsPages (backings_of table.now) (links_of table.now) (P.content store.old)
-        (map (end_piece (links_of table.now) (P.content store.old) v.0)
-        (absent_touched (backings_of table.now) (links_of table.now) (P.content store.old) v.0 offset (length out.old))) (P.content store.new)) }
+    ensures ok { OnOk result (FillsPages (backings_of table.now) (loose_links_of table.now) (P.content store.old)
+        (map (end_piece (loose_links_of table.now) (P.content store.old) v.0)
+        (absent_touched (backings_of table.now) (loose_links_of table.now) (P.content store.old) v.0 offset (length out.old))) (P.content store.new)) }
     ensures free { OnOk result (used (P.content store.old)
-        + length (absent_touched (backings_of table.now) (links_of table.now) (P.content store.old) v.0 offset (length out.old))
+        + length (absent_touched (backings_of table.now) (loose_links_of table.now) (P.content store.old) v.0 offset (length out.old))
         ≤ (P.content store.old).frames) }
-    ensures text { OnOk result (out.new ≡ text_in (state_of (P.content store.new) table.now) v.0 offset (length out.old)) }
+    ensures text { OnOk result (out.new ≡ text_in (source_state_of (P.content store.new) table.now) v.0 offset (length out.old)) }
     ensures same { OnErr result (P.content store.new ≡ P.content store.old) }
     ensures err { IfErr result (LacksFrames (P.content store.old)
-        (length (absent_touched (backings_of table.now) (links_of table.now) (P.content store.old) v.0 offset (length out.old)))) }
+        (length (absent_touched (backings_of table.now) (loose_links_of table.now) (P.content store.old) v.0 offset (length out.old)))) }
 {
     let len = out.len() as u64;
     let need = read_present(store, table, v, offset, out);
@@ -219,10 +219,10 @@ fn read_present<P: PageStore>(
     offset: u64,
     out: &mut [u8],
 ) -> u64
-    requires readable { IsReadable (P.content store.now) (backings_of table.now) (links_of table.now) }
+    requires readable { IsReadable (P.content store.now) (backings_of table.now) (loose_links_of table.now) }
     requires inside { offset + length out.old ≤ pages_of (P.content store.now) v.0 * PAGE }
-    ensures absent { result ≡ length (absent_touched (backings_of table.now) (links_of table.now) (P.content store.now) v.0 offset (length out.old)) }
-    ensures read { result ≡ 0 → out.new ≡ text_in (state_of (P.content store.now) table.now) v.0 offset (length out.old) }
+    ensures absent { result ≡ length (absent_touched (backings_of table.now) (loose_links_of table.now) (P.content store.now) v.0 offset (length out.old)) }
+    ensures read { result ≡ 0 → out.new ≡ text_in (source_state_of (P.content store.now) table.now) v.0 offset (length out.old) }
 {
     let len = out.len() as u64;
     let (first, end) = touched_pages(offset, len);
@@ -246,10 +246,10 @@ fn read_present<P: PageStore>(
 
 /// Reads the bytes of a range inside the VMO, `offset` bytes into it, of which no look-up ends at an absent page.
 fn read_supplied<P: PageStore>(store: &P, table: &SourceTable, v: Koid, offset: u64, out: &mut [u8])
-    requires readable { IsReadable (P.content store.now) (backings_of table.now) (links_of table.now) }
+    requires readable { IsReadable (P.content store.now) (backings_of table.now) (loose_links_of table.now) }
     requires inside { offset + length out.old ≤ pages_of (P.content store.now) v.0 * PAGE }
-    requires supplied { absent_touched (backings_of table.now) (links_of table.now) (P.content store.now) v.0 offset (length out.old) ≡ [] }
-    ensures { out.new ≡ text_in (state_of (P.content store.now) table.now) v.0 offset (length out.old) }
+    requires supplied { absent_touched (backings_of table.now) (loose_links_of table.now) (P.content store.now) v.0 offset (length out.old) ≡ [] }
+    ensures { out.new ≡ text_in (source_state_of (P.content store.now) table.now) v.0 offset (length out.old) }
 {
     read_present(store, table, v, offset, out);
 }
@@ -266,10 +266,10 @@ pub(crate) fn write_pages<P: PageStore>(
     bytes: &[u8],
 ) -> Result<(), Refusal>
     requires kinds { map (λ f. f.kind) functions.now ≡ 0 ∷ 1 ∷ 2 ∷ [] }
-    requires readable { IsReadable (P.content store.old) (backings_of table.now) (links_of table.now) }
+    requires readable { IsReadable (P.content store.old) (backings_of table.now) (loose_links_of table.now) }
     requires vmo { IsSome ((P.content store.old).count v.0) }
     requires inside { offset + length bytes.now ≤ pages_of (P.content store.old) v.0 * PAGE }
-    ensures ok { OnOk result (FillsPages (backings_of table.now) (links_of table.now) (P.content store.old) (pieces v.0 offset bytes.now) (P.content store.new)) }
+    ensures ok { OnOk result (FillsPages (backings_of table.now) (loose_links_of table.now) (P.content store.old) (pieces v.0 offset bytes.now) (P.content store.new)) }
     ensures free { OnOk result (used (P.content store.old) + need (P.content store.old) v.0 (touched offset (length bytes.now))
         ≤ (P.content store.old).frames) }
     ensures same { OnErr result (P.content store.new ≡ P.content store.old) }
@@ -295,12 +295,12 @@ fn write_range<P: PageStore>(
     bytes: &[u8],
 )
     requires kinds { map (λ f. f.kind) functions.now ≡ 0 ∷ 1 ∷ 2 ∷ [] }
-    requires readable { IsReadable (P.content store.old) (backings_of table.now) (links_of table.now) }
+    requires readable { IsReadable (P.content store.old) (backings_of table.now) (loose_links_of table.now) }
     requires inside { offset + length bytes.now ≤ pages_of (P.content store.old) v.0 * PAGE }
     requires room { HasRows (P.content store.old) v.0 (touched offset (length bytes.now)) (P.spare store.old) }
     requires free { used (P.content store.old) + need (P.content store.old) v.0 (touched offset (length bytes.now))
         ≤ (P.content store.old).frames }
-    ensures { FillsPages (backings_of table.now) (links_of table.now) (P.content store.old) (pieces v.0 offset bytes.now) (P.content store.new) }
+    ensures { FillsPages (backings_of table.now) (loose_links_of table.now) (P.content store.old) (pieces v.0 offset bytes.now) (P.content store.new) }
 {
     let len = bytes.len() as u64;
     let (first, end) = touched_pages(offset, len);

@@ -3,8 +3,8 @@
 ghost use Rattle.std.specs.Prelude.{◌≡◌, ◌≤◌, map, length, option_map};
 ghost use Rattle.vm_base.specs.declared.limits.TheConstants.{DATA_BYTES};
 ghost use Rattle.source_model.specs.Lent.{source_command_of};
-ghost use Rattle.source_vm.specs.Reading.{child_of_kind, name_in, range_in, reading_of, reading_of_call, source_child, source_command, source_create};
-ghost use Rattle.source_vm.specs.Reading.{source_reading, source_stat, source_write, order_in};
+ghost use Rattle.source_vm.specs.Reading.{child_of_kind, name_in, range_in, source_reading_of, source_reading_of_call, source_child, source_command, source_create};
+ghost use Rattle.source_vm.specs.Reading.{source_reading, source_stat, source_write, source_order_in};
 ghost use Rattle.source_vm.specs.Reading.{of_name, of_range};
 ghost use Rattle.source_model.specs.declared.command.SourceCommand.TheVariants.{Close, Read, Supply, Evict};
 ghost use Rattle.vm_model.specs.Language.Reading.{is_comment, words};
@@ -29,7 +29,7 @@ pub enum SourceLine {
 /// Reads one line of a script, without its line feed. `SyntaxFault` if it has more than `LINE_BYTES` bytes, or if it is neither blank
 /// nor a comment nor a command.
 pub fn read_source_line(line: &[u8]) -> Result<SourceLine, SyntaxFault>
-    ensures { reading_of result ≡ source_reading line.now }
+    ensures { source_reading_of result ≡ source_reading line.now }
 {
     let mut room = [0; DATA_BYTES];
     match read_source_call(line, &mut room)? {
@@ -46,7 +46,7 @@ pub fn read_source_call<'a>(
     room: &'a mut [u8],
 ) -> Result<Option<SourceCall<'a>>, SyntaxFault>
     requires { DATA_BYTES ≤ length room.old }
-    ensures { reading_of_call result ≡ source_reading line.now }
+    ensures { source_reading_of_call result ≡ source_reading line.now }
 {
     if line.len() > LINE_BYTES {
         return Err(SyntaxFault);
@@ -73,7 +73,7 @@ fn is_comment(word: &[u8]) -> bool
 /// Returns the command of a line, or `None` if it has none.
 fn order<'a>(line: &[u8], room: &'a mut [u8]) -> Option<SourceCall<'a>>
     requires { DATA_BYTES ≤ length room.old }
-    ensures { option_map source_command_of result ≡ order_in (words line.now) }
+    ensures { option_map source_command_of result ≡ source_order_in (words line.now) }
 {
     let mut found: ArrayVec<&[u8], MOST_WORDS> = ArrayVec::new();
     let mut rest = line;

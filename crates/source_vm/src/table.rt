@@ -5,7 +5,7 @@ ghost use Rattle.vm_base.specs.Entries.{with_key, without_key};
 ghost use Rattle.vm_base.specs.declared.names.Koid.{Koid};
 ghost use Rattle.pair_map.specs.Maps.{spare_of};
 ghost use Rattle.source_model.specs.declared.link.Link.{Link};
-ghost use Rattle.source_vm.specs.Table.{names_of, owners_of, backings_of, links_of, children_of, HasRoom, IsIndexed, IsKeptBy};
+ghost use Rattle.source_vm.specs.Table.{source_names_of, owners_of, backings_of, loose_links_of, children_of, HasRoom, IsIndexed, IsKeptBy};
 
 use pair_map::PairMap;
 use source_model::{Backing, Link};
@@ -26,10 +26,10 @@ pub(crate) struct SourceTable {
 
 /// Makes a table with no name and no VMO.
 pub(crate) fn new_table(alloc: Global) -> SourceTable
-    ensures names { names_of result ≡ λ n. None }
+    ensures names { source_names_of result ≡ λ n. None }
     ensures owners { owners_of result ≡ λ v. None }
     ensures backings { backings_of result ≡ λ v. None }
-    ensures links { links_of result ≡ λ v. None }
+    ensures links { loose_links_of result ≡ λ v. None }
     ensures children { children_of result ≡ λ p w. false }
 {
     SourceTable {
@@ -43,7 +43,7 @@ pub(crate) fn new_table(alloc: Global) -> SourceTable
 
 /// Returns the VMO of a name. `None` if and only if it is not open.
 pub(crate) fn find(table: &SourceTable, name: VmoName) -> Option<Koid>
-    ensures { names_of table.now name.0 ≡ option_map (λ (v : Koid). v.0) result }
+    ensures { source_names_of table.now name.0 ≡ option_map (λ (v : Koid). v.0) result }
 {
     table.names.find(0, name.0 as u64)
 }
@@ -58,10 +58,10 @@ pub(crate) fn is_kept(table: &SourceTable, v: Koid) -> bool
 /// Makes room for one name and one VMO more. `HostMemory` where the host has too little memory.
 pub(crate) fn reserve(table: &mut SourceTable) -> Result<(), HostMemory>
     ensures room { OnOk result (HasRoom table.new) }
-    ensures names { names_of table.new ≡ names_of table.old }
+    ensures names { source_names_of table.new ≡ source_names_of table.old }
     ensures owners { owners_of table.new ≡ owners_of table.old }
     ensures backings { backings_of table.new ≡ backings_of table.old }
-    ensures links { links_of table.new ≡ links_of table.old }
+    ensures links { loose_links_of table.new ≡ loose_links_of table.old }
     ensures children { children_of table.new ≡ children_of table.old }
 {
     let Ok(()) = table.names.reserve(1) else {
@@ -84,13 +84,13 @@ pub(crate) fn reserve(table: &mut SourceTable) -> Result<(), HostMemory>
 
 /// Lets a name that is not open stand for a VMO that has no name, where there is room.
 pub(crate) fn enter_name(table: &mut SourceTable, name: VmoName, v: Koid)
-    requires closed { names_of table.old name.0 ≡ None }
+    requires closed { source_names_of table.old name.0 ≡ None }
     requires unnamed { owners_of table.old v.0 ≡ None }
     requires room { HasRoom table.old }
     requires indexed { IsIndexed table.old }
-    ensures names { names_of table.new ≡ with_key (names_of table.old) name.0 v.0 }
+    ensures names { source_names_of table.new ≡ with_key (source_names_of table.old) name.0 v.0 }
     ensures backings { backings_of table.new ≡ backings_of table.old }
-    ensures links { links_of table.new ≡ links_of table.old }
+    ensures links { loose_links_of table.new ≡ loose_links_of table.old }
     ensures children { children_of table.new ≡ children_of table.old }
     ensures room { (1 ≤ spare_of table.new.backings) × (1 ≤ spare_of table.new.links) × (1 ≤ spare_of table.new.children) }
     ensures indexed { IsIndexed table.new }
@@ -104,9 +104,9 @@ pub(crate) fn enter_backing(table: &mut SourceTable, v: Koid, backing: Backing)
     requires other { backings_of table.old v.0 ≡ None }
     requires room { 1 ≤ spare_of table.old.backings }
     requires indexed { IsIndexed table.old }
-    ensures names { names_of table.new ≡ names_of table.old }
+    ensures names { source_names_of table.new ≡ source_names_of table.old }
     ensures backings { backings_of table.new ≡ with_key (backings_of table.old) v.0 backing }
-    ensures links { links_of table.new ≡ links_of table.old }
+    ensures links { loose_links_of table.new ≡ loose_links_of table.old }
     ensures indexed { IsIndexed table.new }
 {
     table.backings.insert(0, v.0, backing);
@@ -114,13 +114,13 @@ pub(crate) fn enter_backing(table: &mut SourceTable, v: Koid, backing: Backing)
 
 /// Notes that a VMO is a loose child, where there is room.
 pub(crate) fn enter_link(table: &mut SourceTable, v: Koid, link: Link)
-    requires other { links_of table.old v.0 ≡ None }
+    requires other { loose_links_of table.old v.0 ≡ None }
     requires childless { children_of table.old link.parent.0 v.0 ≡ false }
     requires room { (1 ≤ spare_of table.old.links) × (1 ≤ spare_of table.old.children) }
     requires indexed { IsIndexed table.old }
-    ensures names { names_of table.new ≡ names_of table.old }
+    ensures names { source_names_of table.new ≡ source_names_of table.old }
     ensures backings { backings_of table.new ≡ backings_of table.old }
-    ensures links { links_of table.new ≡ with_key (links_of table.old) v.0 link }
+    ensures links { loose_links_of table.new ≡ with_key (loose_links_of table.old) v.0 link }
     ensures indexed { IsIndexed table.new }
 {
     table.links.insert(0, v.0, link);
@@ -129,11 +129,11 @@ pub(crate) fn enter_link(table: &mut SourceTable, v: Koid, link: Link)
 
 /// Closes the name of a VMO.
 pub(crate) fn leave_name(table: &mut SourceTable, name: VmoName, v: Koid)
-    requires open { names_of table.old name.0 ≡ Some v.0 }
+    requires open { source_names_of table.old name.0 ≡ Some v.0 }
     requires indexed { IsIndexed table.old }
-    ensures names { names_of table.new ≡ without_key (names_of table.old) name.0 }
+    ensures names { source_names_of table.new ≡ without_key (source_names_of table.old) name.0 }
     ensures backings { backings_of table.new ≡ backings_of table.old }
-    ensures links { links_of table.new ≡ links_of table.old }
+    ensures links { loose_links_of table.new ≡ loose_links_of table.old }
     ensures indexed { IsIndexed table.new }
 {
     table.names.remove(0, name.0 as u64);
@@ -142,13 +142,13 @@ pub(crate) fn leave_name(table: &mut SourceTable, name: VmoName, v: Koid)
 
 /// Takes out a VMO with no name, which has a backing or a link. The parent where it has a link.
 pub(crate) fn leave(table: &mut SourceTable, v: Koid) -> Option<Koid>
-    requires either { is_some (backings_of table.old v.0) ≡ not (is_some (links_of table.old v.0)) }
+    requires either { is_some (backings_of table.old v.0) ≡ not (is_some (loose_links_of table.old v.0)) }
     requires indexed { IsIndexed table.old }
-    ensures names { names_of table.new ≡ names_of table.old }
+    ensures names { source_names_of table.new ≡ source_names_of table.old }
     ensures backings { backings_of table.new ≡ without_key (backings_of table.old) v.0 }
-    ensures links { links_of table.new ≡ without_key (links_of table.old) v.0 }
+    ensures links { loose_links_of table.new ≡ without_key (loose_links_of table.old) v.0 }
     ensures indexed { IsIndexed table.new }
-    ensures parent { result ≡ option_map (λ (l : Link). l.parent) (links_of table.old v.0) }
+    ensures parent { result ≡ option_map (λ (l : Link). l.parent) (loose_links_of table.old v.0) }
 {
     match table.links.find(0, v.0) {
         Some(link) => {

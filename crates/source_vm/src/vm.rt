@@ -5,7 +5,7 @@ ghost use Rattle.vm_base.specs.declared.limits.TheConstants.{DATA_BYTES, KOIDS};
 ghost use Rattle.vm_model.specs.Machine.Lent.{reply_for};
 ghost use Rattle.source_model.specs.Commands.{SourceStep};
 ghost use Rattle.source_model.specs.Lent.{source_command_of};
-ghost use Rattle.source_vm.specs.Table.{Agrees, IsIndexed, state_of};
+ghost use Rattle.source_vm.specs.Table.{SourcesAgree, IsIndexed, source_state_of};
 
 use crate::accesses::{evict, read, supply, write};
 use crate::closing::close;
@@ -36,8 +36,8 @@ impl SourceVm {
     pub fn new(alloc: Global, functions: [SourceFn; 3]) -> SourceVm
         requires kinds { map (λ f. f.kind) functions ≡ 0 ∷ 1 ∷ 2 ∷ [] }
         ensures empty { (c : Content) → IsGood c → ((v : ℕ) → c.count v ≡ None) →
-            state_of c result.table ≡ record (empty_sources c.frames) { content = c } }
-        ensures agrees { (c : Content) → IsGood c → ((v : ℕ) → c.count v ≡ None) → Agrees c result.table }
+            source_state_of c result.table ≡ record (empty_sources c.frames) { content = c } }
+        ensures agrees { (c : Content) → IsGood c → ((v : ℕ) → c.count v ≡ None) → SourcesAgree c result.table }
     {
         SourceVm {
             table: new_table(alloc),
@@ -48,11 +48,11 @@ impl SourceVm {
     /// Does one command as a whole. A command that is refused, also because the host has too little memory, changes nothing. The
     /// store is the one that holds the VMOs of the names. At most one koid is given.
     pub fn step<P: PageStore>(&mut self, store: &mut P, command: &SourceCommand) -> Reply
-        requires agrees { Agrees (P.content store.old) self.old.table }
+        requires agrees { SourcesAgree (P.content store.old) self.old.table }
         requires next { (P.content store.old).next < KOIDS }
-        ensures step { SourceStep (state_of (P.content store.old) self.old.table) command.now result
-            (state_of (P.content store.new) self.new.table) }
-        ensures agrees { Agrees (P.content store.new) self.new.table }
+        ensures step { SourceStep (source_state_of (P.content store.old) self.old.table) command.now result
+            (source_state_of (P.content store.new) self.new.table) }
+        ensures agrees { SourcesAgree (P.content store.new) self.new.table }
         ensures next { (P.content store.new).next ≤ (P.content store.old).next + 1 }
     {
         let mut bytes = [0; DATA_BYTES];
@@ -67,12 +67,12 @@ impl SourceVm {
         call: &SourceCall<'_>,
         bytes: &'a mut [u8],
     ) -> Answer<'a>
-        requires agrees { Agrees (P.content store.old) self.old.table }
+        requires agrees { SourcesAgree (P.content store.old) self.old.table }
         requires next { (P.content store.old).next < KOIDS }
         requires bytes { DATA_BYTES ≤ length bytes.old }
-        ensures step { SourceStep (state_of (P.content store.old) self.old.table) (source_command_of call.now)
-            (reply_for result) (state_of (P.content store.new) self.new.table) }
-        ensures agrees { Agrees (P.content store.new) self.new.table }
+        ensures step { SourceStep (source_state_of (P.content store.old) self.old.table) (source_command_of call.now)
+            (reply_for result) (source_state_of (P.content store.new) self.new.table) }
+        ensures agrees { SourcesAgree (P.content store.new) self.new.table }
         ensures next { (P.content store.new).next ≤ (P.content store.old).next + 1 }
     {
         dispatch(store, &mut self.table, &self.functions, call, bytes)
@@ -88,11 +88,11 @@ fn dispatch<'a, P: PageStore>(
     bytes: &'a mut [u8],
 ) -> Answer<'a>
     requires kinds { map (λ f. f.kind) functions.now ≡ 0 ∷ 1 ∷ 2 ∷ [] }
-    requires agrees { Agrees (P.content store.old) table.old }
+    requires agrees { SourcesAgree (P.content store.old) table.old }
     requires next { (P.content store.old).next < KOIDS }
     requires bytes { DATA_BYTES ≤ length bytes.old }
-    ensures step { SourceStep (state_of (P.content store.old) table.old) (source_command_of call.now)
-        (reply_for result) (state_of (P.content store.new) table.new) }
+    ensures step { SourceStep (source_state_of (P.content store.old) table.old) (source_command_of call.now)
+        (reply_for result) (source_state_of (P.content store.new) table.new) }
     ensures indexed { IsIndexed table.new }
 {
     match call {

@@ -5,8 +5,8 @@ ghost use Rattle.vm_base.specs.Entries.{passes};
 ghost use Rattle.vm_model.specs.Contents.Content.{pages_of};
 ghost use Rattle.source_model.specs.Links.{page_below};
 ghost use Rattle.source_model.specs.State.{is_absent};
-ghost use Rattle.source_vm.specs.Pages.{IsReadable, page_at, end_of};
-ghost use Rattle.source_vm.specs.Table.{backings_of, links_of};
+ghost use Rattle.source_vm.specs.Pages.{IsReadable, page_at, lookup_end};
+ghost use Rattle.source_vm.specs.Table.{backings_of, loose_links_of};
 
 use crate::table::SourceTable;
 use page_store::PageStore;
@@ -22,9 +22,9 @@ pub(crate) struct Place {
 /// Returns the page of the parent that a page shows. `None` if and only if it is held, or its VMO's link does not see it, or
 /// its VMO is not loose.
 fn below<P: PageStore>(store: &P, table: &SourceTable, at: Place) -> Option<Place>
-    requires readable { IsReadable (P.content store.now) (backings_of table.now) (links_of table.now) }
+    requires readable { IsReadable (P.content store.now) (backings_of table.now) (loose_links_of table.now) }
     requires page { at.page < pages_of (P.content store.now) at.koid.0 }
-    ensures next { option_map page_at result ≡ page_below (P.content store.now) (links_of table.now) at.koid.0 at.page }
+    ensures next { option_map page_at result ≡ page_below (P.content store.now) (loose_links_of table.now) at.koid.0 at.page }
     ensures smaller { IfSome result (λ next. next.koid.0 < at.koid.0) }
     ensures inside { IfSome result (λ next. next.page < pages_of (P.content store.now) next.koid.0) }
 {
@@ -46,9 +46,9 @@ fn below<P: PageStore>(store: &P, table: &SourceTable, at: Place) -> Option<Plac
 
 /// Returns the page at which a look-up ends: from parent to parent, up to one that is held or shows no other.
 pub(crate) fn find_end<P: PageStore>(store: &P, table: &SourceTable, start: Place) -> Place
-    requires readable { IsReadable (P.content store.now) (backings_of table.now) (links_of table.now) }
+    requires readable { IsReadable (P.content store.now) (backings_of table.now) (loose_links_of table.now) }
     requires page { start.page < pages_of (P.content store.now) start.koid.0 }
-    ensures end { page_at result ≡ end_of (links_of table.now) (P.content store.now) start.koid.0 start.page }
+    ensures end { page_at result ≡ lookup_end (loose_links_of table.now) (P.content store.now) start.koid.0 start.page }
     ensures inside { result.page < pages_of (P.content store.now) result.koid.0 }
 {
     let mut at = start;

@@ -42,12 +42,12 @@ use Rattle.moving_machine.proofs.StandingPinLaws.{pins_same, pins_seen}
 use Rattle.moving_machine.proofs.RowLaws.{all_map, all_over}
 use Rattle.moving_machine.proofs.NumberLaws.{to_below}
 use Rattle.moving_machine.proofs.FollowingLaws.{follows_outside, follows_refused, follows_pinned}
-use Rattle.eager_machine.specs.Machine.{machine_of}
+use Rattle.eager_machine.specs.Machine.{eager_machine_of}
 use Rattle.transcript.specs.declared.answering.Heard.{Heard}
 use Rattle.transcript.specs.declared.answering.Heard.TheVariants.{Ends, Begins, Never}
 use Rattle.transcript.specs.declared.answering.Own.{Own}
 use Rattle.transcript.specs.Checking.{Stands, HasAnswered}
-use Rattle.transcript.specs.Seen.{number_of, Frees, IsCleared}
+use Rattle.transcript.specs.Seen.{number_seen, Frees, IsCleared}
 use Rattle.transcript.specs.Hearing.{OwnStands, IsHeard, Hears, AreHeard}
 use Rattle.transcript.proofs.SeenLaws.{left_cleared}
 use Rattle.transcript.proofs.TurnLaws.{reply_first}
@@ -324,71 +324,71 @@ step_for old new command answer other e step = subst (λ (a : Answer). MachineSt
 -- ---- what was heard
 
 pub pins_heard : (frames : ℕ) (old new : Own) (pending : List ℕ) (before : List Told) (line : List ℕ) (command : Command) (mine : List ℕ) (r : Bool) (heard : Heard) → OwnStands frames old before
-    → reading pending ≡ Order command → MachineStep (machine_of old.machine) command (Pins mine) (machine_of new.machine) → length mine ≤ PIN_PAGES → line ≢ first_line (Refused HostMemory)
-    → AreHeard (length old.numbers) (number_of old.numbers) (number_of new.numbers) mine line r → length new.numbers ≡ length old.numbers → heard ≡ cond r Ends Never
+    → reading pending ≡ Order command → MachineStep (eager_machine_of old.machine) command (Pins mine) (eager_machine_of new.machine) → length mine ≤ PIN_PAGES → line ≢ first_line (Refused HostMemory)
+    → AreHeard (length old.numbers) (number_seen old.numbers) (number_seen new.numbers) mine line r → length new.numbers ≡ length old.numbers → heard ≡ cond r Ends Never
     → IsHeard frames old new pending before line heard
 pins_heard frames old new pending before line command mine true heard stands e step short apart are len is =
     subst (IsHeard frames old new pending before line) (sym is) (record {
-      stands = subst (λ (numbers : ℕ → Option ℕ). Stands frames (machine_of new.machine) numbers (before ++ Asked pending ∷ Answered line ∷ [])) (sym are.3)
-          (pins_stand frames (machine_of old.machine) (number_of old.numbers) before pending command stands.stands e (machine_of new.machine) mine are.0 line stands.few step are.1
-          (subst (λ (n : ℕ). may_tell n (number_of old.numbers) mine are.0 ≡ true) stands.size are.2));
+      stands = subst (λ (numbers : ℕ → Option ℕ). Stands frames (eager_machine_of new.machine) numbers (before ++ Asked pending ∷ Answered line ∷ [])) (sym are.3)
+          (pins_stand frames (eager_machine_of old.machine) (number_seen old.numbers) before pending command stands.stands e (eager_machine_of new.machine) mine are.0 line stands.few step are.1
+          (subst (λ (n : ℕ). may_tell n (number_seen old.numbers) mine are.0 ≡ true) stands.size are.2));
       size = len ∙ stands.size;
       few = stands.few;
     })
 pins_heard frames old new pending before line command mine false heard stands e step short apart are len is =
-    subst (IsHeard frames old new pending before line) (sym is) (pins_never frames (machine_of old.machine) (number_of old.numbers) before pending command stands.stands e (machine_of new.machine) mine line stands.few short apart step
-    (λ ks few wide f. subst (λ (n : ℕ). may_tell n (number_of old.numbers) mine ks ≡ false) stands.size (are ks few wide f)))
+    subst (IsHeard frames old new pending before line) (sym is) (pins_never frames (eager_machine_of old.machine) (number_seen old.numbers) before pending command stands.stands e (eager_machine_of new.machine) mine line stands.few short apart step
+    (λ ks few wide f. subst (λ (n : ℕ). may_tell n (number_seen old.numbers) mine ks ≡ false) stands.size (are ks few wide f)))
 
-pub pins_bound : (frames : ℕ) (old : Own) (next : Machine) (before : List Told) (command : Command) (mine : List ℕ) → OwnStands frames old before → GivesName command → MachineStep (machine_of old.machine) command (Pins mine) next
+pub pins_bound : (frames : ℕ) (old : Own) (next : Machine) (before : List Told) (command : Command) (mine : List ℕ) → OwnStands frames old before → GivesName command → MachineStep (eager_machine_of old.machine) command (Pins mine) next
     → AllByRecursion (λ t. t < length old.numbers) mine
 pins_bound frames old next before command mine stands gives step =
-    subst (λ (n : ℕ). AllByRecursion (λ t. t < n) mine) (stands.stands.frames_are ∙ sym stands.size) (pins_low (machine_of old.machine) next command mine stands.stands.good gives step)
+    subst (λ (n : ℕ). AllByRecursion (λ t. t < n) mine) (stands.stands.frames_are ∙ sym stands.size) (pins_low (eager_machine_of old.machine) next command mine stands.stands.good gives step)
 
 pub reply_heard : (frames : ℕ) (old new : Own) (pending : List ℕ) (before : List Told) (line : List ℕ) (command : Command) (reply : Reply) (told : ℕ) (freed : List ℕ) (heard : Heard) → OwnStands frames old before
-    → reading pending ≡ Order command → TellsNoFrames reply → reply ≢ Refused HostMemory → MachineStep (machine_of old.machine) command reply (machine_of new.machine) → line ≢ first_line (Refused HostMemory)
+    → reading pending ≡ Order command → TellsNoFrames reply → reply ≢ Refused HostMemory → MachineStep (eager_machine_of old.machine) command reply (eager_machine_of new.machine) → line ≢ first_line (Refused HostMemory)
     → ((a : ℕ) → a < 2 ^ 64 → first_line (Address a) ≡ line → told ≡ a) → (tells_place command ≡ true → (a : ℕ) → reply ≡ Address a → a ≡ told)
-    → Frees (machine_of old.machine) command freed → IsCleared (machine_of new.machine) (number_of old.numbers) (number_of new.numbers) freed → length new.numbers ≡ length old.numbers
+    → Frees (eager_machine_of old.machine) command freed → IsCleared (eager_machine_of new.machine) (number_seen old.numbers) (number_seen new.numbers) freed → length new.numbers ≡ length old.numbers
     → Hears reply line heard → IsHeard frames old new pending before line heard
 reply_heard frames old new pending before line command reply told freed Ends stands e none host step apart is_told there frees cleared len hears = record {
-  stands = reply_stands frames (machine_of old.machine) (number_of old.numbers) before pending command stands.stands e (machine_of new.machine) (number_of new.numbers) reply line none host step
-      (left_cleared (machine_of old.machine) (machine_of new.machine) command reply (number_of old.numbers) (number_of new.numbers) freed stands.stands.good none step stands.stands.seen frees cleared) hears;
+  stands = reply_stands frames (eager_machine_of old.machine) (number_seen old.numbers) before pending command stands.stands e (eager_machine_of new.machine) (number_seen new.numbers) reply line none host step
+      (left_cleared (eager_machine_of old.machine) (eager_machine_of new.machine) command reply (number_seen old.numbers) (number_seen new.numbers) freed stands.stands.good none step stands.stands.seen frees cleared) hears;
   size = len ∙ stands.size;
   few = stands.few;
 }
 reply_heard frames old new pending before line command reply told freed (Begins runs) stands e none host step apart is_told there frees cleared len hears = (
-  runs_stand frames (machine_of old.machine) (number_of old.numbers) before pending command stands.stands e (machine_of new.machine) (number_of new.numbers) reply runs hears.0 step
-      (left_cleared (machine_of old.machine) (machine_of new.machine) command reply (number_of old.numbers) (number_of new.numbers) freed stands.stands.good none step stands.stands.seen frees cleared),
+  runs_stand frames (eager_machine_of old.machine) (number_seen old.numbers) before pending command stands.stands e (eager_machine_of new.machine) (number_seen new.numbers) reply runs hears.0 step
+      (left_cleared (eager_machine_of old.machine) (eager_machine_of new.machine) command reply (number_seen old.numbers) (number_seen new.numbers) freed stands.stands.good none step stands.stands.seen frees cleared),
   ap first_line (sym hears.0) ∙ hears.1,
   hears.2,
   len ∙ stands.size,
 )
 reply_heard frames old new pending before line command reply told freed Never stands e none host step apart is_told there frees cleared len hears =
-    reply_never frames (machine_of old.machine) (number_of old.numbers) before pending command stands.stands e (machine_of new.machine) reply line told apart none host step is_told there hears
+    reply_never frames (eager_machine_of old.machine) (number_seen old.numbers) before pending command stands.stands e (eager_machine_of new.machine) reply line told apart none host step is_told there hears
 
 pub host_heard : (frames : ℕ) (old : Own) (pending : List ℕ) (before : List Told) (line : List ℕ) (command : Command) (r : Bool) (heard : Heard) → OwnStands frames old before → reading pending ≡ Order command
-    → line ≡ codes "HOST_MEMORY" → r ≡ (not (is_some (first_of (refusals (machine_of old.machine).state command))) && may_want_memory (machine_of old.machine) command) → heard ≡ cond r Ends Never
+    → line ≡ codes "HOST_MEMORY" → r ≡ (not (is_some (first_of (refusals (eager_machine_of old.machine).state command))) && may_want_memory (eager_machine_of old.machine) command) → heard ≡ cond r Ends Never
     → IsHeard frames old old pending before (line ++ codes "\n") heard
 host_heard frames old pending before line command true heard stands e text may is =
-    let parts = and_parts (not (is_some (first_of (refusals (machine_of old.machine).state command)))) (may_want_memory (machine_of old.machine) command) (sym may) in
-    let none = none_is (first_of (refusals (machine_of old.machine).state command)) (not-true _ parts.0) in
+    let parts = and_parts (not (is_some (first_of (refusals (eager_machine_of old.machine).state command)))) (may_want_memory (eager_machine_of old.machine) command) (sym may) in
+    let none = none_is (first_of (refusals (eager_machine_of old.machine).state command)) (not-true _ parts.0) in
     subst (IsHeard frames old old pending before (line ++ codes "\n")) (sym is) (subst (λ (l : List ℕ). OwnStands frames old (before ++ Asked pending ∷ Answered (l ++ codes "\n") ∷ [])) (sym text) (record {
-      stands = host_stands frames (machine_of old.machine) (number_of old.numbers) before pending command stands.stands e none parts.1;
+      stands = host_stands frames (eager_machine_of old.machine) (number_seen old.numbers) before pending command stands.stands e none parts.1;
       size = stands.size;
       few = stands.few;
     }))
 host_heard frames old pending before line command false heard stands e text may is =
-    subst (IsHeard frames old old pending before (line ++ codes "\n")) (sym is) (λ answers. host_never frames (machine_of old.machine) (number_of old.numbers) before pending command stands.stands e false may refl
-    (subst (λ (l : List ℕ). MayAnswer (machine_of old.machine) (number_of old.numbers) pending (l ++ codes "\n")) text answers))
+    subst (IsHeard frames old old pending before (line ++ codes "\n")) (sym is) (λ answers. host_never frames (eager_machine_of old.machine) (number_seen old.numbers) before pending command stands.stands e false may refl
+    (subst (λ (l : List ℕ). MayAnswer (eager_machine_of old.machine) (number_seen old.numbers) pending (l ++ codes "\n")) text answers))
 
 pub outside_heard : (frames : ℕ) (old : Own) (pending : List ℕ) (before : List Told) (line : List ℕ) (r : Bool) (heard : Heard) → OwnStands frames old before → reading pending ≡ Outside
     → r ≡ pointwise eqb line (codes "SYNTAX") → heard ≡ cond r Ends Never → IsHeard frames old old pending before (line ++ codes "\n") heard
 outside_heard frames old pending before line true heard stands e eq is =
     let text = (same_text line (codes "SYNTAX") true eq).0 refl in
     subst (IsHeard frames old old pending before (line ++ codes "\n")) (sym is) (subst (λ (l : List ℕ). OwnStands frames old (before ++ Asked pending ∷ Answered (l ++ codes "\n") ∷ [])) (sym text) (record {
-      stands = outside_stands frames (machine_of old.machine) (number_of old.numbers) before pending stands.stands e;
+      stands = outside_stands frames (eager_machine_of old.machine) (number_seen old.numbers) before pending stands.stands e;
       size = stands.size;
       few = stands.few;
     }))
 outside_heard frames old pending before line false heard stands e eq is =
     let apart : line ≢ codes "SYNTAX" = λ same. absurd (let on = (same_text line (codes "SYNTAX") false eq).1 same in cc) in
-    subst (IsHeard frames old old pending before (line ++ codes "\n")) (sym is) (outside_never (machine_of old.machine) (number_of old.numbers) pending line e apart)
+    subst (IsHeard frames old old pending before (line ++ codes "\n")) (sym is) (outside_never (eager_machine_of old.machine) (number_seen old.numbers) pending line e apart)

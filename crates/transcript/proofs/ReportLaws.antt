@@ -12,18 +12,19 @@ use Rattle.script_io.specs.Fetching.{IsPending, IsFirstLine, Fetches}
 use Rattle.script_io.specs.declared.line_reader.Fetch.TheVariants.{Line, TooLong}
 use Rattle.vm_base.specs.declared.limits.TheConstants.{SCRIPT_BYTES}
 use Rattle.vm_model.specs.Contents.Content.{nothing}
-use Rattle.served.specs.Answering.{Run}
+use Rattle.served.specs.Answering.{AnsweringRun}
 use Rattle.served.specs.Serving.{IsReady, bytes_left}
 use Rattle.served.proofs.Served.{IsAnswered, IsServed-answered}
 use Rattle.served.proofs.Beginning.{fresh, IsPending-fresh, IsServed-fresh}
 use Rattle.served.proofs.Answered.{IsReady-answered, bytes_left-answered}
 use Rattle.transcript.specs.declared.reports.Check.{Check}
 use Rattle.transcript.specs.declared.reports.Report.{Report}
-use Rattle.transcript.specs.Reports.{collecting, IsUnderWay, IsChecked, IsReport, report_text, StopsAs, EndsAs, lack, status_of}
+use Rattle.transcript.specs.Reports.{collecting, IsBeingChecked, IsChecked, IsReport, report_text, StopsAs, CheckEndsAs}
+use Rattle.script_io.specs.Ending.{memory_failure, status_of_writing}
 
 -- ---- lines that are fetched
 
-gathered : (old new : List (List ℕ)) (lines : List (List ℕ)) (out : List ℕ) → Run collecting old lines out new → new ≡ old ++ lines
+gathered : (old new : List (List ℕ)) (lines : List (List ℕ)) (out : List ℕ) → AnsweringRun collecting old lines out new → new ≡ old ++ lines
 gathered old new [] out run = run.1 ∙ sym (append-nil old)
 gathered old new (line ∷ lines) out run = gathered run.0 new lines run.2 run.4 ∙ (ap (λ (ls : List (List ℕ)). ls ++ lines) run.3.1 ∙ append_assoc old (line ∷ []) lines)
 
@@ -79,9 +80,9 @@ answered old new source_old source_new pending line lines f = record {
 }
 
 -- it was read
-pub way_more : (frames : ℕ) (old new : Reader) (source_old source_mid source_new : Option (List ℕ)) (line : List ℕ) (check after : Check) (w : IsUnderWay frames old source_old source_mid check)
+pub way_more : (frames : ℕ) (old new : Reader) (source_old source_mid source_new : Option (List ℕ)) (line : List ℕ) (check after : Check) (w : IsBeingChecked frames old source_old source_mid check)
     → IsFetched old new source_mid source_new w.served.pending line → IsChecked frames after (w.lines ++ line ∷ []) → new.limit ≡ old.limit → (old.ended ≡ true → new.taken ≡ old.taken)
-    → IsUnderWay frames new source_old source_new after
+    → IsBeingChecked frames new source_old source_new after
 way_more frames old new source_old source_mid source_new line check after w f checked same none = record {
   lines = w.lines ++ line ∷ [];
   served = IsServed-answered collecting 0 SCRIPT_BYTES old new source_old source_mid source_new (Some []) (Some []) (Some []) w.lines (w.lines ++ line ∷ []) nothing refl (Ok tt) w.served
@@ -89,9 +90,9 @@ way_more frames old new source_old source_mid source_new line check after w f ch
   checked = checked;
 }
 
-pub way_read : {T E : Type 0} (frames : ℕ) (old new : Reader) (source_old source_mid source_new : Option (List ℕ)) (line : List ℕ) (check after : Check) (result : Result T E) (w : IsUnderWay frames old source_old source_mid check)
+pub way_read : {T E : Type 0} (frames : ℕ) (old new : Reader) (source_old source_mid source_new : Option (List ℕ)) (line : List ℕ) (check after : Check) (result : Result T E) (w : IsBeingChecked frames old source_old source_mid check)
     → IsFetched old new source_mid source_new w.served.pending line → MatchResult result (λ x. IsChecked frames after (w.lines ++ line ∷ [])) (λ x. Unit {0}) → new.limit ≡ old.limit → (old.ended ≡ true → new.taken ≡ old.taken)
-    → MatchOption (lack result) (IsUnderWay frames new source_old source_new after) (λ status. StopsAs status frames source_old source_new after)
+    → MatchOption (memory_failure result) (IsBeingChecked frames new source_old source_new after) (λ status. StopsAs status frames source_old source_new after)
 way_read frames old new source_old source_mid source_new line check after (Ok x) w f checked same none = way_more frames old new source_old source_mid source_new line check after w f checked same none
 way_read frames old new source_old source_mid source_new line check after (Err x) w f checked same none = record {
   script = (w.served.front ++ w.served.pending) ++ f.part;
@@ -105,7 +106,7 @@ ready_more old new source_old source_new line before after r f e =
     IsReady-answered collecting old new source_old source_new (Some []) (Some []) [] ([] ++ line ∷ []) (before + 1) (after + 1) (Ok tt) r (answered old new source_old source_new r.pending line [] f) (omega (arith, e))
 
 pub ready_read : {T E : Type 0} (old new : Reader) (source_old source_new : Option (List ℕ)) (line : List ℕ) (before after : ℕ) (result : Result T E) (r : IsReady old source_old (before + 1)) → IsFetched old new source_old source_new r.pending line
-    → MatchResult result (λ x. after ≡ before + 1) (λ x. Unit {0}) → IfNone (lack result) (IsReady new source_new (after + 1))
+    → MatchResult result (λ x. after ≡ before + 1) (λ x. Unit {0}) → IfNone (memory_failure result) (IsReady new source_new (after + 1))
 ready_read old new source_old source_new line before after (Ok x) r f e = ready_more old new source_old source_new line before after r f e
 ready_read old new source_old source_new line before after (Err x) r f e = tt
 
@@ -114,16 +115,16 @@ pub falls_more : (old new : Reader) (source_old source_new : Option (List ℕ)) 
 falls_more old new source_old source_new line before r f same =
     bytes_left-answered collecting old new source_old source_new (Some []) (Some []) [] ([] ++ line ∷ []) (before + 1) (Ok tt) r (answered old new source_old source_new r.pending line [] f) same
 
-pub falls_read : {T E P : Type 0} (result : Result T E) → P → IfNone (lack result) P
+pub falls_read : {T E P : Type 0} (result : Result T E) → P → IfNone (memory_failure result) P
 falls_read (Ok x) p = p
 falls_read (Err x) p = tt
 
 -- want of memory is neither the end nor a fault
-pub lack_no_end : {T E P : Type 0} (result : Result T E) → lack result ≡ Some Done → P
+pub lack_no_end : {T E P : Type 0} (result : Result T E) → memory_failure result ≡ Some Done → P
 lack_no_end (Ok x) e = absurd cc
 lack_no_end (Err x) e = absurd cc
 
-pub lack_no_fault : {T E P : Type 0} (result : Result T E) → lack result ≡ Some ReadFault → P
+pub lack_no_fault : {T E P : Type 0} (result : Result T E) → memory_failure result ≡ Some ReadFault → P
 lack_no_fault (Ok x) e = absurd cc
 lack_no_fault (Err x) e = absurd cc
 
@@ -144,11 +145,11 @@ pub count_few : (n lines : ℕ) → n < 2 ^ 63 → n ≡ lines → lines < 2 ^ 6
 count_few n lines h e = omega (arith, h, e)
 
 -- the lines that were fetched are those that were read
-pub way_lines : (frames : ℕ) (reader : Reader) (source_old source_now : Option (List ℕ)) (check : Check) (w : IsUnderWay frames reader source_old source_now check) → IsChecked frames check w.served.lines
+pub way_lines : (frames : ℕ) (reader : Reader) (source_old source_now : Option (List ℕ)) (check : Check) (w : IsBeingChecked frames reader source_old source_now check) → IsChecked frames check w.served.lines
 way_lines frames reader source_old source_now check w = subst (IsChecked frames check) (gathered [] w.lines w.served.lines w.served.out w.served.run) w.checked
 
 -- nothing was read yet
-pub way_begins : (frames : ℕ) (reader : Reader) (source : Option (List ℕ)) (check : Check) → reader ≡ fresh SCRIPT_BYTES → IsChecked frames check [] → IsUnderWay frames reader source source check
+pub way_begins : (frames : ℕ) (reader : Reader) (source : Option (List ℕ)) (check : Check) → reader ≡ fresh SCRIPT_BYTES → IsChecked frames check [] → IsBeingChecked frames reader source source check
 way_begins frames reader source check e checked = record { lines = []; served = IsServed-fresh collecting 0 SCRIPT_BYTES reader source (Some []) [] e refl tt; checked = checked }
 
 pub ready_begins : (reader : Reader) (source : Option (List ℕ)) (lines : ℕ) → reader ≡ fresh SCRIPT_BYTES → lines ≡ 0 → IsReady reader source (lines + 1)
@@ -158,7 +159,7 @@ ready_begins reader source lines e f = subst (λ (r : Reader). IsReady r source 
 
 pub reported : {T E : Type 0} (frames : ℕ) (check : Check) (report : Report) (text : List ℕ) (source_old source_new sink_old sink_new : Option (List ℕ)) (result : Result T E) → ((lines : List (List ℕ)) → IsChecked frames check lines → IsReport frames lines report)
     → text ≡ report_text report → OnOk result (Appends sink_old sink_new text) → OnErr result (IsCutOff sink_old sink_new text) → StopsAs Done frames source_old source_new check
-    → EndsAs (status_of result) frames source_old source_new sink_old sink_new
+    → CheckEndsAs (status_of_writing result) frames source_old source_new sink_old sink_new
 reported frames check report text source_old source_new sink_old sink_new (Ok x) is e ok err done = record {
   script = done.script;
   given = done.given;
@@ -174,20 +175,20 @@ reported frames check report text source_old source_new sink_old sink_new (Err x
   answers = record { report = report; is = is _ done.answers; written = subst (IsCutOff sink_old sink_new) e err };
 }
 
-pub status_either : {T E : Type 0} (result : Result T E) → (status_of result ≡ Done) ⊎ (status_of result ≡ WriteFault)
+pub status_either : {T E : Type 0} (result : Result T E) → (status_of_writing result ≡ Done) ⊎ (status_of_writing result ≡ WriteFault)
 status_either (Ok x) = inl refl
 status_either (Err x) = inr refl
 
-pub status_no_read : {T E : Type 0} (result : Result T E) → status_of result ≢ ReadFault
+pub status_no_read : {T E : Type 0} (result : Result T E) → status_of_writing result ≢ ReadFault
 status_no_read (Ok x) e = absurd cc
 status_no_read (Err x) e = absurd cc
 
-pub status_failed : {T E P : Type 0} (result : Result T E) → OnErr result P → status_of result ≡ WriteFault → P
+pub status_failed : {T E P : Type 0} (result : Result T E) → OnErr result P → status_of_writing result ≡ WriteFault → P
 status_failed (Ok x) failed e = absurd cc
 status_failed (Err x) failed e = failed
 
 -- a reading that did not come to the end
-pub stopped : (status : Status) (frames : ℕ) (source_old source_new sink : Option (List ℕ)) (check : Check) → status ≢ Done → StopsAs status frames source_old source_new check → EndsAs status frames source_old source_new sink sink
+pub stopped : (status : Status) (frames : ℕ) (source_old source_new sink : Option (List ℕ)) (check : Check) → status ≢ Done → StopsAs status frames source_old source_new check → CheckEndsAs status frames source_old source_new sink sink
 stopped Done frames source_old source_new sink check other stops = absurd (other refl)
 stopped Usage frames source_old source_new sink check other stops = absurd stops
 stopped HostMemory frames source_old source_new sink check other stops = stops

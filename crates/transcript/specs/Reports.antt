@@ -1,5 +1,5 @@
 -- What is reported of a transcript, over the bytes that a source gave and the bytes that a sink took.
-use Rattle.std.specs.Prelude.{◌≡◌, ℕ, ◌+◌, ◌≤◌, ◌⊎◌, List, [], ◌∷◌, ◌++◌, length, codes, decimal, Option, None, Some, Result, Ok, Err}
+use Rattle.std.specs.Prelude.{◌≡◌, ℕ, ◌+◌, ◌≤◌, ◌⊎◌, List, [], ◌∷◌, ◌++◌, length, codes, decimal, Option, None, Some}
 use Rattle.std.specs.Io.KnownBytes.{Appends, Consumes}
 use Rattle.script_io.specs.declared.status.Status.{Status}
 use Rattle.script_io.specs.declared.status.Status.TheVariants.{Done, Usage, HostMemory, ReadFault, WriteFault, ScriptLimit}
@@ -71,13 +71,13 @@ pub record ReadsAtMost (limit : ℕ) (source_old source_new : Option (List ℕ))
   pub short : length script ≤ limit
 
 -- what each status says
-abbrev pub EndsAs : Status → ℕ → Option (List ℕ) → Option (List ℕ) → Option (List ℕ) → Option (List ℕ) → Type 0
-EndsAs Done frames source_old source_new sink_old sink_new = Completes (Reports (Appends sink_old sink_new) frames) SCRIPT_BYTES source_old source_new
-EndsAs WriteFault frames source_old source_new sink_old sink_new = Completes (Reports (IsCutOff sink_old sink_new) frames) SCRIPT_BYTES source_old source_new
-EndsAs ReadFault frames source_old source_new sink_old sink_new = StopsReading (λ lines. Unit {0}) SCRIPT_BYTES source_old source_new
-EndsAs ScriptLimit frames source_old source_new sink_old sink_new = ReachesLimit (λ lines. Unit {0}) SCRIPT_BYTES source_old source_new
-EndsAs HostMemory frames source_old source_new sink_old sink_new = ReadsAtMost SCRIPT_BYTES source_old source_new
-EndsAs Usage frames source_old source_new sink_old sink_new = ⊥
+abbrev pub CheckEndsAs : Status → ℕ → Option (List ℕ) → Option (List ℕ) → Option (List ℕ) → Option (List ℕ) → Type 0
+CheckEndsAs Done frames source_old source_new sink_old sink_new = Completes (Reports (Appends sink_old sink_new) frames) SCRIPT_BYTES source_old source_new
+CheckEndsAs WriteFault frames source_old source_new sink_old sink_new = Completes (Reports (IsCutOff sink_old sink_new) frames) SCRIPT_BYTES source_old source_new
+CheckEndsAs ReadFault frames source_old source_new sink_old sink_new = StopsReading (λ lines. Unit {0}) SCRIPT_BYTES source_old source_new
+CheckEndsAs ScriptLimit frames source_old source_new sink_old sink_new = ReachesLimit (λ lines. Unit {0}) SCRIPT_BYTES source_old source_new
+CheckEndsAs HostMemory frames source_old source_new sink_old sink_new = ReadsAtMost SCRIPT_BYTES source_old source_new
+CheckEndsAs Usage frames source_old source_new sink_old sink_new = ⊥
 
 -- ---- a check that is under way
 
@@ -103,7 +103,7 @@ collecting = record {
 }
 
 -- the source gave bytes so far, and the lines of them that were fetched were read
-pub record IsUnderWay (frames : ℕ) (reader : Reader) (source_old source_now : Option (List ℕ)) (check : Check) : Type 0 where
+pub record IsBeingChecked (frames : ℕ) (reader : Reader) (source_old source_now : Option (List ℕ)) (check : Check) : Type 0 where
   pub lines : List (List ℕ)
   pub served : IsServed collecting 0 SCRIPT_BYTES reader source_old source_now (Some []) (Some []) lines
   pub checked : IsChecked frames check lines
@@ -116,13 +116,3 @@ StopsAs ScriptLimit frames source_old source_new check = ReachesLimit (λ lines.
 StopsAs HostMemory frames source_old source_new check = ReadsAtMost SCRIPT_BYTES source_old source_new
 StopsAs WriteFault frames source_old source_new check = ⊥
 StopsAs Usage frames source_old source_new check = ⊥
-
--- the status that reading ends with behind a line, if any
-abbrev pub lack : {T E : Type 0} → Result T E → Option Status
-lack (Ok x) = None
-lack (Err e) = Some HostMemory
-
--- the status of a check whose report was written, or not
-abbrev pub status_of : {T E : Type 0} → Result T E → Status
-status_of (Ok x) = Done
-status_of (Err e) = WriteFault

@@ -7,8 +7,8 @@ use Rattle.vm_model.specs.Machine.Machine.{Machine}
 use Rattle.eager_machine.specs.Machine.{HasPinnedFrame, pinned_frame}
 
 -- the numbers that were seen, as a map from own frames
-abbrev pub number_of : List (Option ℕ) → ℕ → Option ℕ
-number_of seen frame = get_or seen frame None
+abbrev pub number_seen : List (Option ℕ) → ℕ → Option ℕ
+number_seen seen frame = get_or seen frame None
 
 -- These are all frames of the pin with this name.
 abbrev pub HasFrames : Machine → ℕ → List ℕ → Type 0
@@ -28,5 +28,5 @@ pub record IsCleared (m : Machine) (was later : ℕ → Option ℕ) (freed : Lis
 -- The numbers of frames, and the frames of numbers: each list says the same.
 pub record AreInverse (told frames : List (Option ℕ)) : Type 0 where
   pub size : length frames ≡ length told
-  pub there : (frame k : ℕ) → number_of told frame ≡ Some k → number_of frames k ≡ Some frame
-  pub back : (frame k : ℕ) → number_of frames k ≡ Some frame → number_of told frame ≡ Some k
+  pub there : (frame k : ℕ) → number_seen told frame ≡ Some k → number_seen frames k ≡ Some frame
+  pub back : (frame k : ℕ) → number_seen frames k ≡ Some frame → number_seen told frame ≡ Some k

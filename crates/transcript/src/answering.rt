@@ -12,8 +12,8 @@ ghost use Rattle.vm_model.specs.Machine.Given.{GivesName};
 ghost use Rattle.vm_model.specs.Machine.Machine.{IsGoodMachine};
 ghost use Rattle.moving_machine.specs.Moving.{TellsNoFrames};
 ghost use Rattle.moving_machine.specs.Transcript.{Told};
-ghost use Rattle.eager_machine.specs.Machine.{machine_of};
-ghost use Rattle.transcript.specs.Seen.{number_of, Frees, HasFrames, IsCleared};
+ghost use Rattle.eager_machine.specs.Machine.{eager_machine_of};
+ghost use Rattle.transcript.specs.Seen.{number_seen, Frees, HasFrames, IsCleared};
 ghost use Rattle.transcript.specs.Hearing.{OwnStands, IsHeard, Hears, AreHeard, IsSame};
 
 use crate::lines::{address_in, is_line};
@@ -46,7 +46,7 @@ pub(crate) enum Heard {
 
 /// Returns the frames of the pages of a pin, in ascending order of the pages.
 fn frames_of(machine: &EagerMachine, pin: PinName) -> ArrayVec<u32, PIN_PAGES>
-    ensures { IsGoodMachine (machine_of machine.now) → HasFrames (machine_of machine.now) pin.0 result.items }
+    ensures { IsGoodMachine (eager_machine_of machine.now) → HasFrames (eager_machine_of machine.now) pin.0 result.items }
 {
     let mut frames: ArrayVec<u32, PIN_PAGES> = ArrayVec::new();
     for at in 0..PIN_PAGES as u64 {
@@ -60,7 +60,7 @@ fn frames_of(machine: &EagerMachine, pin: PinName) -> ArrayVec<u32, PIN_PAGES>
 
 /// Forgets the numbers of those of these frames that no pinned page has.
 fn forget(machine: &EagerMachine, numbers: &mut Numbers, freed: &[u32])
-    ensures cleared { IsCleared (machine_of machine.now) (number_of numbers.old) (number_of numbers.new) freed.now }
+    ensures cleared { IsCleared (eager_machine_of machine.now) (number_seen numbers.old) (number_seen numbers.new) freed.now }
     ensures len { length numbers.new ≡ length numbers.old }
 {
     let Some((frame, freed)) = freed.split_first() else {
@@ -72,7 +72,7 @@ fn forget(machine: &EagerMachine, numbers: &mut Numbers, freed: &[u32])
 
 /// Forgets the number of a frame if no pinned page has it.
 fn forget_one(machine: &EagerMachine, numbers: &mut Numbers, frame: u32)
-    ensures cleared { IsCleared (machine_of machine.now) (number_of numbers.old) (number_of numbers.new) (frame ∷ []) }
+    ensures cleared { IsCleared (eager_machine_of machine.now) (number_seen numbers.old) (number_seen numbers.new) (frame ∷ []) }
     ensures len { length numbers.new ≡ length numbers.old }
 {
     if !machine.is_pinned_frame(Tag(frame)) {
@@ -102,7 +102,7 @@ fn hear_answer(answer: Answer<'_>, line: &[u8], room: &mut [u8]) -> Heard
 #[inline(never)]
 fn hear_frames(numbers: &mut Numbers, frames: &[u64], line: &[u8]) -> bool
     requires { AllByRecursion (λ frame. frame < length numbers.old) frames.now }
-    ensures heard { AreHeard (length numbers.old) (number_of numbers.old) (number_of numbers.new) frames.now (line.now ++ codes "\n") result }
+    ensures heard { AreHeard (length numbers.old) (number_seen numbers.old) (number_seen numbers.new) frames.now (line.now ++ codes "\n") result }
     ensures len { length numbers.new ≡ length numbers.old }
 {
     match read_pins(line) {
@@ -115,7 +115,7 @@ fn hear_frames(numbers: &mut Numbers, frames: &[u64], line: &[u8]) -> bool
 fn see_told(numbers: &mut Numbers, frames: &[u64], told: &[u64]) -> bool
     requires { AllByRecursion (λ frame. frame < length numbers.old) frames.now }
     ensures heard { (line : List ℕ) → reply_lines (Reply.Pins told.now) ≡ line ∷ []
-        → AreHeard (length numbers.old) (number_of numbers.old) (number_of numbers.new) frames.now line result }
+        → AreHeard (length numbers.old) (number_seen numbers.old) (number_seen numbers.new) frames.now line result }
     ensures len { length numbers.new ≡ length numbers.old }
 {
     numbers.see_all(frames, told)
@@ -129,7 +129,7 @@ fn hear_call(
     line: &[u8],
     rooms: &mut Rooms,
 ) -> Result<Heard, HostMemory>
-    requires stands { (frames : ℕ) × (before : List Told) × OwnStands frames own.old before × ((machine_of own.old.machine).state.content.next < KOIDS) }
+    requires stands { (frames : ℕ) × (before : List Told) × OwnStands frames own.old before × ((eager_machine_of own.old.machine).state.content.next < KOIDS) }
     requires gives { GivesName (command_of call.now) }
     requires other { line.now ≢ codes "HOST_MEMORY" }
     ensures heard { (frames : ℕ) (before : List Told) (pending : List ℕ) → OwnStands frames own.old before → reading pending ≡ Order (command_of call.now)
@@ -151,7 +151,7 @@ fn hear_unpin(
     line: &[u8],
     rooms: &mut Rooms,
 ) -> Result<Heard, HostMemory>
-    requires stands { (frames : ℕ) × (before : List Told) × OwnStands frames own.old before × ((machine_of own.old.machine).state.content.next < KOIDS) }
+    requires stands { (frames : ℕ) × (before : List Told) × OwnStands frames own.old before × ((eager_machine_of own.old.machine).state.content.next < KOIDS) }
     requires unpins { call.now ≡ Call.VmoUnpin pin }
     requires gives { GivesName (command_of call.now) }
     requires other { line.now ≢ codes "HOST_MEMORY" }
@@ -170,9 +170,9 @@ fn hear_reply(
     line: &[u8],
     rooms: &mut Rooms,
 ) -> Result<Heard, HostMemory>
-    requires stands { (frames : ℕ) × (before : List Told) × OwnStands frames own.old before × ((machine_of own.old.machine).state.content.next < KOIDS) }
+    requires stands { (frames : ℕ) × (before : List Told) × OwnStands frames own.old before × ((eager_machine_of own.old.machine).state.content.next < KOIDS) }
     requires gives { GivesName (command_of call.now) }
-    requires freed { IsGoodMachine (machine_of own.old.machine) → Frees (machine_of own.old.machine) (command_of call.now) freed.now }
+    requires freed { IsGoodMachine (eager_machine_of own.old.machine) → Frees (eager_machine_of own.old.machine) (command_of call.now) freed.now }
     requires other { line.now ≢ codes "HOST_MEMORY" }
     ensures heard { (frames : ℕ) (before : List Told) (pending : List ℕ) → OwnStands frames own.old before → reading pending ≡ Order (command_of call.now)
         → MatchResult result (λ heard. IsHeard frames own.old own.new pending before (line.now ++ codes "\n") heard) (λ lack. IsSame own.old own.new) }
@@ -208,7 +208,7 @@ fn hear_order(
     rooms: &mut Rooms,
 ) -> Result<Heard, HostMemory>
     requires gives { GivesName (command_of call.now) }
-    requires stands { (frames : ℕ) × (before : List Told) × OwnStands frames own.old before × ((machine_of own.old.machine).state.content.next < KOIDS) }
+    requires stands { (frames : ℕ) × (before : List Told) × OwnStands frames own.old before × ((eager_machine_of own.old.machine).state.content.next < KOIDS) }
     ensures { (frames : ℕ) (before : List Told) (pending : List ℕ) → OwnStands frames own.old before → reading pending ≡ Order (command_of call.now)
         → MatchResult result (λ heard. IsHeard frames own.old own.new pending before (line.now ++ codes "\n") heard) (λ lack. IsSame own.old own.new) }
 {
@@ -227,7 +227,7 @@ pub(crate) fn hear(
     written: &mut [u8],
     rooms: &mut Rooms,
 ) -> Result<Heard, HostMemory>
-    requires stands { (frames : ℕ) × (before : List Told) × OwnStands frames own.old before × ((machine_of own.old.machine).state.content.next < KOIDS) }
+    requires stands { (frames : ℕ) × (before : List Told) × OwnStands frames own.old before × ((eager_machine_of own.old.machine).state.content.next < KOIDS) }
     requires asks { reading pending.now ≢ Blank }
     requires room { DATA_BYTES ≤ length written.old }
     ensures heard { (frames : ℕ) (before : List Told) → OwnStands frames own.old before

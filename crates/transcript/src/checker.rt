@@ -2,10 +2,10 @@
 
 ghost use Rattle.std.specs.Prelude.{◌≡◌, ◌↔◌, ◌^◌, ◌<◌, ◌≤◌, ◌++◌, ◌∷◌, [], ℕ, List, true, codes, length, IsTrue, MatchResult};
 ghost use Rattle.vm_base.specs.declared.limits.TheConstants.{FRAMES, LINE_BYTES};
-ghost use Rattle.eager_machine.specs.Machine.{machine_of};
+ghost use Rattle.eager_machine.specs.Machine.{eager_machine_of};
 ghost use Rattle.moving_machine.specs.Transcript.{Told, Asked, Answered, AreWhole};
 ghost use Rattle.transcript.specs.Checking.{IsDue};
-ghost use Rattle.transcript.specs.Seen.{number_of};
+ghost use Rattle.transcript.specs.Seen.{number_seen};
 ghost use Rattle.transcript.specs.Hearing.{IsHeard};
 ghost use Rattle.transcript.specs.declared.answering.Own.{Own};
 ghost use Rattle.transcript.specs.Verdicts.{IsAt, HasRead, IsJudged, IsVerdict};
@@ -192,7 +192,7 @@ impl Checker {
     /// Goes on behind a first line of a reply.
     fn settle(&mut self, heard: Heard) -> Verdict
         ensures { (frames : ℕ) (tells : List Told) (line : List ℕ) (old : Own) → 1 ≤ frames → frames ≤ FRAMES → self.old.frames ≡ frames → self.old.filled ≡ true
-            → (due : IsDue frames (machine_of old.machine) (number_of old.numbers) self.old.pending.items tells)
+            → (due : IsDue frames (eager_machine_of old.machine) (number_seen old.numbers) self.old.pending.items tells)
             → IsHeard frames old self.old.own self.old.pending.items due.before line heard → IsJudged frames self.new tells (Answered line) result }
     {
         match heard {

@@ -6,7 +6,8 @@ ghost use Rattle.script_io.specs.Faults.{HasFailed, IsCutOff};
 ghost use Rattle.vm_base.specs.declared.limits.TheConstants.{FRAMES, SCRIPT_BYTES};
 ghost use Rattle.served.specs.Words.{frames_asked};
 ghost use Rattle.served.specs.Serving.{IsReady, bytes_left};
-ghost use Rattle.transcript.specs.Reports.{EndsAs, IsUnderWay, StopsAs, IsChecked, Reports, lack, status_of};
+ghost use Rattle.transcript.specs.Reports.{CheckEndsAs, IsBeingChecked, StopsAs, IsChecked, Reports};
+ghost use Rattle.script_io.specs.Ending.{memory_failure, status_of_writing};
 
 use crate::reports::{Check, REPORT_BYTES, write_report};
 use script_io::{Fetch, Lines, Sink, Source, Status, push_all};
@@ -16,7 +17,7 @@ use vm_base::{Failed, HostMemory, SCRIPT_BYTES};
 
 /// Returns the status that reading ends with behind a line: one if the host had too little memory for it, else none.
 fn lack(read: Result<(), HostMemory>) -> Option<Status>
-    ensures { result ≡ lack read }
+    ensures { result ≡ memory_failure read }
 {
     match read {
         Ok(()) => None,
@@ -26,7 +27,7 @@ fn lack(read: Result<(), HostMemory>) -> Option<Status>
 
 /// Returns the status of a check whose report was written, or not.
 fn status_of(pushed: Result<(), Failed>) -> Status
-    ensures { result ≡ status_of pushed }
+    ensures { result ≡ status_of_writing pushed }
 {
     match pushed {
         Ok(()) => Status::Done,
@@ -38,9 +39,9 @@ fn status_of(pushed: Result<(), Failed>) -> Status
 fn read_next<S: Source>(check: &mut Check, lines: &mut Lines, source: &mut S) -> Option<Status>
     requires ready { IsReady lines.old (S.remaining source.old) (check.old.lines + 1) }
     requires limit { lines.old.limit ≡ SCRIPT_BYTES }
-    requires way { (frames : ℕ) × (source_old : Option (List ℕ)) × IsUnderWay frames lines.old source_old (S.remaining source.old) check.old }
-    ensures way { (frames : ℕ) (source_old : Option (List ℕ)) → IsUnderWay frames lines.old source_old (S.remaining source.old) check.old
-        → MatchOption result (IsUnderWay frames lines.new source_old (S.remaining source.new) check.new)
+    requires way { (frames : ℕ) × (source_old : Option (List ℕ)) × IsBeingChecked frames lines.old source_old (S.remaining source.old) check.old }
+    ensures way { (frames : ℕ) (source_old : Option (List ℕ)) → IsBeingChecked frames lines.old source_old (S.remaining source.old) check.old
+        → MatchOption result (IsBeingChecked frames lines.new source_old (S.remaining source.new) check.new)
         (λ status. StopsAs status frames source_old (S.remaining source.new) check.new) }
     ensures ready { IfNone result (IsReady lines.new (S.remaining source.new) (check.new.lines + 1)) }
     ensures few { result ≡ Some Status.Done → check.new.lines ≤ SCRIPT_BYTES }
@@ -65,8 +66,8 @@ fn read_next<S: Source>(check: &mut Check, lines: &mut Lines, source: &mut S) ->
 fn read_all<S: Source>(check: &mut Check, lines: &mut Lines, source: &mut S) -> Status
     requires ready { IsReady lines.old (S.remaining source.old) (check.old.lines + 1) }
     requires limit { lines.old.limit ≡ SCRIPT_BYTES }
-    requires way { (frames : ℕ) × IsUnderWay frames lines.old (S.remaining source.old) (S.remaining source.old) check.old }
-    ensures way { (frames : ℕ) → IsUnderWay frames lines.old (S.remaining source.old) (S.remaining source.old) check.old
+    requires way { (frames : ℕ) × IsBeingChecked frames lines.old (S.remaining source.old) (S.remaining source.old) check.old }
+    ensures way { (frames : ℕ) → IsBeingChecked frames lines.old (S.remaining source.old) (S.remaining source.old) check.old
         → StopsAs result frames (S.remaining source.old) (S.remaining source.new) check.new }
     ensures few { result ≡ Status.Done → check.new.lines ≤ SCRIPT_BYTES }
     ensures cause { result ≡ Status.ReadFault → HasFailed (S.faults source.old) (S.faults source.new) }
@@ -82,7 +83,7 @@ fn read_all<S: Source>(check: &mut Check, lines: &mut Lines, source: &mut S) -> 
 /// Checks a transcript on a machine with `frames` page frames.
 fn check_on<S: Source, K: Sink>(alloc: Global, frames: u32, source: &mut S, sink: &mut K) -> Status
     requires { 1 ≤ frames × frames ≤ FRAMES }
-    ensures ends { EndsAs result frames (S.remaining source.old) (S.remaining source.new) (K.contents sink.old) (K.contents sink.new) }
+    ensures ends { CheckEndsAs result frames (S.remaining source.old) (S.remaining source.new) (K.contents sink.old) (K.contents sink.new) }
     ensures read_cause { result ≡ Status.ReadFault → HasFailed (S.faults source.old) (S.faults source.new) }
     ensures write_cause { result ≡ Status.WriteFault → HasFailed (K.faults sink.old) (K.faults sink.new) }
     ensures unwritten { result ≢ Status.Done → result ≢ Status.WriteFault → sink.new ≡ sink.old }
@@ -106,9 +107,9 @@ fn read_and_report<S: Source, K: Sink>(
 ) -> Status
     requires ready { IsReady lines.old (S.remaining source.old) (check.old.lines + 1) }
     requires limit { lines.old.limit ≡ SCRIPT_BYTES }
-    requires way { (frames : ℕ) × IsUnderWay frames lines.old (S.remaining source.old) (S.remaining source.old) check.old }
-    ensures ends { (frames : ℕ) → IsUnderWay frames lines.old (S.remaining source.old) (S.remaining source.old) check.old
-        → EndsAs result frames (S.remaining source.old) (S.remaining source.new) (K.contents sink.old) (K.contents sink.new) }
+    requires way { (frames : ℕ) × IsBeingChecked frames lines.old (S.remaining source.old) (S.remaining source.old) check.old }
+    ensures ends { (frames : ℕ) → IsBeingChecked frames lines.old (S.remaining source.old) (S.remaining source.old) check.old
+        → CheckEndsAs result frames (S.remaining source.old) (S.remaining source.new) (K.contents sink.old) (K.contents sink.new) }
     ensures read_cause { result ≡ Status.ReadFault → HasFailed (S.faults source.old) (S.faults source.new) }
     ensures write_cause { result ≡ Status.WriteFault → HasFailed (K.faults sink.old) (K.faults sink.new) }
     ensures unwritten { result ≢ Status.Done → result ≢ Status.WriteFault → sink.new ≡ sink.old }
@@ -123,7 +124,7 @@ fn read_and_report<S: Source, K: Sink>(
 fn push_report<K: Sink>(check: &Check, sink: &mut K) -> Status
     requires { check.now.lines ≤ SCRIPT_BYTES }
     ensures ends { (frames : ℕ) (source_old source_new : Option (List ℕ)) → StopsAs Status.Done frames source_old source_new check.now
-        → EndsAs result frames source_old source_new (K.contents sink.old) (K.contents sink.new) }
+        → CheckEndsAs result frames source_old source_new (K.contents sink.old) (K.contents sink.new) }
     ensures no_read { result ≢ Status.ReadFault }
     ensures either { (result ≡ Status.Done) ⊎ (result ≡ Status.WriteFault) }
     ensures cause { result ≡ Status.WriteFault → HasFailed (K.faults sink.old) (K.faults sink.new) }
@@ -154,7 +155,7 @@ pub fn run_check<S: Source, K: Sink>(
 ) -> Status
     // What each status says of the bytes that the source gave and the bytes that the sink took.
     ensures ends { IfSome (frames_asked (codes "check") words.now) (λ frames.
-        EndsAs result frames (S.remaining source.old) (S.remaining source.new) (K.contents sink.old) (K.contents sink.new)) }
+        CheckEndsAs result frames (S.remaining source.old) (S.remaining source.new) (K.contents sink.old) (K.contents sink.new)) }
 
     // A fault is answered only if the source or the sink failed.
     ensures read_cause { result ≡ Status.ReadFault → HasFailed (S.faults source.old) (S.faults source.new) }

@@ -4,7 +4,7 @@ ghost use Rattle.std.specs.Prelude.{◌≡◌, ◌<◌, ◌≤◌, ℕ, List, Op
 ghost use Rattle.std.specs.List.{AllByRecursion};
 ghost use Rattle.vm_base.specs.Entries.{with_key, without_key};
 ghost use Rattle.moving_machine.specs.Standing.{may_have, may_tell, with_seen};
-ghost use Rattle.transcript.specs.Seen.{number_of};
+ghost use Rattle.transcript.specs.Seen.{number_seen};
 
 use std::alloc::Global;
 use std::marker::Model;
@@ -55,7 +55,7 @@ impl Numbers {
 
     /// Reports whether a frame may have a number: the one that was seen of it, or else one that no frame has.
     fn may_have(&self, frame: u64, number: u64) -> bool
-        ensures { result ≡ may_have (length self.now) (number_of self.now) (number_of self.now frame) number }
+        ensures { result ≡ may_have (length self.now) (number_seen self.now) (number_seen self.now frame) number }
     {
         match value_at(&self.told, frame) {
             Some(seen) => seen == number,
@@ -66,8 +66,8 @@ impl Numbers {
     /// Sees a number of a frame that may have it.
     fn see(&mut self, frame: u64, number: u64)
         requires inside { frame < length self.old }
-        requires may { may_have (length self.old) (number_of self.old) (number_of self.old frame) number ≡ true }
-        ensures seen { number_of self.new ≡ with_key (number_of self.old) frame number }
+        requires may { may_have (length self.old) (number_seen self.old) (number_seen self.old frame) number ≡ true }
+        ensures seen { number_seen self.new ≡ with_key (number_seen self.old) frame number }
         ensures len { length self.new ≡ length self.old }
     {
         put(&mut self.told, frame, Some(number));
@@ -76,7 +76,7 @@ impl Numbers {
 
     /// Forgets the number of a frame.
     pub(crate) fn forget(&mut self, frame: u64)
-        ensures gone { number_of self.new ≡ without_key (number_of self.old) frame }
+        ensures gone { number_seen self.new ≡ without_key (number_seen self.old) frame }
         ensures len { length self.new ≡ length self.old }
     {
         let Some(number) = value_at(&self.told, frame) else {
@@ -90,8 +90,8 @@ impl Numbers {
     /// may. If not, some of them are seen.
     pub(crate) fn see_all(&mut self, frames: &[u64], numbers: &[u64]) -> bool
         requires { AllByRecursion (λ frame. frame < length self.old) frames.now }
-        ensures may { result ≡ may_tell (length self.old) (number_of self.old) frames.now numbers.now }
-        ensures seen { IsTrue result → number_of self.new ≡ with_seen (number_of self.old) frames.now numbers.now }
+        ensures may { result ≡ may_tell (length self.old) (number_seen self.old) frames.now numbers.now }
+        ensures seen { IsTrue result → number_seen self.new ≡ with_seen (number_seen self.old) frames.now numbers.now }
         ensures len { length self.new ≡ length self.old }
     {
         let Some((frame, frames)) = frames.split_first() else {
@@ -117,7 +117,7 @@ fn empty(alloc: Global, frames: u32) -> Result<Vec<Option<u64>>, HostMemory>
 
 /// Returns the value at a place, if there is one.
 fn value_at(values: &Vec<Option<u64>>, at: u64) -> Option<u64>
-    ensures { result ≡ number_of values.now.items at }
+    ensures { result ≡ number_seen values.now.items at }
 {
     match values.get(at as usize) {
         Some(value) => *value,

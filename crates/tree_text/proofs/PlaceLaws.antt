@@ -4,18 +4,18 @@ use Rattle.vm_base.proofs.EntryLaws.{some_same}
 use Rattle.cow_arena.specs.declared.node.NodeId.{NodeId}
 use Rattle.cow_arena.specs.declared.node.Node.{Node}
 use Rattle.cow_arena.specs.declared.node.Side.{Side}
-use Rattle.cow_arena.specs.Nodes.{Nodes, link_to, parent_in, side_in, child_on}
+use Rattle.cow_arena.specs.Nodes.{Nodes, link_to, parent_node_in, side_in, child_on}
 use Rattle.cow_arena.specs.Forest.{IsForest}
 use Rattle.cow_arena.proofs.ReachLaws.{side-of-parent}
 use Rattle.tree_text.specs.Order.{Place, joined_place, place_below_parent, climbed, climb}
 
 pub place-none : (nodes : Nodes) (k : ℕ) (node : Node) → nodes k ≡ Some node → node.parent ≡ None → place_below_parent nodes k ≡ None
-place-none nodes k node at none = ap (λ o. joined_place o (side_in nodes k)) (ap parent_in at ∙ none)
+place-none nodes k node at none = ap (λ o. joined_place o (side_in nodes k)) (ap parent_node_in at ∙ none)
 
 pub place-some : (nodes : Nodes) (k : ℕ) (node : Node) (parent : NodeId) (side : Side) → nodes k ≡ Some node → node.parent ≡ Some parent →
     side_in nodes k ≡ Some side → place_below_parent nodes k ≡ Some (parent, side)
 place-some nodes k node parent side at is side_is =
-    ap (λ o. joined_place o (side_in nodes k)) (ap parent_in at ∙ is) ∙ ap (joined_place (Some parent)) side_is
+    ap (λ o. joined_place o (side_in nodes k)) (ap parent_node_in at ∙ is) ∙ ap (joined_place (Some parent)) side_is
 
 -- node k stands there, further down than its parent
 pub record StandsAt (nodes : Nodes) (rank : ℕ → ℕ) (k : ℕ) (place : Place) : Type 0 where
@@ -47,7 +47,7 @@ module _ (nodes : Nodes) (lists : ℕ) (f : IsForest nodes lists) where
           })
 
       with_node : (o : Option Node) → nodes k ≡ o → StandsAt nodes f.rank k place
-      with_node None e = absurd (let none : place_below_parent nodes k ≡ None = ap (λ o. joined_place (parent_in o) (side_in nodes k)) e in cc)
+      with_node None e = absurd (let none : place_below_parent nodes k ≡ None = ap (λ o. joined_place (parent_node_in o) (side_in nodes k)) e in cc)
       with_node (Some node) e = with_parent node e node.parent refl
 
   -- a node of the least rank stands nowhere

@@ -5,7 +5,7 @@ use Rattle.cow_arena.specs.declared.node.NodeId.{NodeId}
 use Rattle.cow_arena.specs.declared.node.Node.{Node}
 use Rattle.cow_arena.specs.declared.node.Side.{Side}
 use Rattle.cow_arena.specs.declared.node.Side.TheVariants as side
-use Rattle.cow_arena.specs.Nodes.{Nodes, nodes_of, link_to, parent_in, side_in}
+use Rattle.cow_arena.specs.Nodes.{Nodes, nodes_of, link_to, parent_node_in, side_in}
 use Rattle.cow_forest.specs.Tables.{node_in}
 use Rattle.cow_forest.specs.Store.{Forest}
 
@@ -22,7 +22,7 @@ joined_place (Some parent) (Some side) = Some (parent, side)
 
 -- the place of node k. None if it has no parent
 abbrev pub place_below_parent : Nodes → ℕ → Option Place
-place_below_parent nodes k = joined_place (parent_in (nodes k)) (side_in nodes k)
+place_below_parent nodes k = joined_place (parent_node_in (nodes k)) (side_in nodes k)
 
 module _ {A : Type 0} (nodes : Nodes) (at_root : ℕ → A) (step : Place → A → A) where
   abbrev pub climbed : (ℕ → A) → ℕ → Option Place → A

@@ -12,7 +12,7 @@ use Rattle.cow_arena.specs.declared.node.Side.TheVariants as side
 use Rattle.cow_arena.specs.Nodes.{Nodes, node_above}
 use Rattle.cow_arena.specs.Counts.{hidden_count}
 use Rattle.cow_arena.specs.Walk.{Tree}
-use Rattle.cow_forest.specs.Store.{Forest, tree, content_of}
+use Rattle.cow_forest.specs.Store.{Forest, tree, forest_content}
 use Rattle.tree_text.specs.Order.{Place, place_below_parent, climb, all_nodes}
 use Rattle.tree_text.specs.declared.lines.Form.{Form}
 use Rattle.tree_text.specs.declared.lines.Form.TheVariants as form
@@ -104,7 +104,7 @@ lines_text form t (k ∷ nodes) = text_of_node form t k (t.nodes k) ++ lines_tex
 
 -- how many VMOs, hidden nodes and rows there are
 abbrev pub counts_text : Forest → List ℕ
-counts_text f = codes "#" ++ field (codes "vmos") (vmos_of (content_of f)) ++ field (codes "hidden") (hidden_count f.arena)
+counts_text f = codes "#" ++ field (codes "vmos") (vmos_of (forest_content f)) ++ field (codes "hidden") (hidden_count f.arena)
     ++ field (codes "rows") (row_count f.rows) ++ codes "\n"
 
 abbrev pub open_text : Form → List ℕ

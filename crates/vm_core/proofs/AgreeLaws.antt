@@ -6,7 +6,7 @@ use Rattle.vm_model.specs.declared.space.Readiness.{Readiness}
 use Rattle.vm_model.specs.Machine.State.{State, IsGoodState}
 use Rattle.vm_model.specs.Machine.Machine.{Machine, IsGoodMachine}
 use Rattle.fault.specs.declared.translation.Translation.{Translation}
-use Rattle.fault.specs.Table.{Places, places_of, ready_of, AreTrue}
+use Rattle.fault.specs.Table.{Places, translations_of, ready_of, AreTrue}
 use Rattle.fault.proofs.WrittenLaws.{ready_of-some}
 use Rattle.vm_core.specs.Vm.{Parts, state_of, machine_of, Agrees}
 
@@ -35,4 +35,4 @@ IsGoodMachine-from s places good true_of = record {
 
 -- so are parts that agree with a store
 pub agrees_good : (c : Content) (vm : Parts) → Agrees c vm → IsGoodMachine (machine_of c vm)
-agrees_good c vm agrees = IsGoodMachine-from (state_of c vm) (places_of vm.translations) agrees.good agrees.translations
+agrees_good c vm agrees = IsGoodMachine-from (state_of c vm) (translations_of vm.translations) agrees.good agrees.translations

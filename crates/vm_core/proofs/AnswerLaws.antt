@@ -10,7 +10,7 @@ use Rattle.vm_model.specs.Machine.MachineStep.{MachineStep}
 use Rattle.vm_model.proofs.MachineLaws.{KeepsMachine, MachineStep-keeps}
 use Rattle.mapping_set.specs.Tables.{table_of}
 use Rattle.vmo_table.specs.Table.{IsWellCounted}
-use Rattle.fault.specs.Table.{Table as Translations, Places, places_of, ready_of, AreTrue}
+use Rattle.fault.specs.Table.{Table as Translations, Places, translations_of, ready_of, AreTrue}
 use Rattle.vm_core.specs.declared.groups.Group.{Group}
 use Rattle.vm_core.specs.declared.vm.Vm.TheInside.{Inside}
 use Rattle.vm_core.specs.inside.Calls.{Handles, DoesAccess}
@@ -42,7 +42,7 @@ pub record Answers (c : Content) (vm : Parts) (command : Command) (reply : Reply
 
 module _ (c : Content) (vm : Parts) (command : Command) (reply : Reply) (d : Content) (vm_new : Parts) (agrees : Agrees c vm) where
   -- by a step that leaves the translations true
-  answered : GivesName command → MachineStep (machine_of c vm) command reply (machine_of d vm_new) → AreTrue d (table_of vm_new.maps) (places_of vm_new.translations)
+  answered : GivesName command → MachineStep (machine_of c vm) command reply (machine_of d vm_new) → AreTrue d (table_of vm_new.maps) (translations_of vm_new.translations)
       → Answers c vm command reply d vm_new
   answered name step true_of =
       let keeps = MachineStep-keeps (machine_of c vm) command reply (machine_of d vm_new) (agrees_good c vm agrees) name step in
@@ -50,19 +50,19 @@ module _ (c : Content) (vm : Parts) (command : Command) (reply : Reply) (d : Con
 
   -- a command that is no access
   command_answered : IsNoAccess command
-      → Handles c vm.vmos vm.pins (spaces_in vm) (places_of vm.translations) command reply d vm_new.vmos vm_new.pins (spaces_in vm_new) (places_of vm_new.translations)
+      → Handles c vm.vmos vm.pins (spaces_in vm) (translations_of vm.translations) command reply d vm_new.vmos vm_new.pins (spaces_in vm_new) (translations_of vm_new.translations)
       → Answers c vm command reply d vm_new
   command_answered access handles =
       let new = state_of d vm_new in
-      let step = steps_so (state_of c vm) (places_of vm.translations) command reply new agrees.good agrees.translations handles.name access handles.step in
-      let true_of = true_of_new (state_of c vm) (places_of vm.translations) command reply new agrees.good agrees.translations handles.name access handles.step in
+      let step = steps_so (state_of c vm) (translations_of vm.translations) command reply new agrees.good agrees.translations handles.name access handles.step in
+      let true_of = true_of_new (state_of c vm) (translations_of vm.translations) command reply new agrees.good agrees.translations handles.name access handles.step in
       answered handles.name
       (subst (λ (places : Places). MachineStep (machine_of c vm) command reply (record { state = new; ready = ready_of places })) (sym handles.left) step)
       (subst (λ (places : Places). AreTrue d (table_of vm_new.maps) places) (sym handles.left) true_of)
 
 -- an access
 pub access_answered : (c : Content) (vm : Parts) (command : Command) (reply : Reply) (d : Content) (translations : Translations) → Agrees c vm
-    → DoesAccess (spaces_in vm) c (places_of vm.translations) command reply d (places_of translations) → Answers c vm command reply d (record vm { translations = translations })
+    → DoesAccess (spaces_in vm) c (translations_of vm.translations) command reply d (translations_of translations) → Answers c vm command reply d (record vm { translations = translations })
 access_answered c vm command reply d translations agrees does =
     answered c vm command reply d (record vm { translations = translations }) agrees does.name (does.step (state_of c vm)) does.translations
 
@@ -75,7 +75,7 @@ module _ (c : Content) (inside : Inside) (agrees : Agrees c (parts_of inside)) (
 
   -- the machine was handled by a call of such a group
   pub handled : (call : Call) (group : Group) → group_of call ≡ group → IsOther group → (reply : Reply) (d : Content) (vm : Parts)
-      → Handles c inside.vmos inside.pins (spaces_in (parts_of inside)) (places_of inside.translations) (command_of call) reply
-      d vm.vmos vm.pins (spaces_in vm) (places_of vm.translations) → Answers c (parts_of inside) (command_of call) reply d vm
+      → Handles c inside.vmos inside.pins (spaces_in (parts_of inside)) (translations_of inside.translations) (command_of call) reply
+      d vm.vmos vm.pins (spaces_in vm) (translations_of vm.translations) → Answers c (parts_of inside) (command_of call) reply d vm
   handled call group is other reply d vm handles =
       command_answered c (parts_of inside) (command_of call) reply d vm agrees (no_access call (subst IsOther (sym is) other)) handles

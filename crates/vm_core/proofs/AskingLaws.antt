@@ -11,7 +11,7 @@ use Rattle.vm_model.specs.declared.names.Target.{Target}
 use Rattle.vm_model.specs.Machine.State.{State, is_open, name_pages}
 use Rattle.vm_model.specs.Machine.Attribution.{info_at}
 use Rattle.vm_model.proofs.NamesLaws.{target_of-at}
-use Rattle.vmo_table.specs.Table.{Table as Vmos, names_of, with_vmos}
+use Rattle.vmo_table.specs.Table.{Vmos, names_of, with_vmos}
 use Rattle.vmo_ops.proofs.StepRows.{first_of-skip, Step-done, open_at, size_of-at}
 use Rattle.vm_core.specs.inside.Calls.{StepsVmos}
 

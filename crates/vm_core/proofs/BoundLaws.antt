@@ -38,7 +38,7 @@ use Rattle.vm_model.proofs.ZeroesLaws.{zeroed-keeps, Zeroes-keeps}
 use Rattle.pages.specs.Names.{IsInside}
 use Rattle.pages.proofs.NameLaws.{name_few, IsInside-good}
 use Rattle.vm_model.proofs.ContentLaws.{pages_of_le}
-use Rattle.vm_core.specs.inside.Resets.{IsReached, IsShared}
+use Rattle.vm_core.specs.inside.Resets.{IsRangeInVmo, IsShared}
 use Rattle.vmo_ops.proofs.OutsideLaws.{LeavesOthers-owns}
 use Rattle.vm_core.proofs.StaysLaws.{count-copied, name_pages-copied}
 
@@ -46,12 +46,12 @@ use Rattle.vm_core.proofs.StaysLaws.{count-copied, name_pages-copied}
 abbrev pub bounds_of : State → Command → Content → Reply → Type 0
 bounds_of s (VmoChild name parent Snapshot offset size resizable no_write) c reply = IsShared c (target_of s parent.0) offset size
 bounds_of s (VmoSetSize name size) c reply = rounded size ≤ VMO_PAGES * PAGE
-bounds_of s (VmoWrite name offset bytes) c reply = IsReached c (target_of s name.0) offset (length bytes)
-bounds_of s (VmoFill name offset len byte) c reply = IsReached c (target_of s name.0) offset len
-bounds_of s (VmoCommit name offset len) c reply = IsReached c (target_of s name.0) offset len
-bounds_of s (VmoDecommit name offset len) c reply = IsReached c (target_of s name.0) offset len
-bounds_of s (VmoZero name offset len) c reply = IsReached c (target_of s name.0) offset len
-bounds_of s (VmoPin pin name offset len) c reply = IsReached c (target_of s name.0) offset len
+bounds_of s (VmoWrite name offset bytes) c reply = IsRangeInVmo c (target_of s name.0) offset (length bytes)
+bounds_of s (VmoFill name offset len byte) c reply = IsRangeInVmo c (target_of s name.0) offset len
+bounds_of s (VmoCommit name offset len) c reply = IsRangeInVmo c (target_of s name.0) offset len
+bounds_of s (VmoDecommit name offset len) c reply = IsRangeInVmo c (target_of s name.0) offset len
+bounds_of s (VmoZero name offset len) c reply = IsRangeInVmo c (target_of s name.0) offset len
+bounds_of s (VmoPin pin name offset len) c reply = IsRangeInVmo c (target_of s name.0) offset len
 bounds_of s (VmarMap region offset name vmo_offset len perm flags) c reply = (addr : ℕ) → reply ≡ Address addr → addr / PAGE + rounded len / PAGE ≤ PAGES_END
 bounds_of s (VmarUnmap region addr len) c reply = addr / PAGE + rounded len / PAGE ≤ PAGES_END
 bounds_of s (VmarProtect region addr len perm) c reply = addr / PAGE + rounded len / PAGE ≤ PAGES_END
@@ -62,7 +62,7 @@ bounds_of s command c reply = Unit {0}
 
 -- a range inside a name that is open, where the content keeps its VMOs
 range_bounded : (s : State) (c : Content) (name offset len : ℕ) → IsGoodState s → IsKept s.content c → IsSome (s.names name) → offset + len ≤ size_of s name
-    → IsReached c (target_of s name) offset len
+    → IsRangeInVmo c (target_of s name) offset len
 range_bounded s c name offset len good kept opened range =
     let target = target_of s name in
     let named = names-open s name opened in

@@ -10,10 +10,10 @@ use Rattle.vm_model.specs.Space.AddressSpaces.{Spaces, mapped_count}
 use Rattle.vm_model.specs.Machine.Given.{GivesName}
 use Rattle.vm_model.specs.Machine.State.{State}
 use Rattle.vm_model.specs.declared.names.Target.{Target}
-use Rattle.vmo_table.specs.Table.{Table as Vmos, names_of, keepers_of, with_vmos, AreParts, IsWellCounted}
-use Rattle.pin_table.specs.Table.{Table as Pins, pins_of}
+use Rattle.vmo_table.specs.Table.{Vmos, names_of, keepers_of, with_vmos, AreParts, IsWellCounted}
+use Rattle.pin_table.specs.Table.{Pins, pins_of}
 use Rattle.pages.specs.Names.{IsInside}
-use Rattle.vmo_ops.specs.Targets.{with_tables, AreTogether, Does as DoesNamed, DoesWith}
+use Rattle.vmo_ops.specs.Targets.{with_tables, AreTogether, DoesByName as DoesNamed, DoesWith}
 use Rattle.vmo_ops.proofs.NameLaws.{parts_inside}
 use Rattle.region_tree.specs.Tree.{spaces_of}
 use Rattle.region_ops.specs.Spaces.{AreAllWell, Does}

@@ -34,7 +34,7 @@ use Rattle.vm_model.proofs.NamesLaws.{names-open}
 use Rattle.vm_model.proofs.RegionLaws.{region_of-at}
 use Rattle.vm_model.proofs.StepLaws.{AllOff-from_none}
 use Rattle.fault.specs.declared.translation.Translation.{Translation}
-use Rattle.fault.specs.Table.{Places, ready_of, AreTrue, without, is_stale, is_at}
+use Rattle.fault.specs.Table.{Places, ready_of, AreTrue, translations_without, is_stale, is_at}
 use Rattle.vm_core.specs.inside.Resets.{with_read_only_but, left_after, IsNoAccess}
 use Rattle.vm_core.proofs.AgreeLaws.{machine_with}
 use Rattle.vmo_ops.proofs.OutsideLaws.{LeavesOthers-owns, ChangesWithin, ChangesWithin-wider, ChangesWithin-zeroed, touched_reaches, ChangesWithin-writes, ChangesWithin-owns, ChangesWithin-zeroes}
@@ -91,9 +91,9 @@ module _ (old : State) (places : Places) (good : IsGoodState old) (true_of : Are
 
   -- some pages in a row
   changed : (new : State) (v first count : ℕ) → new.spaces ≡ old.spaces → ChangesWithin v first (first + count) old.content new.content
-      → Fits new.content new.spaces.table (settled old.content new.content new.spaces.table (ready_of places)) (without (is_stale new.content v first (first + count)) places)
+      → Fits new.content new.spaces.table (settled old.content new.content new.spaces.table (ready_of places)) (translations_without (is_stale new.content v first (first + count)) places)
   changed new v first count same changes =
-      subst (λ (spaces : Spaces). Fits new.content spaces.table (settled old.content new.content spaces.table (ready_of places)) (without (is_stale new.content v first (first + count)) places))
+      subst (λ (spaces : Spaces). Fits new.content spaces.table (settled old.content new.content spaces.table (ready_of places)) (translations_without (is_stale new.content v first (first + count)) places))
       (sym same) (Fits-changed old.content old.spaces.table places true_of v first (first + count) new.content changes)
 
   -- a snapshot, of which some pages are owned
@@ -123,11 +123,11 @@ module _ (old : State) (places : Places) (good : IsGoodState old) (true_of : Are
 
   -- a mapping
   map_settles : (root first at count : ℕ) (entry : Entry) → first ≡ at → let new = pruned (record old { spaces = with_mapping old.spaces root first count entry }) in
-      Fits new.content new.spaces.table (unready (settled old.content new.content new.spaces.table (ready_of places)) root at (at + count)) (without (is_at root at (at + count)) places)
+      Fits new.content new.spaces.table (unready (settled old.content new.content new.spaces.table (ready_of places)) root at (at + count)) (translations_without (is_at root at (at + count)) places)
   unfolding pruned
   map_settles root first at count entry is =
       subst (λ (n : ℕ). let new = pruned (record old { spaces = with_mapping old.spaces root first count entry }) in
-      Fits new.content new.spaces.table (unready (settled old.content new.content new.spaces.table (ready_of places)) root n (n + count)) (without (is_at root n (n + count)) places)) is
+      Fits new.content new.spaces.table (unready (settled old.content new.content new.spaces.table (ready_of places)) root n (n + count)) (translations_without (is_at root n (n + count)) places)) is
       (Fits-mapped old places good true_of root first count entry)
 
   -- ---- each command

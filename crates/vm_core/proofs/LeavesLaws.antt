@@ -28,9 +28,9 @@ use Rattle.vm_model.proofs.RegionLaws.{region_of-at}
 use Rattle.vm_model.proofs.ZeroingLaws.{is_within-true, is_within-parts}
 use Rattle.pin_table.specs.Table.{IsNextPinned}
 use Rattle.fault.specs.declared.translation.Translation.{Translation}
-use Rattle.fault.specs.Table.{Places, without, with_read_only, restricted}
-use Rattle.vmo_table.specs.Table.{Table as Vmos, names_of, with_vmos}
-use Rattle.vm_core.specs.inside.Resets.{restricted_but, with_read_only_but, left_by, left_after, unless_refused, without_changed, IsFirstBelow, IsReached}
+use Rattle.fault.specs.Table.{Places, translations_without, with_read_only, restricted}
+use Rattle.vmo_table.specs.Table.{Vmos, names_of, with_vmos}
+use Rattle.vm_core.specs.inside.Resets.{restricted_but, with_read_only_but, left_by, left_after, unless_refused, without_changed, IsFirstBelow, IsRangeInVmo}
 use Rattle.vm_core.proofs.BoundLaws.{bounds_of, done_bounds}
 
 -- ---- ranges of bytes
@@ -52,10 +52,10 @@ touched_fit at (suc len) pages h = omega (arith, h, touched_count at (suc len) (
 
 -- ---- where no page is translated
 
-pub without_none : (goes : ℕ → ℕ → Translation → Bool) (places : Places) → ((root p : ℕ) → places root p ≡ None) → places ≡ without goes places
-unfolding without passes
+pub without_none : (goes : ℕ → ℕ → Translation → Bool) (places : Places) → ((root p : ℕ) → places root p ≡ None) → places ≡ translations_without goes places
+unfolding translations_without passes
 without_none goes places none = λ i root p. at root p i where
-  at : (root p : ℕ) → places root p ≡ without goes places root p
+  at : (root p : ℕ) → places root p ≡ translations_without goes places root p
   at root p = none root p ∙ ap (λ (o : Option Translation). cond {A = Option Translation} (passes (goes root p) o) None o) (sym (none root p))
 
 pub read_only_but_none : (stays : ℕ → Bool) (v first end : ℕ) (places : Places) → ((root p : ℕ) → places root p ≡ None)
@@ -232,5 +232,5 @@ module _ (s : State) (name : ℕ) (command : Command) {reply : Reply} {new : Sta
 
   -- a range of a name
   pub asked_range : {target : Target} (offset len : ℕ) → Some target ≡ s.names name → ((refusal : Refusal) → reply ≢ Refused refusal)
-      → (bounds_of s command new.content reply → IsReached new.content (target_of s name) offset len) → IsReached new.content target offset len
-  asked_range offset len named done bounds = asked_named (λ (target : Target). IsReached new.content target offset len) named done bounds
+      → (bounds_of s command new.content reply → IsRangeInVmo new.content (target_of s name) offset len) → IsRangeInVmo new.content target offset len
+  asked_range offset len named done bounds = asked_named (λ (target : Target). IsRangeInVmo new.content target offset len) named done bounds

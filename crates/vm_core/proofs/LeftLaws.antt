@@ -13,9 +13,9 @@ use Rattle.vm_model.specs.Space.Readiness.{Ready, frame_at, is_same_frame, keeps
 use Rattle.vm_model.proofs.ReadinessLaws.{keeps_frame-from, settled-kept, settled-changed}
 use Rattle.fault.specs.declared.translation.Translation.{Translation}
 use Rattle.vm_core.proofs.AgreeLaws.{readiness_of}
-use Rattle.fault.specs.Table.{Places, ready_of, frame_in, AreTrue, without, is_at}
+use Rattle.fault.specs.Table.{Places, ready_of, translated_frame, AreTrue, translations_without, is_at}
 use Rattle.vm_core.specs.inside.Resets.{restricted_but, with_read_only_but}
-use Rattle.fault.proofs.WrittenLaws.{without-some}
+use Rattle.fault.proofs.WrittenLaws.{translations_without-some}
 
 -- a page that is the same has the same frame
 pub frame_at-same : (c d : Content) (v p : ℕ) → d.page v p ≡ c.page v p → frame_at d v p ≡ frame_at c v p
@@ -83,44 +83,44 @@ module _ (ready : Ready) (root first end r p : ℕ) where
 pub record Fits (d : Content) (table : ℕ → ℕ → Option Entry) (ready : Ready) (left : Places) : Type 0 where
   pub are_ready : ready_of left ≡ ready
   pub entry : (root p : ℕ) (x : Translation) → left root p ≡ Some x → table root p ≡ Some x.entry
-  pub frame : (root p : ℕ) (x : Translation) → left root p ≡ Some x → frame_in x ≡ frame_at d x.entry.koid.0 x.entry.page
+  pub frame : (root p : ℕ) (x : Translation) → left root p ≡ Some x → translated_frame x ≡ frame_at d x.entry.koid.0 x.entry.page
 
 module _ (goes : ℕ → ℕ → Translation → Bool) (places : Places) (root p : ℕ) where
   -- where there was none before, there is none
-  without-none : places root p ≡ None → without goes places root p ≡ None
-  unfolding without
-  without-none e = cond-false _ _ _ (passes-none (goes root p) (places root p) e) ∙ e
+  translations_without-none : places root p ≡ None → translations_without goes places root p ≡ None
+  unfolding translations_without
+  translations_without-none e = cond-false _ _ _ (passes-none (goes root p) (places root p) e) ∙ e
 
   -- one that passes is gone
-  without-gone : (x : Translation) → places root p ≡ Some x → goes root p x ≡ true → without goes places root p ≡ None
-  unfolding without
-  without-gone x e on = cond-true _ _ _ (passes-some (goes root p) (places root p) x e ∙ on)
+  translations_without-gone : (x : Translation) → places root p ≡ Some x → goes root p x ≡ true → translations_without goes places root p ≡ None
+  unfolding translations_without
+  translations_without-gone x e on = cond-true _ _ _ (passes-some (goes root p) (places root p) x e ∙ on)
 
   -- another stays
-  without-stays : (x : Translation) → places root p ≡ Some x → goes root p x ≡ false → without goes places root p ≡ Some x
-  unfolding without
-  without-stays x e off = cond-false _ _ _ (passes-some (goes root p) (places root p) x e ∙ off) ∙ e
+  translations_without-stays : (x : Translation) → places root p ≡ Some x → goes root p x ≡ false → translations_without goes places root p ≡ Some x
+  unfolding translations_without
+  translations_without-stays x e off = cond-false _ _ _ (passes-some (goes root p) (places root p) x e ∙ off) ∙ e
 
 module _ (c d : Content) (old table : ℕ → ℕ → Option Entry) (places : Places) (good : AreTrue c old places) where
   -- a translation that stays holds the frame of its page
-  frame_left : (root p : ℕ) (x : Translation) → places root p ≡ Some x → StaysAt c d table root p x.entry → frame_in x ≡ frame_at d x.entry.koid.0 x.entry.page
+  frame_left : (root p : ℕ) (x : Translation) → places root p ≡ Some x → StaysAt c d table root p x.entry → translated_frame x ≡ frame_at d x.entry.koid.0 x.entry.page
   frame_left root p x e stays = good.frame root p x e ∙ sym stays.frame
 
   -- where some go
   Fits-without : (goes : ℕ → ℕ → Translation → Bool) (ready : Ready) → ((root p : ℕ) → places root p ≡ None → ready root p ≡ None)
       → ((root p : ℕ) (x : Translation) → places root p ≡ Some x → goes root p x ≡ true → ready root p ≡ None)
       → ((root p : ℕ) (x : Translation) → places root p ≡ Some x → goes root p x ≡ false → StaysAt c d table root p x.entry × (ready root p ≡ ready_of places root p))
-      → Fits d table ready (without goes places)
+      → Fits d table ready (translations_without goes places)
   Fits-without goes ready none gone stays = record {
     are_ready = λ i root p. each root p (places root p) refl i;
-    entry = λ root p x e. let was = without-some goes places root p x e in (stays root p x was.0 was.1).0.is;
-    frame = λ root p x e. let was = without-some goes places root p x e in frame_left root p x was.0 (stays root p x was.0 was.1).0;
+    entry = λ root p x e. let was = translations_without-some goes places root p x e in (stays root p x was.0 was.1).0.is;
+    frame = λ root p x e. let was = translations_without-some goes places root p x e in frame_left root p x was.0 (stays root p x was.0 was.1).0;
   } where
-    each : (root p : ℕ) (o : Option Translation) → places root p ≡ o → ready_of (without goes places) root p ≡ ready root p
-    each root p None e = ap readiness_of (without-none goes places root p e) ∙ sym (none root p e)
+    each : (root p : ℕ) (o : Option Translation) → places root p ≡ o → ready_of (translations_without goes places) root p ≡ ready root p
+    each root p None e = ap readiness_of (translations_without-none goes places root p e) ∙ sym (none root p e)
     each root p (Some x) e = elim (cases_Bool (goes root p x)) [
-      | inl on ↦ ap readiness_of (without-gone goes places root p x e on) ∙ sym (gone root p x e on)
-      | inr off ↦ ap readiness_of (without-stays goes places root p x e off ∙ sym e) ∙ sym (stays root p x e off).1
+      | inl on ↦ ap readiness_of (translations_without-gone goes places root p x e on) ∙ sym (gone root p x e on)
+      | inr off ↦ ap readiness_of (translations_without-stays goes places root p x e off ∙ sym e) ∙ sym (stays root p x e off).1
     ]
 
   -- where all stay
@@ -138,7 +138,7 @@ module _ (c d : Content) (old table : ℕ → ℕ → Option Entry) (places : Pl
   pub Fits-settled : (goes : ℕ → ℕ → Translation → Bool)
       → ((root p : ℕ) (x : Translation) → places root p ≡ Some x → goes root p x ≡ true → settled c d table (ready_of places) root p ≡ None)
       → ((root p : ℕ) (x : Translation) → places root p ≡ Some x → goes root p x ≡ false → StaysAt c d table root p x.entry)
-      → Fits d table (settled c d table (ready_of places)) (without goes places)
+      → Fits d table (settled c d table (ready_of places)) (translations_without goes places)
   Fits-settled goes gone stays =
       Fits-without goes (settled c d table (ready_of places)) (λ root p e. settled-none c d table (ready_of places) root p (ap readiness_of e)) gone
       (λ root p x e off. let left = stays root p x e off in (left, settled-stays c d table (ready_of places) root p x.entry left))
@@ -146,7 +146,7 @@ module _ (c d : Content) (old table : ℕ → ℕ → Option Entry) (places : Pl
   -- where the pages of a range are ready for nothing
   pub Fits-unready : (root first end : ℕ)
       → ((r p : ℕ) (x : Translation) → places r p ≡ Some x → is_at root first end r p x ≡ false → StaysAt c d table r p x.entry)
-      → Fits d table (unready (settled c d table (ready_of places)) root first end) (without (is_at root first end) places)
+      → Fits d table (unready (settled c d table (ready_of places)) root first end) (translations_without (is_at root first end) places)
   Fits-unready root first end stays =
       let kept = settled c d table (ready_of places) in
       Fits-without (is_at root first end) (unready kept root first end)
@@ -170,21 +170,21 @@ module _ (c d : Content) (old table : ℕ → ℕ → Option Entry) (places : Pl
     kept : Ready
     kept = settled c d table (ready_of places)
 
-    keeps : (x : Translation) → (x.entry ≡ (restricted_but exempt v first end x).entry) × (frame_in x ≡ frame_in (restricted_but exempt v first end x))
+    keeps : (x : Translation) → (x.entry ≡ (restricted_but exempt v first end x).entry) × (translated_frame x ≡ translated_frame (restricted_but exempt v first end x))
     keeps x = go (shows_but exempt v first end x.entry) where
-      go : (b : Bool) → let y : Translation = cond b (record x { readiness = Read }) x in (x.entry ≡ y.entry) × (frame_in x ≡ frame_in y)
+      go : (b : Bool) → let y : Translation = cond b (record x { readiness = Read }) x in (x.entry ≡ y.entry) × (translated_frame x ≡ translated_frame y)
       go true = (refl, refl)
       go false = (refl, refl)
 
     from : (root p : ℕ) (x : Translation) → option_map (restricted_but exempt v first end) (places root p) ≡ Some x
-        → (was : Translation) × (places root p ≡ Some was) × (was.entry ≡ x.entry) × (frame_in was ≡ frame_in x)
+        → (was : Translation) × (places root p ≡ Some was) × (was.entry ≡ x.entry) × (translated_frame was ≡ translated_frame x)
     from root p x e = go (places root p) refl e where
       go : (o : Option Translation) → places root p ≡ o → option_map (restricted_but exempt v first end) o ≡ Some x
-          → (was : Translation) × (places root p ≡ Some was) × (was.entry ≡ x.entry) × (frame_in was ≡ frame_in x)
+          → (was : Translation) × (places root p ≡ Some was) × (was.entry ≡ x.entry) × (translated_frame was ≡ translated_frame x)
       go None f g = absurd cc
       go (Some y) f g =
           let same : restricted_but exempt v first end y ≡ x = some_same g in
-          (y, f, (keeps y).0 ∙ ap (λ (z : Translation). z.entry) same, (keeps y).1 ∙ ap frame_in same)
+          (y, f, (keeps y).0 ∙ ap (λ (z : Translation). z.entry) same, (keeps y).1 ∙ ap translated_frame same)
 
     each : (root p : ℕ) (o : Option Translation) → places root p ≡ o
         → readiness_of (option_map (restricted_but exempt v first end) (places root p)) ≡ cond (passes (shows_but exempt v first end) (old root p)) (option_map (λ (r : Readiness). Read) (kept root p)) (kept root p)

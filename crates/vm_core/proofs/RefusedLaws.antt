@@ -10,8 +10,8 @@ use Rattle.vm_model.specs.Space.Regions.{region_of}
 use Rattle.vm_model.specs.Machine.Refusals.{refusals, first_of}
 use Rattle.vm_model.specs.Machine.State.{State}
 use Rattle.vm_model.proofs.RegionLaws.{region_of-at}
-use Rattle.vmo_table.specs.Table.{Table as Vmos}
-use Rattle.pin_table.specs.Table.{Table as Pins}
+use Rattle.vmo_table.specs.Table.{Vmos}
+use Rattle.pin_table.specs.Table.{Pins}
 use Rattle.vmo_ops.specs.Targets.{with_tables}
 use Rattle.region_ops.specs.Spaces.{with_all, with_spaces, Does}
 use Rattle.region_ops.proofs.PlaceLaws.{Step-refused}

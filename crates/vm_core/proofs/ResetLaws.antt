@@ -15,7 +15,7 @@ use Rattle.vm_model.specs.Machine.Machine.{IsGoodReady, IsGoodMachine}
 use Rattle.vm_model.specs.Machine.MachineStep.{MachineStep}
 use Rattle.vm_model.proofs.MachineLaws.{machine_step, MachineStep-keeps}
 use Rattle.fault.specs.declared.translation.Translation.{Translation}
-use Rattle.fault.specs.Table.{Places, ready_of, frame_in, AreTrue}
+use Rattle.fault.specs.Table.{Places, ready_of, translated_frame, AreTrue}
 use Rattle.vm_core.specs.inside.Resets.{left_after, IsNoAccess}
 use Rattle.vm_core.proofs.AgreeLaws.{machine_with, readiness_of, IsGoodMachine-from}
 use Rattle.vm_core.proofs.EffectLaws.{effect_settles}
@@ -23,7 +23,7 @@ use Rattle.vm_core.proofs.EffectLaws.{effect_settles}
 -- translations that fit to a good machine are true of it
 AreTrue-from : (s : State) (places : Places) → IsGoodMachine (machine_with s places)
     → ((root p : ℕ) (x : Translation) → places root p ≡ Some x → s.spaces.table root p ≡ Some x.entry)
-    → ((root p : ℕ) (x : Translation) → places root p ≡ Some x → frame_in x ≡ frame_at s.content x.entry.koid.0 x.entry.page)
+    → ((root p : ℕ) (x : Translation) → places root p ≡ Some x → translated_frame x ≡ frame_at s.content x.entry.koid.0 x.entry.page)
     → AreTrue s.content s.spaces.table places
 AreTrue-from s places good entry frame = record {
   entry = entry;

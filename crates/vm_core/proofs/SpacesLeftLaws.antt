@@ -12,7 +12,7 @@ use Rattle.vm_model.specs.Space.Mappings.{with_mapping, unmapped, protected}
 use Rattle.vm_model.specs.Machine.State.{State, IsGoodState}
 use Rattle.vm_model.specs.Machine.Leaving.{pruned}
 use Rattle.fault.specs.declared.translation.Translation.{Translation}
-use Rattle.fault.specs.Table.{Places, ready_of, AreTrue, without, is_at}
+use Rattle.fault.specs.Table.{Places, ready_of, AreTrue, translations_without, is_at}
 use Rattle.region_ops.proofs.CountLaws.{entry_bounds}
 use Rattle.vm_core.proofs.LeftLaws.{StaysAt, settled-bare, Fits, Fits-settled, Fits-unready}
 use Rattle.vm_core.proofs.StaysLaws.{StaysAt-same, StaysAt-pruned}
@@ -45,7 +45,7 @@ module _ (old : State) (places : Places) (good : IsGoodState old) (true_of : Are
 
   -- a mapping
   pub Fits-mapped : (root first count : ℕ) (entry : Entry) → let spaces = with_mapping old.spaces root first count entry in
-      Fits (after spaces).content spaces.table (unready (settled old.content (after spaces).content spaces.table (ready_of places)) root first (first + count)) (without (is_at root first (first + count)) places)
+      Fits (after spaces).content spaces.table (unready (settled old.content (after spaces).content spaces.table (ready_of places)) root first (first + count)) (translations_without (is_at root first (first + count)) places)
   Fits-mapped root first count entry =
       let spaces = with_mapping old.spaces root first count entry in
       Fits-unready old.content (after spaces).content old.spaces.table spaces.table places true_of root first (first + count)
@@ -54,7 +54,7 @@ module _ (old : State) (places : Places) (good : IsGoodState old) (true_of : Are
   -- pages of which nothing is shown any more
   cleared : (spaces : Spaces) (root first end : ℕ) → ((r p : ℕ) → ((r == root) && is_within first end p) ≡ true → spaces.table r p ≡ None)
       → ((r p : ℕ) (entry : Entry) → old.spaces.table r p ≡ Some entry → ((r == root) && is_within first end p) ≡ false → spaces.table r p ≡ Some entry)
-      → Fits (after spaces).content spaces.table (settled old.content (after spaces).content spaces.table (ready_of places)) (without (is_at root first end) places)
+      → Fits (after spaces).content spaces.table (settled old.content (after spaces).content spaces.table (ready_of places)) (translations_without (is_at root first end) places)
   cleared spaces root first end bare other =
       Fits-settled old.content (after spaces).content old.spaces.table spaces.table places true_of (is_at root first end)
       (λ r p x e on. settled-bare old.content (after spaces).content spaces.table (ready_of places) r p (bare r p on))
@@ -63,7 +63,7 @@ module _ (old : State) (places : Places) (good : IsGoodState old) (true_of : Are
   -- pages that are unmapped
   pub Fits-unmapped : (name first end : ℕ) → let new = after (unmapped old.spaces name first end) in
       Fits new.content new.spaces.table (settled old.content new.content new.spaces.table (ready_of places))
-      (without (is_at (region_of old.spaces.regions name).root.0 first end) places)
+      (translations_without (is_at (region_of old.spaces.regions name).root.0 first end) places)
   unfolding pruned
   Fits-unmapped name first end =
       let root = (region_of old.spaces.regions name).root.0 in
@@ -74,7 +74,7 @@ module _ (old : State) (places : Places) (good : IsGoodState old) (true_of : Are
   pub Fits-destroyed : (name : ℕ) → let new = after (without_region old.spaces name) in let dying = region_of old.spaces.regions name in
       old.spaces.regions name ≡ Some dying → dying.live ≡ true
       → Fits new.content new.spaces.table (settled old.content new.content new.spaces.table (ready_of places))
-      (without (is_at dying.root.0 dying.first (dying.first + dying.count)) places)
+      (translations_without (is_at dying.root.0 dying.first (dying.first + dying.count)) places)
   unfolding pruned
   Fits-destroyed name given live =
       let dying = region_of old.spaces.regions name in
@@ -83,7 +83,7 @@ module _ (old : State) (places : Places) (good : IsGoodState old) (true_of : Are
 
   -- other permissions
   pub Fits-protected : (root first end : ℕ) (perm : Perm) → let spaces = protected old.spaces root first end perm in
-      Fits old.content spaces.table (unready (settled old.content old.content spaces.table (ready_of places)) root first end) (without (is_at root first end) places)
+      Fits old.content spaces.table (unready (settled old.content old.content spaces.table (ready_of places)) root first end) (translations_without (is_at root first end) places)
   Fits-protected root first end perm =
       let spaces = protected old.spaces root first end perm in
       Fits-unready old.content old.content old.spaces.table spaces.table places true_of root first end

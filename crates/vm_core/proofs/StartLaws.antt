@@ -12,7 +12,7 @@ use Rattle.vm_model.specs.Space.AddressSpaces.{no_spaces}
 use Rattle.mapping_set.specs.Tables.{table_of}
 use Rattle.region_tree.specs.Tree.{regions_of}
 use Rattle.vm_model.specs.Machine.Machine.{empty_machine}
-use Rattle.fault.specs.Table.{places_of, ready_of, AreTrue}
+use Rattle.fault.specs.Table.{translations_of, ready_of, AreTrue}
 use Rattle.vm_core.specs.Vm.{Parts, spaces_in, bare_state, bare_machine, state_of, machine_of, Agrees}
 use Rattle.vm_model.proofs.SpaceLaws.{AreGoodSpaces-none, mapped_count-none}
 
@@ -29,7 +29,7 @@ state_of-bare c vm names lineage pins regions table = λ i. record (bare_state c
 }
 
 -- and no page is translated
-pub machine_of-bare : (c : Content) (vm : Parts) → state_of c vm ≡ bare_state c → places_of vm.translations ≡ (λ root p. None) → machine_of c vm ≡ bare_machine c
+pub machine_of-bare : (c : Content) (vm : Parts) → state_of c vm ≡ bare_state c → translations_of vm.translations ≡ (λ root p. None) → machine_of c vm ≡ bare_machine c
 machine_of-bare c vm bare none = λ i. record { state = bare i; ready = ready_of (none i) }
 
 -- a content without VMOs and pages is good
@@ -59,7 +59,7 @@ IsGoodState-bare c none first = record {
 }
 
 -- the parts agree with the store
-pub agrees_bare : (c : Content) (vm : Parts) → state_of c vm ≡ bare_state c → places_of vm.translations ≡ (λ root p. None) → HasNoVmo c → 1 ≤ c.next → Agrees c vm
+pub agrees_bare : (c : Content) (vm : Parts) → state_of c vm ≡ bare_state c → translations_of vm.translations ≡ (λ root p. None) → HasNoVmo c → 1 ≤ c.next → Agrees c vm
 agrees_bare c vm bare none no_vmo first = record {
   good = subst IsGoodState (sym bare) (IsGoodState-bare c no_vmo first);
   translations = subst (AreTrue c (table_of vm.maps)) (sym none)

@@ -22,7 +22,7 @@ use Rattle.vm_model.proofs.ZeroingLaws.{is_within-true, is_within-parts, cases_z
 use Rattle.vm_model.proofs.ReadinessLaws.{is_same_frame-is}
 use Rattle.vm_model.proofs.LiveLaws.{is_live-mapped}
 use Rattle.fault.specs.declared.translation.Translation.{Translation}
-use Rattle.fault.specs.Table.{Places, ready_of, frame_in, AreTrue, without, is_of, is_stale}
+use Rattle.fault.specs.Table.{Places, ready_of, translated_frame, AreTrue, translations_without, is_translation_of, is_stale}
 use Rattle.vmo_ops.proofs.OutsideLaws.{ChangesWithin, LeavesOthers}
 use Rattle.vm_core.proofs.LeftLaws.{frame_at-same, StaysAt, settled-lost, Fits, Fits-settled}
 
@@ -91,11 +91,11 @@ StaysAt-pruned s root p entry good name end e h =
 
 module _ (c : Content) (table : ℕ → ℕ → Option Entry) (places : Places) (true_of : AreTrue c table places) (v : ℕ) where
   -- some pages in a row
-  pub Fits-changed : (first end : ℕ) (d : Content) → ChangesWithin v first end c d → Fits d table (settled c d table (ready_of places)) (without (is_stale d v first end) places)
+  pub Fits-changed : (first end : ℕ) (d : Content) → ChangesWithin v first end c d → Fits d table (settled c d table (ready_of places)) (translations_without (is_stale d v first end) places)
   Fits-changed first end d changes = Fits-settled c d table table places true_of (is_stale d v first end) gone stays where
     -- the frame that a translation holds, and that its page has now
     same_in : Translation → Bool
-    same_in x = is_same_frame (frame_in x) (frame_at d v x.entry.page)
+    same_in x = is_same_frame (translated_frame x) (frame_at d v x.entry.page)
 
     gone : (root p : ℕ) (x : Translation) → places root p ≡ Some x → (shows_in v first end x.entry && not (same_in x)) ≡ true → settled c d table (ready_of places) root p ≡ None
     gone root p x e on =
@@ -103,7 +103,7 @@ module _ (c : Content) (table : ℕ → ℕ → Option Entry) (places : Places) 
         let vmo = eqb_is x.entry.koid.0 v (and_parts (x.entry.koid.0 == v) (is_within first end x.entry.page) both.0).0 in
         settled-lost c d table (ready_of places) root p x.entry (true_of.entry root p x e)
         (inl (ap (λ (o : Option ℕ). is_same_frame o (frame_at d x.entry.koid.0 x.entry.page)) (sym (true_of.frame root p x e))
-        ∙ (ap (λ (w : ℕ). is_same_frame (frame_in x) (frame_at d w x.entry.page)) vmo ∙ not-true (same_in x) both.1)))
+        ∙ (ap (λ (w : ℕ). is_same_frame (translated_frame x) (frame_at d w x.entry.page)) vmo ∙ not-true (same_in x) both.1)))
 
     stays : (root p : ℕ) (x : Translation) → places root p ≡ Some x → (shows_in v first end x.entry && not (same_in x)) ≡ false → StaysAt c d table root p x.entry
     stays root p x e off =
@@ -115,7 +115,7 @@ module _ (c : Content) (table : ℕ → ℕ → Option Entry) (places : Places) 
               let same : same_in x ≡ true = not-false (same_in x) (ap (λ (b : Bool). b && not (same_in x)) (sym on) ∙ off) in
               record {
                 is = true_of.entry root p x e;
-                frame = ap (λ (w : ℕ). frame_at d w x.entry.page) vmo ∙ (sym (is_same_frame-is (frame_in x) (frame_at d v x.entry.page) same) ∙ true_of.frame root p x e);
+                frame = ap (λ (w : ℕ). frame_at d w x.entry.page) vmo ∙ (sym (is_same_frame-is (translated_frame x) (frame_at d v x.entry.page) same) ∙ true_of.frame root p x e);
                 inside = omega (arith, h, pages_of-same d c x.entry.koid.0 count);
               }
           | inr out ↦ elim (cases_zeroed v first end x.entry.koid.0 x.entry.page) [
@@ -126,8 +126,8 @@ module _ (c : Content) (table : ℕ → ℕ → Option Entry) (places : Places) 
         ]
 
   -- another size
-  pub Fits-resized : (pages : ℕ) → IsGood c → Fits (resized c v pages) table (settled c (resized c v pages) table (ready_of places)) (without (is_of v pages VMO_PAGES) places)
-  Fits-resized pages good = Fits-settled c (resized c v pages) table table places true_of (is_of v pages VMO_PAGES) gone stays where
+  pub Fits-resized : (pages : ℕ) → IsGood c → Fits (resized c v pages) table (settled c (resized c v pages) table (ready_of places)) (translations_without (is_translation_of v pages VMO_PAGES) places)
+  Fits-resized pages good = Fits-settled c (resized c v pages) table table places true_of (is_translation_of v pages VMO_PAGES) gone stays where
     gone : (root p : ℕ) (x : Translation) → places root p ≡ Some x → shows_in v pages VMO_PAGES x.entry ≡ true → settled c (resized c v pages) table (ready_of places) root p ≡ None
     gone root p x e on =
         let both = and_parts (x.entry.koid.0 == v) (is_within pages VMO_PAGES x.entry.page) on in

@@ -7,7 +7,7 @@ ghost use Rattle.vm_model.specs.Machine.Lent.{reply_for};
 ghost use Rattle.mapping_set.specs.Tables.{table_of};
 ghost use Rattle.region_tree.specs.Tree.{regions_of, spaces_of};
 ghost use Rattle.mapping_set.specs.Backed.{AreBacked};
-ghost use Rattle.fault.specs.Table.{places_of, AreTrue};
+ghost use Rattle.fault.specs.Table.{translations_of, AreTrue};
 ghost use Rattle.vm_core.specs.inside.Calls.{DoesAccess};
 
 use fault::Translations;
@@ -32,11 +32,11 @@ pub(crate) fn mem_read<'a, P: PageStore>(
     room: &'a mut [u8],
 ) -> Answer<'a>
     requires backed { AreBacked (P.content store.now) (table_of maps.now) }
-    requires translations { AreTrue (P.content store.now) (table_of maps.now) (places_of translations.old) }
+    requires translations { AreTrue (P.content store.now) (table_of maps.now) (translations_of translations.old) }
     requires room { DATA_BYTES ≤ length room.old }
     ensures { DoesAccess (spaces_of (regions_of regions.now) (table_of maps.now)) (P.content store.now)
-        (places_of translations.old) (Command.MemRead region addr len) (reply_for result) (P.content store.now)
-        (places_of translations.new) }
+        (translations_of translations.old) (Command.MemRead region addr len) (reply_for result) (P.content store.now)
+        (translations_of translations.new) }
 {
     let Some(root) = regions.get(region) else {
         return Answer::Refused(Refusal::BadHandle);
@@ -67,11 +67,11 @@ pub(crate) fn mem_write<P: PageStore>(
     bytes: &[u8],
 ) -> Answer<'static>
     requires backed { AreBacked (P.content store.old) (table_of maps.now) }
-    requires translations { AreTrue (P.content store.old) (table_of maps.now) (places_of translations.old) }
+    requires translations { AreTrue (P.content store.old) (table_of maps.now) (translations_of translations.old) }
     requires bytes { length bytes.now ≤ DATA_BYTES }
     ensures { DoesAccess (spaces_of (regions_of regions.now) (table_of maps.now)) (P.content store.old)
-        (places_of translations.old) (Command.MemWrite region addr bytes.now) (reply_for result) (P.content store.new)
-        (places_of translations.new) }
+        (translations_of translations.old) (Command.MemWrite region addr bytes.now) (reply_for result) (P.content store.new)
+        (translations_of translations.new) }
 {
     let Some(root) = regions.get(region) else {
         return Answer::Refused(Refusal::BadHandle);

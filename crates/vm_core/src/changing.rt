@@ -9,9 +9,9 @@ ghost use Rattle.vm_model.specs.Machine.Lent.{reply_for};
 ghost use Rattle.vm_model.specs.Machine.Step.{reply_of};
 ghost use Rattle.vmo_table.specs.Table.{AreParts};
 ghost use Rattle.vmo_ops.specs.Targets.{AreTogether};
-ghost use Rattle.fault.specs.Table.{places_of};
+ghost use Rattle.fault.specs.Table.{translations_of};
 ghost use Rattle.vm_core.specs.inside.Calls.{LeavesVmos, Steps, StepsVmos};
-ghost use Rattle.vm_core.specs.inside.Resets.{unless_refused, without_changed, IsReached};
+ghost use Rattle.vm_core.specs.inside.Resets.{unless_refused, without_changed, IsRangeInVmo};
 
 use crate::resets::{forget_changed, forget_past};
 use fault::Translations;
@@ -33,8 +33,8 @@ pub(crate) fn vmo_write<P: PageStore>(
     requires { AreParts (P.content store.old) vmos.now }
     ensures step { StepsVmos (P.content store.old) vmos.now (Command.VmoWrite name offset bytes.now) (reply_for result)
         (P.content store.new) vmos.now }
-    ensures left { LeavesVmos (P.content store.old) vmos.now (places_of translations.old) (Command.VmoWrite name offset bytes.now) (reply_for result)
-        (P.content store.new) (places_of translations.new) }
+    ensures left { LeavesVmos (P.content store.old) vmos.now (translations_of translations.old) (Command.VmoWrite name offset bytes.now) (reply_for result)
+        (P.content store.new) (translations_of translations.new) }
 {
     match vmos.resolve(name) {
         Some(target) => {
@@ -65,8 +65,8 @@ pub(crate) fn vmo_fill<P: PageStore>(
     requires { AreParts (P.content store.old) vmos.now }
     ensures step { StepsVmos (P.content store.old) vmos.now (Command.VmoFill name offset len byte) (reply_for result)
         (P.content store.new) vmos.now }
-    ensures left { LeavesVmos (P.content store.old) vmos.now (places_of translations.old) (Command.VmoFill name offset len byte) (reply_for result)
-        (P.content store.new) (places_of translations.new) }
+    ensures left { LeavesVmos (P.content store.old) vmos.now (translations_of translations.old) (Command.VmoFill name offset len byte) (reply_for result)
+        (P.content store.new) (translations_of translations.new) }
 {
     match vmos.resolve(name) {
         Some(target) => {
@@ -89,8 +89,8 @@ pub(crate) fn vmo_commit<P: PageStore>(
     requires { AreParts (P.content store.old) vmos.now }
     ensures step { StepsVmos (P.content store.old) vmos.now (Command.VmoCommit name offset len) (reply_for result)
         (P.content store.new) vmos.now }
-    ensures left { LeavesVmos (P.content store.old) vmos.now (places_of translations.old) (Command.VmoCommit name offset len) (reply_for result)
-        (P.content store.new) (places_of translations.new) }
+    ensures left { LeavesVmos (P.content store.old) vmos.now (translations_of translations.old) (Command.VmoCommit name offset len) (reply_for result)
+        (P.content store.new) (translations_of translations.new) }
 {
     match vmos.resolve(name) {
         Some(target) => {
@@ -114,8 +114,8 @@ pub(crate) fn vmo_zero<P: PageStore>(
     requires { AreTogether (P.content store.old) vmos.now pins.now }
     ensures step { Steps (P.content store.old) vmos.now pins.now (Command.VmoZero name offset len) (reply_for result)
         (P.content store.new) vmos.now pins.now }
-    ensures left { LeavesVmos (P.content store.old) vmos.now (places_of translations.old) (Command.VmoZero name offset len) (reply_for result)
-        (P.content store.new) (places_of translations.new) }
+    ensures left { LeavesVmos (P.content store.old) vmos.now (translations_of translations.old) (Command.VmoZero name offset len) (reply_for result)
+        (P.content store.new) (translations_of translations.new) }
 {
     match vmos.resolve(name) {
         Some(target) => {
@@ -139,8 +139,8 @@ pub(crate) fn vmo_decommit<P: PageStore>(
     requires { AreTogether (P.content store.old) vmos.now pins.now }
     ensures step { Steps (P.content store.old) vmos.now pins.now (Command.VmoDecommit name offset len) (reply_for result)
         (P.content store.new) vmos.now pins.now }
-    ensures left { LeavesVmos (P.content store.old) vmos.now (places_of translations.old) (Command.VmoDecommit name offset len) (reply_for result)
-        (P.content store.new) (places_of translations.new) }
+    ensures left { LeavesVmos (P.content store.old) vmos.now (translations_of translations.old) (Command.VmoDecommit name offset len) (reply_for result)
+        (P.content store.new) (translations_of translations.new) }
 {
     match vmos.resolve(name) {
         Some(target) => {
@@ -163,8 +163,8 @@ pub(crate) fn vmo_set_size<P: PageStore>(
     requires { AreTogether (P.content store.old) vmos.now pins.now }
     ensures step { Steps (P.content store.old) vmos.now pins.now (Command.VmoSetSize name size) (reply_for result)
         (P.content store.new) vmos.now pins.now }
-    ensures left { LeavesVmos (P.content store.old) vmos.now (places_of translations.old) (Command.VmoSetSize name size) (reply_for result)
-        (P.content store.new) (places_of translations.new) }
+    ensures left { LeavesVmos (P.content store.old) vmos.now (translations_of translations.old) (Command.VmoSetSize name size) (reply_for result)
+        (P.content store.new) (translations_of translations.new) }
 {
     let Some(target) = vmos.resolve(name) else {
         return Answer::Refused(Refusal::BadHandle);
@@ -188,10 +188,10 @@ fn changed<P: PageStore>(
     len: u64,
     outcome: Result<(), Refusal>,
 ) -> Answer<'static>
-    requires { reply_of (λ _. Reply.Done) outcome ≡ Reply.Done → IsReached (P.content store.now) target.now offset len }
+    requires { reply_of (λ _. Reply.Done) outcome ≡ Reply.Done → IsRangeInVmo (P.content store.now) target.now offset len }
     ensures reply { reply_for result ≡ reply_of (λ _. Reply.Done) outcome }
-    ensures left { places_of translations.new ≡ unless_refused (reply_for result)
-        (without_changed (P.content store.now) target.now offset len (places_of translations.old)) (places_of translations.old) }
+    ensures left { translations_of translations.new ≡ unless_refused (reply_for result)
+        (without_changed (P.content store.now) target.now offset len (translations_of translations.old)) (translations_of translations.old) }
 {
     match outcome {
         Ok(()) => {

@@ -9,7 +9,7 @@ ghost use Rattle.vm_base.specs.declared.limits.TheConstants.{DATA_BYTES, KOIDS, 
 ghost use Rattle.vm_model.specs.Machine.Lent.{command_of, reply_for};
 ghost use Rattle.region_ops.specs.Spaces.{AreAllWell};
 ghost use Rattle.mapping_set.specs.Backed.{AreBacked};
-ghost use Rattle.fault.specs.Table.{places_of, AreTrue};
+ghost use Rattle.fault.specs.Table.{translations_of, AreTrue};
 ghost use Rattle.vm_core.specs.inside.Calls.{AreCounted, DoesTables, DoesSpaces, DoesAccess, StepsSame};
 ghost use Rattle.vm_core.specs.inside.Groups.{group_of};
 ghost use Rattle.vm_core.specs.declared.groups.Group.{Group};
@@ -43,8 +43,8 @@ pub(crate) fn on_vmo<P: PageStore>(
     requires group { group_of call.now ≡ Group.Vmo }
     requires counted { AreCounted (P.content store.old) vmos.old pins.now }
     requires next { (P.content store.old).next < KOIDS }
-    ensures { DoesTables (P.content store.old) vmos.old pins.now (places_of ready.old) (command_of call.now)
-        (reply_for result) (P.content store.new) vmos.new pins.now (places_of ready.new) }
+    ensures { DoesTables (P.content store.old) vmos.old pins.now (translations_of ready.old) (command_of call.now)
+        (reply_for result) (P.content store.new) vmos.new pins.now (translations_of ready.new) }
 {
     match call {
         Call::VmoCreate {
@@ -84,8 +84,8 @@ pub(crate) fn on_pages<'a, P: PageStore>(
     requires group { group_of call.now ≡ Group.Pages }
     requires counted { AreCounted (P.content store.old) vmos.now pins.now }
     requires bytes { DATA_BYTES ≤ length bytes.old }
-    ensures { DoesTables (P.content store.old) vmos.now pins.now (places_of ready.old) (command_of call.now)
-        (reply_for result) (P.content store.new) vmos.now pins.now (places_of ready.new) }
+    ensures { DoesTables (P.content store.old) vmos.now pins.now (translations_of ready.old) (command_of call.now)
+        (reply_for result) (P.content store.new) vmos.now pins.now (translations_of ready.new) }
 {
     match call {
         Call::VmoRead { name, offset, len } => vmo_read(store, vmos, *name, *offset, *len, bytes),
@@ -125,8 +125,8 @@ pub(crate) fn on_pin<'a, P: PageStore>(
     requires group { group_of call.now ≡ Group.Pin }
     requires counted { AreCounted (P.content store.old) vmos.old pins.old }
     requires numbers { PIN_PAGES ≤ length numbers.old }
-    ensures { DoesTables (P.content store.old) vmos.old pins.old (places_of ready.old) (command_of call.now)
-        (reply_for result) (P.content store.new) vmos.new pins.new (places_of ready.new) }
+    ensures { DoesTables (P.content store.old) vmos.old pins.old (translations_of ready.old) (command_of call.now)
+        (reply_for result) (P.content store.new) vmos.new pins.new (translations_of ready.new) }
 {
     match call {
         Call::VmoPin {
@@ -156,8 +156,8 @@ pub(crate) fn on_region<P: PageStore>(
     requires well { AreAllWell (P.content store.old) vmos.old (spaces_of (regions_of regions.old) (table_of maps.old)) }
     requires noted { AreNoted (regions_of regions.old) (notes_of maps.old) }
     ensures does { DoesSpaces (P.content store.old) vmos.old (spaces_of (regions_of regions.old) (table_of maps.old))
-        (places_of ready.old) (command_of call.now) (reply_for result) (P.content store.new) vmos.new
-        (spaces_of (regions_of regions.new) (table_of maps.new)) (places_of ready.new) }
+        (translations_of ready.old) (command_of call.now) (reply_for result) (P.content store.new) vmos.new
+        (spaces_of (regions_of regions.new) (table_of maps.new)) (translations_of ready.new) }
     ensures noted { AreNoted (regions_of regions.new) (notes_of maps.new) }
 {
     match call {
@@ -231,11 +231,11 @@ pub(crate) fn on_memory<'a, P: PageStore>(
 ) -> Answer<'a>
     requires group { group_of call.now ≡ Group.Memory }
     requires backed { AreBacked (P.content store.old) (table_of maps.now) }
-    requires translations { AreTrue (P.content store.old) (table_of maps.now) (places_of translations.old) }
+    requires translations { AreTrue (P.content store.old) (table_of maps.now) (translations_of translations.old) }
     requires bytes { DATA_BYTES ≤ length bytes.old }
     ensures { DoesAccess (spaces_of (regions_of regions.now) (table_of maps.now)) (P.content store.old)
-        (places_of translations.old) (command_of call.now) (reply_for result) (P.content store.new)
-        (places_of translations.new) }
+        (translations_of translations.old) (command_of call.now) (reply_for result) (P.content store.new)
+        (translations_of translations.new) }
 {
     match call {
         Call::MemRead { region, addr, len } => mem_read(

@@ -10,7 +10,7 @@ ghost use Rattle.vm_model.specs.Space.AddressSpaces.{mapped_count};
 ghost use Rattle.mapping_set.specs.Tables.{table_of, places_of as notes_of};
 ghost use Rattle.region_tree.specs.Tree.{regions_of, spaces_of, AreNoted};
 ghost use Rattle.region_ops.specs.Spaces.{AreAllWell, Does};
-ghost use Rattle.fault.specs.Table.{places_of};
+ghost use Rattle.fault.specs.Table.{translations_of};
 ghost use Rattle.vm_core.specs.inside.Calls.{LeavesSpaces, StepsSpaces};
 
 use crate::resets::forget_pages;
@@ -44,8 +44,8 @@ pub(crate) fn vmar_map<P: PageStore>(
     ensures step { Does (P.content store.old) vmos.old (spaces_of (regions_of regions.now) (table_of maps.old))
         (Command.VmarMap region offset name vmo_offset len perm flags) (reply_for result)
         (P.content store.new) vmos.new (spaces_of (regions_of regions.now) (table_of maps.new)) }
-    ensures left { LeavesSpaces (spaces_of (regions_of regions.now) (table_of maps.old)) (places_of translations.old)
-        (Command.VmarMap region offset name vmo_offset len perm flags) (reply_for result) (places_of translations.new) }
+    ensures left { LeavesSpaces (spaces_of (regions_of regions.now) (table_of maps.old)) (translations_of translations.old)
+        (Command.VmarMap region offset name vmo_offset len perm flags) (reply_for result) (translations_of translations.new) }
     ensures noted { AreNoted (regions_of regions.now) (notes_of maps.new) }
 {
     let Some(above) = regions.get(region) else {
@@ -85,8 +85,8 @@ pub(crate) fn vmar_unmap<P: PageStore>(
     ensures step { Does (P.content store.old) vmos.old (spaces_of (regions_of regions.old) (table_of maps.old))
         (Command.VmarUnmap region addr len) (reply_for result)
         (P.content store.new) vmos.new (spaces_of (regions_of regions.new) (table_of maps.new)) }
-    ensures left { LeavesSpaces (spaces_of (regions_of regions.old) (table_of maps.old)) (places_of translations.old)
-        (Command.VmarUnmap region addr len) (reply_for result) (places_of translations.new) }
+    ensures left { LeavesSpaces (spaces_of (regions_of regions.old) (table_of maps.old)) (translations_of translations.old)
+        (Command.VmarUnmap region addr len) (reply_for result) (translations_of translations.new) }
     ensures noted { AreNoted (regions_of regions.new) (notes_of maps.new) }
 {
     let above = match region_ops::ask_for_region(regions, region) {
@@ -117,8 +117,8 @@ pub(crate) fn vmar_protect(
     ensures step { StepsSpaces (spaces_of (regions_of regions.now) (table_of maps.old))
         (Command.VmarProtect region addr len perm) (reply_for result)
         (spaces_of (regions_of regions.now) (table_of maps.new)) }
-    ensures left { LeavesSpaces (spaces_of (regions_of regions.now) (table_of maps.old)) (places_of translations.old)
-        (Command.VmarProtect region addr len perm) (reply_for result) (places_of translations.new) }
+    ensures left { LeavesSpaces (spaces_of (regions_of regions.now) (table_of maps.old)) (translations_of translations.old)
+        (Command.VmarProtect region addr len perm) (reply_for result) (translations_of translations.new) }
     ensures mapped { (v : ℕ) → mapped_count (spaces_of (regions_of regions.now) (table_of maps.new)) v
         ≡ mapped_count (spaces_of (regions_of regions.now) (table_of maps.old)) v }
     ensures noted { AreNoted (regions_of regions.now) (notes_of maps.new) }

@@ -8,7 +8,7 @@ ghost use Rattle.vm_model.specs.Machine.Lent.{reply_for};
 ghost use Rattle.vm_model.specs.Machine.State.{State};
 ghost use Rattle.vmo_table.specs.Table.{keepers_of, with_vmos, AreParts, IsWellCounted};
 ghost use Rattle.vmo_ops.specs.Targets.{AreTogether};
-ghost use Rattle.fault.specs.Table.{places_of};
+ghost use Rattle.fault.specs.Table.{translations_of};
 ghost use Rattle.vm_core.specs.inside.Calls.{LeavesTables, Steps, StepsVmos};
 
 use crate::resets::child_made;
@@ -63,9 +63,9 @@ pub(crate) fn vmo_create_child<P: PageStore>(
     ensures step { Steps (P.content store.old) vmos.old pins.now
         (Command.VmoChild name parent kind offset size resizable no_write) (reply_for result)
         (P.content store.new) vmos.new pins.now }
-    ensures left { LeavesTables (P.content store.old) vmos.old pins.now (places_of translations.old)
+    ensures left { LeavesTables (P.content store.old) vmos.old pins.now (translations_of translations.old)
         (Command.VmoChild name parent kind offset size resizable no_write) (reply_for result)
-        (P.content store.new) (places_of translations.new) }
+        (P.content store.new) (translations_of translations.new) }
     ensures keepers { keepers_of vmos.new ≡ keepers_of vmos.old }
     ensures name { name.0 < NAMES }
 {

@@ -5,7 +5,7 @@ ghost use Rattle.std.specs.Prelude.{◌<◌, ◌≤◌, length};
 ghost use Rattle.vm_base.specs.declared.limits.TheConstants.{NAMES, PIN_PAGES};
 ghost use Rattle.vm_model.specs.declared.command.Command.{Command};
 ghost use Rattle.vm_model.specs.Machine.Lent.{reply_for};
-ghost use Rattle.fault.specs.Table.{places_of};
+ghost use Rattle.fault.specs.Table.{translations_of};
 ghost use Rattle.vm_core.specs.inside.Calls.{AreCounted, KeepsCounts, LeavesVmos, Steps};
 
 use crate::resets::forget_changed;
@@ -34,8 +34,8 @@ pub(crate) fn vmo_pin<'a, P: PageStore>(
     ensures step { Steps (P.content store.old) vmos.old pins.old (Command.VmoPin pin name offset len)
         (reply_for result) (P.content store.new) vmos.new pins.new }
     ensures counted { KeepsCounts vmos.old pins.old vmos.new pins.new }
-    ensures left { LeavesVmos (P.content store.old) vmos.old (places_of translations.old) (Command.VmoPin pin name offset len)
-        (reply_for result) (P.content store.new) (places_of translations.new) }
+    ensures left { LeavesVmos (P.content store.old) vmos.old (translations_of translations.old) (Command.VmoPin pin name offset len)
+        (reply_for result) (P.content store.new) (translations_of translations.new) }
     ensures pin { pin.0 < NAMES }
 {
     let Some(target) = vmos.resolve(name) else {

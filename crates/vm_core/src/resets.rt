@@ -8,8 +8,8 @@ ghost use Rattle.vm_model.specs.declared.command.ChildKind.TheVariants.{Snapshot
 ghost use Rattle.vm_model.specs.Contents.Writing.{touched};
 ghost use Rattle.vm_model.specs.Naming.Pins.{is_pinned};
 ghost use Rattle.pin_table.specs.Table.{pins_of};
-ghost use Rattle.fault.specs.Table.{places_of};
-ghost use Rattle.vm_core.specs.inside.Resets.{shared_by, without_changed, without_pages, without_past, with_read_only_but, with_shared, IsFirstBelow, IsReached, IsShared};
+ghost use Rattle.fault.specs.Table.{translations_of};
+ghost use Rattle.vm_core.specs.inside.Resets.{shared_by, without_changed, without_pages, without_past, with_read_only_but, with_shared, IsFirstBelow, IsRangeInVmo, IsShared};
 
 use fault::Translations;
 use page_store::PageStore;
@@ -28,9 +28,9 @@ pub(crate) fn forget_changed<P: PageStore>(
     offset: u64,
     len: u64,
 )
-    requires { IsReached (P.content store.now) target.now offset len }
-    ensures { places_of translations.new
-        ≡ without_changed (P.content store.now) target.now offset len (places_of translations.old) }
+    requires { IsRangeInVmo (P.content store.now) target.now offset len }
+    ensures { translations_of translations.new
+        ≡ without_changed (P.content store.now) target.now offset len (translations_of translations.old) }
 {
     if translations.is_empty() {
         return;
@@ -54,7 +54,7 @@ fn touched_count(at: u64, len: u64) -> u64
 #[tactic(auto, using(crate::proofs::LeavesLaws::without_none))]
 pub(crate) fn forget_past(translations: &mut Translations, target: &Target, size: u64)
     requires { rounded size ≤ VMO_PAGES * PAGE }
-    ensures { places_of translations.new ≡ without_past target.now size (places_of translations.old) }
+    ensures { translations_of translations.new ≡ without_past target.now size (translations_of translations.old) }
 {
     if translations.is_empty() {
         return;
@@ -75,8 +75,8 @@ pub(crate) fn child_made<P: PageStore>(
     size: u64,
 )
     requires { kind ≡ Snapshot → IsShared (P.content store.now) target.now offset size }
-    ensures { places_of translations.new
-        ≡ shared_by kind (pins_of pins.now) (P.content store.now) target.now offset size (places_of translations.old) }
+    ensures { translations_of translations.new
+        ≡ shared_by kind (pins_of pins.now) (P.content store.now) target.now offset size (translations_of translations.old) }
 {
     match kind {
         ChildKind::Snapshot => share(translations, store, pins, target, offset, size),
@@ -95,8 +95,8 @@ fn share<P: PageStore>(
     size: u64,
 )
     requires { IsShared (P.content store.now) target.now offset size }
-    ensures { places_of translations.new
-        ≡ with_shared (pins_of pins.now) (P.content store.now) target.now offset size (places_of translations.old) }
+    ensures { translations_of translations.new
+        ≡ with_shared (pins_of pins.now) (P.content store.now) target.now offset size (translations_of translations.old) }
 {
     if translations.is_empty() {
         return;
@@ -117,8 +117,8 @@ fn make_readonly_but(
     count: u64,
 )
     requires { first + count ≤ PAGES_END }
-    ensures { places_of translations.new ≡ with_read_only_but (is_pinned (pins_of pins.now) v.0) v.0 first (first + count)
-        (places_of translations.old) }
+    ensures { translations_of translations.new ≡ with_read_only_but (is_pinned (pins_of pins.now) v.0) v.0 first (first + count)
+        (translations_of translations.old) }
 {
     let end = first + count;
     let mut from = first;
@@ -154,7 +154,7 @@ pub(crate) fn forget_pages(
     count: u64,
 )
     requires { first + count ≤ PAGES_END }
-    ensures { places_of translations.new ≡ without_pages root first count (places_of translations.old) }
+    ensures { translations_of translations.new ≡ without_pages root first count (translations_of translations.old) }
 {
     if translations.is_empty() {
         return;

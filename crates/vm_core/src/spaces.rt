@@ -8,7 +8,7 @@ ghost use Rattle.vm_model.specs.Machine.Lent.{reply_for};
 ghost use Rattle.mapping_set.specs.Tables.{table_of, places_of as notes_of};
 ghost use Rattle.region_tree.specs.Tree.{regions_of, spaces_of, AreNoted};
 ghost use Rattle.region_ops.specs.Spaces.{AreAllWell, Does};
-ghost use Rattle.fault.specs.Table.{places_of};
+ghost use Rattle.fault.specs.Table.{translations_of};
 ghost use Rattle.vm_core.specs.inside.Calls.{LeavesSpaces, StepsSpaces};
 
 use crate::resets::forget_pages;
@@ -91,8 +91,8 @@ pub(crate) fn vmar_destroy<P: PageStore>(
     ensures step { Does (P.content store.old) vmos.old (spaces_of (regions_of regions.old) (table_of maps.old))
         (Command.VmarDestroy region) (reply_for result)
         (P.content store.new) vmos.new (spaces_of (regions_of regions.new) (table_of maps.new)) }
-    ensures left { LeavesSpaces (spaces_of (regions_of regions.old) (table_of maps.old)) (places_of translations.old)
-        (Command.VmarDestroy region) (reply_for result) (places_of translations.new) }
+    ensures left { LeavesSpaces (spaces_of (regions_of regions.old) (table_of maps.old)) (translations_of translations.old)
+        (Command.VmarDestroy region) (reply_for result) (translations_of translations.new) }
     ensures noted { AreNoted (regions_of regions.new) (notes_of maps.new) }
 {
     let dying = match region_ops::ask_for_region(regions, region) {

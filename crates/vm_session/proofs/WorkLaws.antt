@@ -6,15 +6,15 @@ use Rattle.vm_model.specs.Contents.Content.{used, vmos_of}
 use Rattle.vm_model.specs.Language.Text.{ok_line}
 use Rattle.vm_model.specs.Machine.Machine.{Machine, IsGoodMachine, empty_machine}
 use Rattle.vm_model.specs.Machine.MachineStep.{MachineStep}
-use Rattle.vm_model.specs.Scripts.Workload.{number_after, command_for, workload, StepsThrough, is_success, is_refusal, is_lack, count_of, workload_line}
+use Rattle.vm_model.specs.Scripts.Workload.{number_after, command_for, workload, StepsThrough, is_success, is_refusal, is_lack, reply_count, workload_line}
 use Rattle.vm_session.specs.declared.tally.Tally.{Tally}
 use Rattle.vm_session.specs.Outcome.{Works}
 use Rattle.vm_session.specs.inside.Working.{more, with_reply, Counts, StepsOn, IsUnderWay, tally_text}
 
 -- a reply more, counted early or later
-counted : (test : Reply → Bool) (n : ℕ) (reply : Reply) (later : List Reply) → n + count_of test (reply ∷ later) ≡ more (test reply) n + count_of test later
+counted : (test : Reply → Bool) (n : ℕ) (reply : Reply) (later : List Reply) → n + reply_count test (reply ∷ later) ≡ more (test reply) n + reply_count test later
 counted test n reply later = go (test reply) refl where
-  go : (bit : Bool) → test reply ≡ bit → n + count_of test (reply ∷ later) ≡ more (test reply) n + count_of test later
+  go : (bit : Bool) → test reply ≡ bit → n + reply_count test (reply ∷ later) ≡ more (test reply) n + reply_count test later
   go true e = rw e (omega arith)
   go false e = rw e refl
 
@@ -69,9 +69,9 @@ pub Works-told : (Written : List ℕ → Type 0) (frames number count : ℕ) (so
     → line ≡ ok_line (tally_text tally (used last.state.content) (vmos_of last.state.content)) → Written line → Works Written frames number count source source last.state.content
 unfolding workload_line
 Works-told Written frames number count source line tally start last empty on good told written =
-    let ok : count_of is_success on.replies ≡ tally.ok = omega (arith, on.counts.ok) in
-    let refused : count_of is_refusal on.replies ≡ tally.refused = omega (arith, on.counts.refused) in
-    let host : count_of is_lack on.replies ≡ tally.host = omega (arith, on.counts.host) in
+    let ok : reply_count is_success on.replies ≡ tally.ok = omega (arith, on.counts.ok) in
+    let refused : reply_count is_refusal on.replies ≡ tally.refused = omega (arith, on.counts.refused) in
+    let host : reply_count is_lack on.replies ≡ tally.host = omega (arith, on.counts.host) in
     record {
       read = refl;
       line = line;

@@ -5,7 +5,7 @@ use Rattle.vm_model.specs.declared.names.Target.{Target}
 use Rattle.vm_model.specs.Machine.State.{State, IsGoodState}
 use Rattle.pages.proofs.NameLaws.{IsInside-good}
 use Rattle.pages.specs.Names.{IsInside}
-use Rattle.vmo_table.specs.Table.{Table, names_of, with_vmos, IsNamed, AreParts}
+use Rattle.vmo_table.specs.Table.{Vmos, names_of, with_vmos, IsNamed, AreParts}
 
 -- and lies inside its VMO
 pub named_inside : (s : State) (target : Target) → IsGoodState s → IsNamed s.names target → IsInside s.content target
@@ -18,6 +18,6 @@ named_known s target good named = rw (good.known target.koid.0) (named_inside s 
 
 -- ---- a content and a table that are parts of a good state
 
-pub parts_inside : (c : Content) (t : Table) (target : Target) → AreParts c t → IsNamed (names_of t) target
+pub parts_inside : (c : Content) (t : Vmos) (target : Target) → AreParts c t → IsNamed (names_of t) target
     → IsInside c target
 parts_inside c t target parts named = named_inside (with_vmos parts.rest c t) target parts.good named

@@ -17,7 +17,7 @@ use Rattle.vm_model.specs.Machine.Step.{Step, frames_of}
 use Rattle.vm_model.specs.Naming.Pins.{Pin}
 use Rattle.vm_model.proofs.PinLaws.{pin_count_le}
 use Rattle.vm_model.proofs.SpaceLaws.{mapped_count_le}
-use Rattle.vmo_table.specs.Table.{Table as Vmos, keepers_of, CountsKeepers}
+use Rattle.vmo_table.specs.Table.{Vmos, keepers_of, CountsKeepers}
 use Rattle.vmo_ops.specs.inside.Pinning.{pin_in, IsPinnable, IsPinRange, IsUnpinnable, LacksMemory}
 use Rattle.vmo_ops.specs.Targets.{IsPlaced}
 use Rattle.vmo_ops.proofs.KeeperLaws.{pin_count-with_key}

@@ -14,8 +14,8 @@ use Rattle.vm_model.specs.declared.names.Target.{Target}
 use Rattle.vm_model.specs.Naming.Pins.{Pin}
 use Rattle.vm_model.specs.Machine.State.{State, name_pages, IsGoodState}
 use Rattle.vm_model.specs.Machine.Step.{Step}
-use Rattle.vmo_table.specs.Table.{Table as Vmos, with_vmos}
-use Rattle.pin_table.specs.Table.{Table as Pins, pins_of}
+use Rattle.vmo_table.specs.Table.{Vmos, with_vmos}
+use Rattle.pin_table.specs.Table.{Pins, pins_of}
 
 -- a range of a name lies inside it, at this place in the VMO
 pub record IsPlaced (c : Content) (target : Target) (offset len at : ℕ) : Type 0 where
@@ -31,8 +31,8 @@ IsBarred c target offset len refusal =
 
 -- From the old content to the new, the command is a step of the machine with this reply. It is given by a name that
 -- stands for the target, whichever name this is, and whatever else the state has.
-abbrev pub Does : (VmoName → Command) → Target → Content → Reply → Content → Type 0
-Does command target old reply new =
+abbrev pub DoesByName : (VmoName → Command) → Target → Content → Reply → Content → Type 0
+DoesByName command target old reply new =
     (s : State) (name : VmoName) → s.names name.0 ≡ Some target
     → Step (record s { content = old }) (command name) reply (record s { content = new })
 

@@ -14,7 +14,7 @@ ghost use Rattle.vm_model.specs.Machine.State.{State};
 ghost use Rattle.vm_model.specs.Machine.Step.{Step, frame_of, frames_of, reply_of};
 ghost use Rattle.pages.specs.Names.{IsInside};
 ghost use Rattle.vmo_table.specs.Table.{keepers_of, lineage_in, names_of, CountsKeepers, IsNamed, IsWellCounted};
-ghost use Rattle.pin_table.specs.Table.{pins_of, room_of};
+ghost use Rattle.pin_table.specs.Table.{pins_of, pin_room};
 ghost use Rattle.vmo_ops.specs.Costs.{HasRows};
 ghost use Rattle.vmo_ops.specs.inside.Pinning.{pin_in, IsPinnable, IsPinRange, IsUnpinnable};
 ghost use Rattle.vmo_ops.specs.Targets.{with_tables};
@@ -108,7 +108,7 @@ fn ready_to_pin<P: Pages>(
     ensures content { P.content store.new ≡ P.content store.old }
     ensures pins { pins_of pins.new ≡ pins_of pins.old }
     ensures ok { IfOk result (λ at. IsPinnable (P.content store.old) t.now offset len at (P.spare store.new)) }
-    ensures room { OnOk result (1 ≤ room_of pins.new) }
+    ensures room { OnOk result (1 ≤ pin_room pins.new) }
     ensures err { IfErr result (IsUnpinnable (P.content store.old) t.now offset len) }
 {
     if !is_pin_range(offset, len) {
@@ -145,7 +145,7 @@ fn add_pin<'a, P: Pages>(
     requires frames { used (P.content store.old) + need (P.content store.old) v.0 (touched at len)
         ≤ (P.content store.old).frames }
     requires free { pins_of pins.old pin.0 ≡ None }
-    requires pins { 1 ≤ room_of pins.old }
+    requires pins { 1 ≤ pin_room pins.old }
     requires numbers { PIN_PAGES ≤ length room.old }
     requires koid { IsSome (lineage_in vmos.old v.0) }
     requires few { keepers_of vmos.old v.0 + 1 < 2 ^ 128 }

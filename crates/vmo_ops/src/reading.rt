@@ -7,7 +7,7 @@ ghost use Rattle.vm_model.specs.Contents.Content.{pages_of, IsGood};
 ghost use Rattle.vm_model.specs.Contents.Writing.{bytes_in};
 ghost use Rattle.vm_model.specs.Machine.Step.{reply_of};
 ghost use Rattle.pages.specs.Names.{IsInside};
-ghost use Rattle.vmo_ops.specs.Targets.{Does};
+ghost use Rattle.vmo_ops.specs.Targets.{DoesByName};
 
 use crate::ranges::{part_in_page, place_in_vmo, touched_pages};
 use pages::Pages;
@@ -23,7 +23,7 @@ use vmo_table::Target;
 pub fn read<P: Pages>(store: &P, t: &Target, offset: u64, len: u64) -> Result<Bytes4k, Refusal>
     requires good { IsGood (P.content store.now) }
     requires inside { IsInside (P.content store.now) t.now }
-    ensures { Does (λ name. Command.VmoRead name offset len) t.now (P.content store.now)
+    ensures { DoesByName (λ name. Command.VmoRead name offset len) t.now (P.content store.now)
         (reply_of (λ bytes. Reply.Bytes bytes) result) (P.content store.now) }
 {
     let mut room = [0; DATA_BYTES];
@@ -45,7 +45,7 @@ pub fn read_into<'a, P: Pages>(
     requires good { IsGood (P.content store.now) }
     requires inside { IsInside (P.content store.now) t.now }
     requires room { DATA_BYTES ≤ length room.old }
-    ensures { Does (λ name. Command.VmoRead name offset len) t.now (P.content store.now)
+    ensures { DoesByName (λ name. Command.VmoRead name offset len) t.now (P.content store.now)
         (reply_of (λ bytes. Reply.Bytes bytes) result) (P.content store.now) }
 {
     if len > DATA_BYTES as u64 {

@@ -9,7 +9,7 @@ ghost use Rattle.vm_model.specs.Contents.Writing.{touched, pieces, WritesPiece, 
 ghost use Rattle.vm_model.specs.Machine.Step.{reply_of};
 ghost use Rattle.pages.specs.Names.{IsInside};
 ghost use Rattle.vmo_ops.specs.Costs.{HasRows};
-ghost use Rattle.vmo_ops.specs.Targets.{Does};
+ghost use Rattle.vmo_ops.specs.Targets.{DoesByName};
 
 use crate::ranges::{part_in_page, touched_pages};
 use crate::ready::ready_to_own;
@@ -27,7 +27,7 @@ use vmo_table::Target;
 pub fn write<P: Pages>(store: &mut P, t: &Target, offset: u64, bytes: &[u8]) -> Result<(), Refusal>
     requires good { IsGood (P.content store.old) }
     requires inside { IsInside (P.content store.old) t.now }
-    ensures { Does (λ name. Command.VmoWrite name offset bytes.now) t.now (P.content store.old)
+    ensures { DoesByName (λ name. Command.VmoWrite name offset bytes.now) t.now (P.content store.old)
         (reply_of (λ _. Reply.Done) result) (P.content store.new) }
 {
     match ready_to_own(store, t, offset, bytes.len() as u64) {

@@ -7,7 +7,7 @@ use Rattle.vm_base.specs.declared.names.Koid.{Koid}
 use Rattle.vm_base.specs.Entries.{with_key}
 use Rattle.vm_model.specs.Naming.Names.{is_parent}
 use Rattle.vmo_table.specs.declared.vmos.Vmo.{Vmo}
-use Rattle.vmo_table.specs.Vmos.{count_of, keepers_in, adopted, vmos_without}
+use Rattle.vmo_table.specs.Vmos.{counted_for, keepers_in, adopted, vmos_without}
 
 -- maps that agree at each key are one
 pub funext : {A : Type 0} {f g : ℕ → A} → ((n : ℕ) → f n ≡ g n) → f ≡ g
@@ -15,41 +15,41 @@ funext each = λ i n. each n i
 
 module _ (count : Vmo → ℕ) (vmos : ℕ → Option Vmo) where
   -- where it is known what is there
-  pub count-at : (v : ℕ) (o : Option Vmo) → vmos v ≡ o → count_of count vmos v ≡ unwrap_or (option_map count o) 0
-  unfolding count_of
+  pub count-at : (v : ℕ) (o : Option Vmo) → vmos v ≡ o → counted_for count vmos v ≡ unwrap_or (option_map count o) 0
+  unfolding counted_for
   count-at v o e = ap (λ (x : Option Vmo). unwrap_or (option_map count x) 0) e
 
   -- where more than none count, a VMO is there
-  pub count-there : (v : ℕ) → 0 < count_of count vmos v → is_some (vmos v) ≡ true
-  unfolding count_of
+  pub count-there : (v : ℕ) → 0 < counted_for count vmos v → is_some (vmos v) ≡ true
+  unfolding counted_for
   count-there v h = grind (arith, common_steps)
 
   pub count-with_key : (k : ℕ) (new : Vmo) (v : ℕ) →
-      count_of count (with_key vmos k new) v ≡ cond (v == k) (count new) (count_of count vmos v)
-  unfolding count_of with_key
+      counted_for count (with_key vmos k new) v ≡ cond (v == k) (count new) (counted_for count vmos v)
+  unfolding counted_for with_key
   count-with_key k new v = grind (arith, common_steps)
 
   -- a VMO of which as much is counted as before
   pub count-same : (k : ℕ) (old new : Vmo) → vmos k ≡ Some old → count new ≡ count old → (v : ℕ) →
-      count_of count (with_key vmos k new) v ≡ count_of count vmos v
+      counted_for count (with_key vmos k new) v ≡ counted_for count vmos v
   count-same k old new found same v = grind (arith, common_steps, count-with_key k new v, count-at k (Some old) found)
 
   -- another count of children changes no other count
   pub count-adopted : ((x : Vmo) (n : ℕ) → count (record x { children = n }) ≡ count x) → (parent : Option ℕ) (gone come v : ℕ) →
-      count_of count (adopted vmos parent gone come) v ≡ count_of count vmos v
-  unfolding count_of adopted
+      counted_for count (adopted vmos parent gone come) v ≡ counted_for count vmos v
+  unfolding counted_for adopted
   count-adopted keeps parent gone come v = grind (arith, common_steps, keeps)
 
   -- a VMO that leaves takes its counts with it
   pub count-without : ((x : Vmo) (o : Option Koid) → count (record x { parent = o }) ≡ count x) → (k : ℕ) (parent : Option Koid) (v : ℕ) →
-      count_of count (vmos_without vmos k parent) v ≡ cond (v == k) 0 (count_of count vmos v)
-  unfolding count_of vmos_without
+      counted_for count (vmos_without vmos k parent) v ≡ cond (v == k) 0 (counted_for count vmos v)
+  unfolding counted_for vmos_without
   count-without keeps k parent v = grind (arith, common_steps, keeps)
 
 pub children-adopted : (vmos : ℕ → Option Vmo) (parent : Option ℕ) (gone come v : ℕ) →
-    count_of (λ (vmo : Vmo). vmo.children) (adopted vmos parent gone come) v
-    ≡ cond (is_parent v parent && is_some (vmos v)) (count_of (λ (vmo : Vmo). vmo.children) vmos v - gone + come) (count_of (λ (vmo : Vmo). vmo.children) vmos v)
-unfolding count_of adopted
+    counted_for (λ (vmo : Vmo). vmo.children) (adopted vmos parent gone come) v
+    ≡ cond (is_parent v parent && is_some (vmos v)) (counted_for (λ (vmo : Vmo). vmo.children) vmos v - gone + come) (counted_for (λ (vmo : Vmo). vmo.children) vmos v)
+unfolding counted_for adopted
 children-adopted vmos parent gone come v = grind (arith, common_steps)
 
 -- ---- keepers

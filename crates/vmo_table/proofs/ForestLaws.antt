@@ -11,15 +11,15 @@ use Rattle.vm_base.proofs.SearchLaws.{count_below_split, count_below_change, cou
 use Rattle.vm_base.proofs.EntryLaws.{passes-some, passes_found, entry_count_hit, entry_count-with_key, entry_count-empty}
 use Rattle.vm_model.specs.Naming.Names.{Lineage, is_parent, has_parent, child_count, lineage_without}
 use Rattle.vmo_table.specs.declared.vmos.Vmo.{Vmo}
-use Rattle.vmo_table.specs.Vmos.{koid_number, lineage_of_vmo, lineages, count_of, adopted, vmos_without, vmo_count, Ranking, IsForest}
+use Rattle.vmo_table.specs.Vmos.{koid_number, lineage_of_vmo, lineages, counted_for, adopted, vmos_without, vmo_count, Ranking, IsVmoForest}
 use Rattle.vmo_table.proofs.CountLaws.{count-at, count-there, count-with_key, count-same, count-without, children-adopted}
 use Rattle.vmo_table.proofs.VmosLaws.{lineage-at, is_some-lineages, lineages-with_key, lineages-written, lineages-adopted, lineages-without, child-with_key, child-without, one_parent, children_le}
 
 abbrev pub children_of : (ℕ → Option Vmo) → ℕ → ℕ
-children_of = count_of (λ (vmo : Vmo). vmo.children)
+children_of = counted_for (λ (vmo : Vmo). vmo.children)
 
-pub IsForest-empty : (vmos : ℕ → Option Vmo) → ((v : ℕ) → vmos v ≡ None) → IsForest vmos
-IsForest-empty vmos none = record {
+pub IsVmoForest-empty : (vmos : ℕ → Option Vmo) → ((v : ℕ) → vmos v ≡ None) → IsVmoForest vmos
+IsVmoForest-empty vmos none = record {
   below = λ v h. absurd (let e = none v in cc);
   children = λ v. count-at (λ (vmo : Vmo). vmo.children) vmos v None (none v)
       ∙ sym (entry_count-empty (2 ^ 64) (has_parent v) (lineages vmos) (λ w. lineage-at vmos w None (none w)));
@@ -35,10 +35,10 @@ IsForest-empty vmos none = record {
 
 -- ---- a VMO is written
 
-pub IsForest-written : (vmos : ℕ → Option Vmo) (k : ℕ) (old new : Vmo) → IsForest vmos → vmos k ≡ Some old →
-    lineage_of_vmo new ≡ lineage_of_vmo old → new.children ≡ old.children → IsForest (with_key vmos k new)
+pub IsVmoForest-written : (vmos : ℕ → Option Vmo) (k : ℕ) (old new : Vmo) → IsVmoForest vmos → vmos k ≡ Some old →
+    lineage_of_vmo new ≡ lineage_of_vmo old → new.children ≡ old.children → IsVmoForest (with_key vmos k new)
 unfolding with_key
-IsForest-written vmos k old new forest found lineage children =
+IsVmoForest-written vmos k old new forest found lineage children =
     let same = sym (lineages-written vmos k old new found lineage) in
     record {
       below = λ v h. grind (arith, common_steps, forest.below v, found);
@@ -50,7 +50,7 @@ IsForest-written vmos k old new forest found lineage children =
 -- ---- a VMO comes
 
 -- a parent is in the table
-pub parent-there : (vmos : ℕ → Option Vmo) (p v : ℕ) → IsForest vmos → passes (has_parent p) (lineages vmos v) ≡ true → is_some (vmos p) ≡ true
+pub parent-there : (vmos : ℕ → Option Vmo) (p v : ℕ) → IsVmoForest vmos → passes (has_parent p) (lineages vmos v) ≡ true → is_some (vmos p) ≡ true
 parent-there vmos p v forest e =
     let found = passes_found (has_parent p) (lineages vmos v) e in
     let low = forest.below v (sym (is_some-lineages vmos v) ∙ ap is_some found.1) in
@@ -61,7 +61,7 @@ parent_value : (f : ℕ → ℕ) (o : Option ℕ) (p : ℕ) → is_parent p o �
 unfolding passes
 parent_value f o p e = grind (arith, common_steps)
 
-module _ (vmos : ℕ → Option Vmo) (k : ℕ) (x : Vmo) (forest : IsForest vmos) (free : vmos k ≡ None)
+module _ (vmos : ℕ → Option Vmo) (k : ℕ) (x : Vmo) (forest : IsVmoForest vmos) (free : vmos k ≡ None)
     (there : (p : ℕ) → is_parent p (option_map koid_number x.parent) ≡ true → is_some (vmos p) ≡ true) where
   abbrev above : Option ℕ
   above = option_map koid_number x.parent
@@ -99,9 +99,9 @@ module _ (vmos : ℕ → Option Vmo) (k : ℕ) (x : Vmo) (forest : IsForest vmos
   entered_children small childless v =
       grind (arith, common_steps, count-with_key (λ (vmo : Vmo). vmo.children) vmos k x v, count-at (λ (vmo : Vmo). vmo.children) vmos k None free, entered_count v small, there v, not_free v)
 
-  pub IsForest-entered : k < 2 ^ 64 → x.children ≡ 0 → IsForest (adopted (with_key vmos k x) above 0 1)
+  pub IsVmoForest-entered : k < 2 ^ 64 → x.children ≡ 0 → IsVmoForest (adopted (with_key vmos k x) above 0 1)
   unfolding adopted with_key
-  IsForest-entered small childless =
+  IsVmoForest-entered small childless =
       let same = sym (lineages-adopted (with_key vmos k x) above 0 1 ∙ lineages-with_key vmos k x) in
       record {
         below = λ v h. grind (arith, common_steps, forest.below v);
@@ -112,7 +112,7 @@ module _ (vmos : ℕ → Option Vmo) (k : ℕ) (x : Vmo) (forest : IsForest vmos
 
 -- ---- a VMO leaves
 
-module _ (vmos : ℕ → Option Vmo) (k : ℕ) (x : Vmo) (forest : IsForest vmos) (found : vmos k ≡ Some x) where
+module _ (vmos : ℕ → Option Vmo) (k : ℕ) (x : Vmo) (forest : IsVmoForest vmos) (found : vmos k ≡ Some x) where
   abbrev up : Option ℕ
   up = option_map koid_number x.parent
 
@@ -182,9 +182,9 @@ module _ (vmos : ℕ → Option Vmo) (k : ℕ) (x : Vmo) (forest : IsForest vmos
   pub lineages-left : lineages (adopted gone up 1 x.children) ≡ left
   lineages-left = lineages-adopted gone up 1 x.children ∙ lineages-without vmos k x.parent
 
-  pub IsForest-left : IsForest (adopted gone up 1 x.children)
+  pub IsVmoForest-left : IsVmoForest (adopted gone up 1 x.children)
   unfolding adopted vmos_without
-  IsForest-left = record {
+  IsVmoForest-left = record {
     below = λ v h. grind (arith, common_steps, forest.below v);
     children = λ v. children-adopted gone up 1 x.children v
         ∙ (left_children v ∙ ap (λ (l : ℕ → Option Lineage). child_count l v) (sym lineages-left));

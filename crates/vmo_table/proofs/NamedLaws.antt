@@ -14,7 +14,7 @@ use Rattle.vm_model.specs.declared.names.NameKind.TheVariants.{Slice, Reference}
 use Rattle.vm_model.specs.declared.names.Target.{Target}
 use Rattle.vm_model.specs.Naming.Names.{is_named, is_kind, names_as, is_of, is_of_as}
 use Rattle.vmo_table.specs.declared.vmos.Vmo.{Vmo}
-use Rattle.vmo_table.specs.Vmos.{kind_bit, fewer_names, count_of, adopted, vmos_without}
+use Rattle.vmo_table.specs.Vmos.{kind_bit, fewer_names, counted_for, adopted, vmos_without}
 use Rattle.vmo_table.specs.inside.TableFields.{name_count, AreNamed}
 use Rattle.vmo_table.proofs.CountLaws.{count-at, count-there, count-same, count-with_key, count-adopted, count-without}
 
@@ -27,14 +27,14 @@ AreNamed-empty names vmos no_name no_vmo = record {
   referred = λ v. none (λ (x : Vmo). x.references) (is_of_as Reference v) v;
 }
   where
-    none : (count : Vmo → ℕ) (test : Target → Bool) (v : ℕ) → count_of count vmos v ≡ entry_count NAMES test names
+    none : (count : Vmo → ℕ) (test : Target → Bool) (v : ℕ) → counted_for count vmos v ≡ entry_count NAMES test names
     none count test v = count-at count vmos v None (no_vmo v) ∙ sym (entry_count-empty NAMES test names no_name)
 
 -- VMOs of which as much is counted
 pub AreNamed-same : (names : ℕ → Option Target) (vmos other : ℕ → Option Vmo) →
-    ((v : ℕ) → count_of (λ (x : Vmo). x.names) other v ≡ count_of (λ (x : Vmo). x.names) vmos v) →
-    ((v : ℕ) → count_of (λ (x : Vmo). x.slices) other v ≡ count_of (λ (x : Vmo). x.slices) vmos v) →
-    ((v : ℕ) → count_of (λ (x : Vmo). x.references) other v ≡ count_of (λ (x : Vmo). x.references) vmos v) →
+    ((v : ℕ) → counted_for (λ (x : Vmo). x.names) other v ≡ counted_for (λ (x : Vmo). x.names) vmos v) →
+    ((v : ℕ) → counted_for (λ (x : Vmo). x.slices) other v ≡ counted_for (λ (x : Vmo). x.slices) vmos v) →
+    ((v : ℕ) → counted_for (λ (x : Vmo). x.references) other v ≡ counted_for (λ (x : Vmo). x.references) vmos v) →
     AreNamed names vmos → AreNamed names other
 AreNamed-same names vmos other same_names same_slices same_references are = record {
   below = are.below;
@@ -72,9 +72,9 @@ module _ (names : ℕ → Option Target) (vmos : ℕ → Option Vmo) (n : ℕ) (
   -- ---- one name more
 
   module _ (new : Vmo) (low : n < NAMES) (free : names n ≡ None) where
-    more : (count : Vmo → ℕ) (test : ℕ → Target → Bool) → ((v : ℕ) → count_of count vmos v ≡ entry_count NAMES (test v) names) →
-        ((v : ℕ) → v ≢ t.koid.0 → test v t ≡ false) → count new ≡ count_of count vmos t.koid.0 + cond (test t.koid.0 t) 1 0 →
-        (v : ℕ) → count_of count (with_key vmos t.koid.0 new) v ≡ entry_count NAMES (test v) (with_key names n t)
+    more : (count : Vmo → ℕ) (test : ℕ → Target → Bool) → ((v : ℕ) → counted_for count vmos v ≡ entry_count NAMES (test v) names) →
+        ((v : ℕ) → v ≢ t.koid.0 → test v t ≡ false) → count new ≡ counted_for count vmos t.koid.0 + cond (test t.koid.0 t) 1 0 →
+        (v : ℕ) → counted_for count (with_key vmos t.koid.0 new) v ≡ entry_count NAMES (test v) (with_key names n t)
     more count test was miss one v =
         grind (arith, common_steps, count-with_key count vmos t.koid.0 new v, entry_count-with_key NAMES (test v) names n t low free, was v, miss v)
 
@@ -93,10 +93,10 @@ module _ (names : ℕ → Option Target) (vmos : ℕ → Option Vmo) (n : ℕ) (
   -- ---- one name less
 
   module _ (vmo : Vmo) (open_ : names n ≡ Some t) (found : vmos t.koid.0 ≡ Some vmo) where
-    less : (count : Vmo → ℕ) (test : ℕ → Target → Bool) (new : Vmo) → ((v : ℕ) → count_of count vmos v ≡ entry_count NAMES (test v) names) →
+    less : (count : Vmo → ℕ) (test : ℕ → Target → Bool) (new : Vmo) → ((v : ℕ) → counted_for count vmos v ≡ entry_count NAMES (test v) names) →
         ((v : ℕ) → v ≢ t.koid.0 → test v t ≡ false) → count new ≡ count vmo - cond (test t.koid.0 t) 1 0 →
         (cond (test t.koid.0 t) 1 0 ≤ count vmo)
-        × ((v : ℕ) → count_of count (with_key vmos t.koid.0 new) v ≡ entry_count NAMES (test v) (without_key names n))
+        × ((v : ℕ) → counted_for count (with_key vmos t.koid.0 new) v ≡ entry_count NAMES (test v) (without_key names n))
     less count test new was miss one =
         let low = are.below n (ap is_some open_) in
         let here = count-at count vmos t.koid.0 (Some vmo) found in
@@ -105,10 +105,10 @@ module _ (names : ℕ → Option Target) (vmos : ℕ → Option Vmo) (n : ℕ) (
         let fits : cond (test t.koid.0 t) 1 0 ≤ count vmo = grind (arith, common_steps, change t.koid.0, was t.koid.0, is t.koid.0) in
         (fits, λ v. grind (arith, common_steps, count-with_key count vmos t.koid.0 new v, change v, is v, was v, miss v))
 
-    less_kind : (count : Vmo → ℕ) (kind : NameKind) → ((v : ℕ) → count_of count vmos v ≡ names_as kind names v) →
+    less_kind : (count : Vmo → ℕ) (kind : NameKind) → ((v : ℕ) → counted_for count vmos v ≡ names_as kind names v) →
         count (fewer_names t.kind vmo) ≡ count vmo - kind_bit kind t.kind →
         (kind_bit kind t.kind ≤ count vmo)
-        × ((v : ℕ) → count_of count (with_key vmos t.koid.0 (fewer_names t.kind vmo)) v ≡ names_as kind (without_key names n) v)
+        × ((v : ℕ) → counted_for count (with_key vmos t.koid.0 (fewer_names t.kind vmo)) v ≡ names_as kind (without_key names n) v)
     less_kind count kind was one =
         let all = less count (is_of_as kind) (fewer_names t.kind vmo) was (other_kind kind t) (one ∙ ap (λ (m : ℕ). count vmo - m) (sym (own_kind kind t))) in
         (omega (arith, own_kind kind t, all.0), all.1)
@@ -167,6 +167,6 @@ module _ (names : ℕ → Option Target) (vmos : ℕ → Option Vmo) (are : AreN
       (kept (λ (y : Vmo). y.slices) (λ y o. refl) (omega (arith, are.named k, are.sliced k, kinds_le Slice k)))
       (kept (λ (y : Vmo). y.references) (λ y o. refl) (omega (arith, are.named k, are.referred k, kinds_le Reference k))) are
     where
-      kept : (count : Vmo → ℕ) → ((y : Vmo) (o : Option Koid) → count (record y { parent = o }) ≡ count y) → count_of count vmos k ≡ 0 →
-          (v : ℕ) → count_of count (vmos_without vmos k parent) v ≡ count_of count vmos v
+      kept : (count : Vmo → ℕ) → ((y : Vmo) (o : Option Koid) → count (record y { parent = o }) ≡ count y) → counted_for count vmos k ≡ 0 →
+          (v : ℕ) → counted_for count (vmos_without vmos k parent) v ≡ counted_for count vmos v
       kept count keeps zero_ v = grind (arith, common_steps, count-without count vmos keeps k parent v)

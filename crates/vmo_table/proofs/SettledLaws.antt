@@ -12,21 +12,21 @@ use Rattle.vm_model.specs.Naming.Names.{Lineage, is_of, is_parent, has_parent, l
 use Rattle.balanced_tree.specs.Rows.{Rows}
 use Rattle.vmo_table.specs.declared.vmos.Vmo.{Vmo}
 use Rattle.vmo_table.specs.declared.child_rows.ChildRow.{ChildRow}
-use Rattle.vmo_table.specs.Vmos.{koid_number, lineage_of_vmo, lineages, adopted, vmos_without, is_kept, settled, vmo_count, keepers_in, IsForest, MayGet}
+use Rattle.vmo_table.specs.Vmos.{koid_number, lineage_of_vmo, lineages, adopted, vmos_without, is_kept, vmos_settled, vmo_count, keepers_in, IsVmoForest, MayGet}
 use Rattle.vmo_table.specs.inside.ChildRows.{AreChildren, MayLeave}
-use Rattle.vmo_table.specs.Table.{parent_of, Settles}
+use Rattle.vmo_table.specs.Table.{parent_in_lineage, Settles}
 use Rattle.vmo_table.specs.inside.TableFields.{AreNamed}
 use Rattle.vmo_table.proofs.CountLaws.{funext, count-at, count-with_key, count-adopted, count-without}
 use Rattle.vmo_table.proofs.VmosLaws.{lineage-at, lineages-written, lineages-without, without-written, without-childless, without_key-absent, child_count_le, left-there}
-use Rattle.vmo_table.proofs.ForestLaws.{parent-there, IsForest-written, IsForest-left, not_own, parent_counts, lineages-left}
+use Rattle.vmo_table.proofs.ForestLaws.{parent-there, IsVmoForest-written, IsVmoForest-left, not_own, parent_counts, lineages-left}
 use Rattle.vmo_table.proofs.NamedLaws.{AreNamed-adopted, AreNamed-left, is_named-counts}
 
 -- ---- a VMO gets another value
 
-pub may_get : (vmos : ℕ → Option Vmo) (k : ℕ) (old new : Vmo) → IsForest vmos → vmos k ≡ Some old →
+pub may_get : (vmos : ℕ → Option Vmo) (k : ℕ) (old new : Vmo) → IsVmoForest vmos → vmos k ≡ Some old →
     lineage_of_vmo new ≡ lineage_of_vmo old → new.children ≡ old.children → MayGet vmos k new
 may_get vmos k old new forest found lineage children =
-    record { old = old; found = found; lineage = lineage; forest = IsForest-written vmos k old new forest found lineage children }
+    record { old = old; found = found; lineage = lineage; forest = IsVmoForest-written vmos k old new forest found lineage children }
 
 module _ (vmos : ℕ → Option Vmo) (k : ℕ) (new : Vmo) (may : MayGet vmos k new) where
   abbrev mid : ℕ → Option Vmo
@@ -68,35 +68,35 @@ module _ (vmos : ℕ → Option Vmo) (k : ℕ) (new : Vmo) (may : MayGet vmos k 
   -- ---- it is settled
 
   -- it is written where something keeps it, and else leaves
-  pub settled-is : (P : (ℕ → Option Vmo) → Type 0) → (is_kept new ≡ true → P mid) →
-      (is_kept new ≡ false → P (adopted (vmos_without mid k new.parent) up 1 new.children)) → P (settled vmos k new)
-  unfolding settled
-  settled-is P kept free = cond_both (is_kept new) mid (adopted (vmos_without vmos k new.parent) up 1 new.children) P kept
+  pub vmos_settled-is : (P : (ℕ → Option Vmo) → Type 0) → (is_kept new ≡ true → P mid) →
+      (is_kept new ≡ false → P (adopted (vmos_without mid k new.parent) up 1 new.children)) → P (vmos_settled vmos k new)
+  unfolding vmos_settled
+  vmos_settled-is P kept free = cond_both (is_kept new) mid (adopted (vmos_without vmos k new.parent) up 1 new.children) P kept
       (λ e. subst (λ (m : ℕ → Option Vmo). P (adopted m up 1 new.children)) (without-written vmos k new new.parent) (free e))
 
-  pub IsForest-settled : IsForest (settled vmos k new)
-  IsForest-settled = settled-is IsForest (λ kept. may.forest) (λ free. IsForest-left mid k new may.forest here)
+  pub IsVmoForest-settled : IsVmoForest (vmos_settled vmos k new)
+  IsVmoForest-settled = vmos_settled-is IsVmoForest (λ kept. may.forest) (λ free. IsVmoForest-left mid k new may.forest here)
 
   -- it has the keepers of its new value, whether it leaves or not
-  pub keepers-settled : keepers_in (settled vmos k new) ≡ keepers_in mid
+  pub keepers-settled : keepers_in (vmos_settled vmos k new) ≡ keepers_in mid
   unfolding keepers_in
-  keepers-settled = settled-is (λ (m : ℕ → Option Vmo). keepers_in m ≡ keepers_in mid) (λ kept. refl) (λ free. funext (λ v.
+  keepers-settled = vmos_settled-is (λ (m : ℕ → Option Vmo). keepers_in m ≡ keepers_in mid) (λ kept. refl) (λ free. funext (λ v.
       let gone = vmos_without mid k new.parent in
       let other = count-adopted (λ (x : Vmo). x.keepers) gone (λ x n. refl) up 1 new.children v in
       let left = count-without (λ (x : Vmo). x.keepers) mid (λ x o. refl) k new.parent v in
       grind (arith, common_steps, count-with_key (λ (x : Vmo). x.keepers) vmos k new v)))
 
   module _ (names : ℕ → Option Target) (named : AreNamed names mid) where
-    pub AreNamed-settled : AreNamed names (settled vmos k new)
-    AreNamed-settled = settled-is (AreNamed names) (λ kept. named) (λ free.
+    pub AreNamed-settled : AreNamed names (vmos_settled vmos k new)
+    AreNamed-settled = vmos_settled-is (AreNamed names) (λ kept. named) (λ free.
         AreNamed-adopted names _ up 1 new.children (AreNamed-left names mid named k new new.parent here (grind (arith, common_steps))))
 
     -- what becomes of it
     pub settles : (answer : Option Koid) → answer ≡ cond (is_kept new) None (Some (record { 0 = k })) →
-        Settles names new.keepers k (lineages vmos) (lineages (settled vmos k new)) answer
+        Settles names new.keepers k (lineages vmos) (lineages (vmos_settled vmos k new)) answer
     settles answer said =
         let by = is_named-counts names mid named k new here in
-        settled-is (λ (m : ℕ → Option Vmo). Settles names new.keepers k (lineages vmos) (lineages m) answer)
+        vmos_settled-is (λ (m : ℕ → Option Vmo). Settles names new.keepers k (lineages vmos) (lineages m) answer)
         (λ kept. record {
           stays = λ why. (said ∙ cond-true _ _ _ kept, lineages-got);
           leaves = λ unnamed none. absurd (grind (arith, common_steps));
@@ -110,7 +110,7 @@ module _ (vmos : ℕ → Option Vmo) (k : ℕ) (new : Vmo) (may : MayGet vmos k 
         })
 
 -- a VMO that is not in the table has nothing that keeps it, and settling it changes nothing
-pub settles_absent : (names : ℕ → Option Target) (vmos : ℕ → Option Vmo) (v : ℕ) → AreNamed names vmos → IsForest vmos →
+pub settles_absent : (names : ℕ → Option Target) (vmos : ℕ → Option Vmo) (v : ℕ) → AreNamed names vmos → IsVmoForest vmos →
     vmos v ≡ None → Settles names (keepers_in vmos v) v (lineages vmos) (lineages vmos) (Some (record { 0 = v }))
 unfolding keepers_in
 settles_absent names vmos v named forest none = record {
@@ -121,7 +121,7 @@ settles_absent names vmos v named forest none = record {
   leaves = λ unnamed unkept. (
     refl,
     sym (
-        ap (λ (o : Option Lineage). lineage_without (lineages vmos) v (parent_of o)) (lineage-at vmos v None none)
+        ap (λ (o : Option Lineage). lineage_without (lineages vmos) v (parent_in_lineage o)) (lineage-at vmos v None none)
         ∙ (sym (lineages-without vmos v None) ∙ ap lineages (without-childless vmos v None (λ w. grind (arith, common_steps, none, parent-there vmos v w forest)) ∙ without_key-absent vmos v none))),
   );
 }

@@ -16,18 +16,18 @@ use Rattle.vmo_table.specs.declared.vmos.Vmo.{Vmo}
 use Rattle.vmo_table.specs.declared.child_rows.ChildRow.{ChildRow}
 use Rattle.vmo_table.specs.inside.ChildRows.{AreChildren}
 use Rattle.vmo_table.specs.declared.vmo_table.VmoTable.TheInside.{Inside}
-use Rattle.vmo_table.specs.Vmos.{koid_number, vmos_in, lineage_of_vmo, lineages, fewer_names, settled, IsForest, MayGet}
-use Rattle.vmo_table.specs.Table.{names_in, room_of}
-use Rattle.vmo_table.specs.inside.TableFields.{table_of, AreNamed, IsTable}
+use Rattle.vmo_table.specs.Vmos.{koid_number, vmos_in, lineage_of_vmo, lineages, fewer_names, vmos_settled, IsVmoForest, MayGet}
+use Rattle.vmo_table.specs.Table.{names_in, vmo_room}
+use Rattle.vmo_table.specs.inside.TableFields.{vmo_table_of, AreNamed, IsVmoTable}
 use Rattle.vmo_table.proofs.ChildLaws.{under-none, under-same}
 use Rattle.vmo_table.proofs.CountLaws.{count-at}
 use Rattle.vmo_table.proofs.VmosLaws.{lineage-at, is_some-lineages, children_le}
 use Rattle.vmo_table.proofs.NamedLaws.{names_fit, AreNamed-kept, fewer_named}
 use Rattle.vmo_table.proofs.EntryLaws.{vmo_at, target_at, vmo_count_le}
-use Rattle.vmo_table.proofs.SettledLaws.{may_get, AreNamed-settled, IsForest-settled}
+use Rattle.vmo_table.proofs.SettledLaws.{may_get, AreNamed-settled, IsVmoForest-settled}
 
 -- both maps and the tree have room
-pub rooms : (a : Inside) → 1 ≤ room_of (table_of a) → (0 < spare a.names) × (0 < spare a.vmos) × (0 < a.child_rows.spare)
+pub rooms : (a : Inside) → 1 ≤ vmo_room (vmo_table_of a) → (0 < spare a.names) × (0 < spare a.vmos) × (0 < a.child_rows.spare)
 rooms a room = (omega arith, omega arith, omega arith)
 
 -- a parent that has a lineage is in the map
@@ -39,26 +39,26 @@ parent_at vmos (Some koid) h p e = sym (is_some-lineages vmos p) ∙ (ap (λ (v 
 
 -- ---- the table from its parts
 
-pub IsTable-is : (a : Inside) (names : ℕ → Option Target) (vmos : ℕ → Option Vmo) → names_in a.names.entries ≡ names →
-    vmos_in a.vmos.entries ≡ vmos → AreNamed names vmos → IsForest vmos → AreChildren a.child_rows (lineages vmos) → IsTable a
-IsTable-is a names vmos same_names same_vmos named forest rows = record {
+pub IsVmoTable-is : (a : Inside) (names : ℕ → Option Target) (vmos : ℕ → Option Vmo) → names_in a.names.entries ≡ names →
+    vmos_in a.vmos.entries ≡ vmos → AreNamed names vmos → IsVmoForest vmos → AreChildren a.child_rows (lineages vmos) → IsVmoTable a
+IsVmoTable-is a names vmos same_names same_vmos named forest rows = record {
   named = subst (λ (m : ℕ → Option Target). AreNamed m (vmos_in a.vmos.entries)) (sym same_names) (subst (AreNamed names) (sym same_vmos) named);
-  forest = subst IsForest (sym same_vmos) forest;
+  forest = subst IsVmoForest (sym same_vmos) forest;
   rows = subst (λ (m : ℕ → Option Vmo). AreChildren a.child_rows (lineages m)) (sym same_vmos) rows;
 }
 
 -- a VMO was settled
-pub IsTable-settled : (a : Inside) (vmos : ℕ → Option Vmo) (k : ℕ) (new : Vmo) → MayGet vmos k new → (names : ℕ → Option Target) →
-    names_in a.names.entries ≡ names → AreNamed names (with_key vmos k new) → vmos_in a.vmos.entries ≡ settled vmos k new →
-    AreChildren a.child_rows (lineages (vmos_in a.vmos.entries)) → IsTable a
-IsTable-settled a vmos k new may names same_names named same_vmos rows =
-    IsTable-is a names (settled vmos k new) same_names same_vmos (AreNamed-settled vmos k new may names named) (IsForest-settled vmos k new may)
+pub IsVmoTable-settled : (a : Inside) (vmos : ℕ → Option Vmo) (k : ℕ) (new : Vmo) → MayGet vmos k new → (names : ℕ → Option Target) →
+    names_in a.names.entries ≡ names → AreNamed names (with_key vmos k new) → vmos_in a.vmos.entries ≡ vmos_settled vmos k new →
+    AreChildren a.child_rows (lineages (vmos_in a.vmos.entries)) → IsVmoTable a
+IsVmoTable-settled a vmos k new may names same_names named same_vmos rows =
+    IsVmoTable-is a names (vmos_settled vmos k new) same_names same_vmos (AreNamed-settled vmos k new may names named) (IsVmoForest-settled vmos k new may)
     (subst (λ (m : ℕ → Option Vmo). AreChildren a.child_rows (lineages m)) same_vmos rows)
 
 -- where only room comes
-pub IsTable-same : (a b : Inside) → IsTable a → names_in b.names.entries ≡ names_in a.names.entries →
-    vmos_in b.vmos.entries ≡ vmos_in a.vmos.entries → b.child_rows.rows ≡ a.child_rows.rows → IsTable b
-IsTable-same a b table names vmos rows = IsTable-is b _ _ names vmos table.named table.forest
+pub IsVmoTable-same : (a b : Inside) → IsVmoTable a → names_in b.names.entries ≡ names_in a.names.entries →
+    vmos_in b.vmos.entries ≡ vmos_in a.vmos.entries → b.child_rows.rows ≡ a.child_rows.rows → IsVmoTable b
+IsVmoTable-same a b table names vmos rows = IsVmoTable-is b _ _ names vmos table.named table.forest
     (record { is = λ p v. under-same a.child_rows b.child_rows p v rows ∙ table.rows.is p v })
 
 -- the rows of no VMO
@@ -68,7 +68,7 @@ AreChildren-empty t vmos none no_vmo =
 
 -- ---- what a VMO of the table counts
 
-module _ (a : Inside) (v : ℕ) (vmo : Vmo) (table : IsTable a) (found : vmo_at a.vmos.entries v ≡ Some vmo) where
+module _ (a : Inside) (v : ℕ) (vmo : Vmo) (table : IsVmoTable a) (found : vmo_at a.vmos.entries v ≡ Some vmo) where
   there : vmos_in a.vmos.entries v ≡ Some vmo
   unfolding vmos_in
   there = found
@@ -97,7 +97,7 @@ module _ (a : Inside) (v : ℕ) (vmo : Vmo) (table : IsTable a) (found : vmo_at 
 -- ---- a VMO gets another value
 
 -- by a name that is closed
-pub closing : (a : Inside) (n : ℕ) (t : Target) (vmo left : Vmo) → IsTable a → target_at a.names.entries n ≡ Some t →
+pub closing : (a : Inside) (n : ℕ) (t : Target) (vmo left : Vmo) → IsVmoTable a → target_at a.names.entries n ≡ Some t →
     vmo_at a.vmos.entries t.koid.0 ≡ Some vmo → left ≡ fewer_names t.kind vmo →
     MayGet (vmos_in a.vmos.entries) t.koid.0 left × AreNamed (without_key (names_in a.names.entries) n) (with_key (vmos_in a.vmos.entries) t.koid.0 left)
 unfolding names_in vmos_in
@@ -107,7 +107,7 @@ closing a n t vmo left table open_ found is = (
 )
 
 -- by keepers that come or go
-pub keeping : (a : Inside) (v : ℕ) (vmo : Vmo) (keepers : ℕ) → IsTable a → vmo_at a.vmos.entries v ≡ Some vmo →
+pub keeping : (a : Inside) (v : ℕ) (vmo : Vmo) (keepers : ℕ) → IsVmoTable a → vmo_at a.vmos.entries v ≡ Some vmo →
     MayGet (vmos_in a.vmos.entries) v (record vmo { keepers = keepers })
     × AreNamed (names_in a.names.entries) (with_key (vmos_in a.vmos.entries) v (record vmo { keepers = keepers }))
 unfolding vmos_in

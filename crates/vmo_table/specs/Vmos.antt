@@ -30,12 +30,12 @@ abbrev pub vmo_count : (ℕ → Option Vmo) → ℕ
 vmo_count vmos = entry_count (2 ^ 64) (λ (vmo : Vmo). true) vmos
 
 -- what is counted of the VMO v, or 0 if there is no such VMO
-unfoldable pub count_of : (Vmo → ℕ) → (ℕ → Option Vmo) → ℕ → ℕ
-count_of count vmos v = unwrap_or (option_map count (vmos v)) 0
+unfoldable pub counted_for : (Vmo → ℕ) → (ℕ → Option Vmo) → ℕ → ℕ
+counted_for count vmos v = unwrap_or (option_map count (vmos v)) 0
 
 -- how many pins and mapped pages keep a VMO. If there is no such VMO, none do
 unfoldable pub keepers_in : (ℕ → Option Vmo) → ℕ → ℕ
-keepers_in = count_of (λ (vmo : Vmo). vmo.keepers)
+keepers_in = counted_for (λ (vmo : Vmo). vmo.keepers)
 
 -- a number for each VMO, smaller for its parent, so that no chain of parents is a ring
 pub record Ranking (lineage : ℕ → Option Lineage) : Type 0 where
@@ -44,9 +44,9 @@ pub record Ranking (lineage : ℕ → Option Lineage) : Type 0 where
 
 -- Each VMO has as many children as are counted, and a koid that no VMO has has none. No chain of parents is a ring.
 -- Koids have the range of their type.
-pub record IsForest (vmos : ℕ → Option Vmo) : Type 0 where
+pub record IsVmoForest (vmos : ℕ → Option Vmo) : Type 0 where
   pub below : (v : ℕ) → IsSome (vmos v) → v < 2 ^ 64
-  pub children : (v : ℕ) → count_of (λ (vmo : Vmo). vmo.children) vmos v ≡ child_count (lineages vmos) v
+  pub children : (v : ℕ) → counted_for (λ (vmo : Vmo). vmo.children) vmos v ≡ child_count (lineages vmos) v
   pub ranked : ∥ Ranking (lineages vmos) ∥₁
 
 -- 1 if two kinds are the same, else 0
@@ -94,8 +94,8 @@ abbrev pub is_kept : Vmo → Bool
 is_kept vmo = nat_lt 0 vmo.names || nat_lt 0 vmo.keepers
 
 -- the VMOs, once the VMO v has got this value. If nothing keeps v, v leaves, and its parent gets its children
-unfoldable pub settled : (ℕ → Option Vmo) → ℕ → Vmo → ℕ → Option Vmo
-settled vmos v vmo =
+unfoldable pub vmos_settled : (ℕ → Option Vmo) → ℕ → Vmo → ℕ → Option Vmo
+vmos_settled vmos v vmo =
     if is_kept vmo then with_key vmos v vmo
     else adopted (vmos_without vmos v vmo.parent) (option_map koid_number vmo.parent) 1 vmo.children
 
@@ -104,4 +104,4 @@ pub record MayGet (vmos : ℕ → Option Vmo) (k : ℕ) (new : Vmo) : Type 0 whe
   pub old : Vmo
   pub found : vmos k ≡ Some old
   pub lineage : lineage_of_vmo new ≡ lineage_of_vmo old
-  pub forest : IsForest (with_key vmos k new)
+  pub forest : IsVmoForest (with_key vmos k new)

@@ -5,7 +5,7 @@ ghost use Rattle.std.specs.Option.{option_map};
 ghost use Rattle.vm_base.specs.declared.names.Koid.{Koid};
 ghost use Rattle.balanced_tree.specs.Row.{height_in};
 ghost use Rattle.balanced_tree.specs.Pairs.{second_in};
-ghost use Rattle.vmo_table.specs.inside.ChildRows.{row_of, parent_in, child_in, is_under, IsChange};
+ghost use Rattle.vmo_table.specs.inside.ChildRows.{child_row_of, parent_in_row, child_in, is_under, IsChange};
 ghost use Rattle.vmo_table.specs.Vmos.{koid_number};
 
 use balanced_tree::{BalancedTree, Child, TreeRow, link_to, pair_rank};
@@ -27,7 +27,7 @@ pub(crate) type ChildRows = BalancedTree<ChildRow>;
 impl ChildRow {
     /// Returns the row of a child, with no links.
     fn new(parent: Koid, child: Koid) -> ChildRow
-        ensures { result ≡ row_of parent.0 child.0 }
+        ensures { result ≡ child_row_of parent.0 child.0 }
     {
         ChildRow {
             parent,
@@ -51,9 +51,9 @@ fn height_of(child: Option<Child<ChildRow>>) -> u32
 impl TreeRow for ChildRow {
     ghost use Rattle.std.specs.Prelude.{refl};
     ghost use Rattle.balanced_tree.specs.Row.{link_of, height_over};
-    ghost use Rattle.vmo_table.specs.inside.ChildRows.{row_functions};
+    ghost use Rattle.vmo_table.specs.inside.ChildRows.{child_row_functions};
 
-    ghost functions = { row_functions };
+    ghost functions = { child_row_functions };
 
     fn rank(self) -> u128 {
         pair_rank(self.parent.0, self.child.0)
@@ -133,7 +133,7 @@ pub(crate) fn first_child(rows: &ChildRows, parent: Koid) -> Option<Koid>
 
 /// Returns the child of the row that follows, if it is under this parent.
 fn child_under(parent: Koid, next: Option<ChildRow>) -> Option<Koid>
-    ensures child { option_map koid_number result ≡ second_in parent_in child_in parent.0 next }
+    ensures child { option_map koid_number result ≡ second_in parent_in_row child_in parent.0 next }
     ensures fits { IfSome next (λ row. row.child.0 < 2 ^ 64) }
 {
     match next {

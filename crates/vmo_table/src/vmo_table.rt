@@ -5,7 +5,7 @@ ghost use Rattle.std.specs.Option.{option_map};
 ghost use Rattle.vm_base.specs.Entries.{with_key, without_key};
 ghost use Rattle.vm_model.specs.Naming.Names.{owner, children, may_decommit};
 ghost use Rattle.vmo_table.specs.Vmos.{koid_number};
-ghost use Rattle.vmo_table.specs.Table.{names_of, lineage_in, keepers_of, room_of, Settles, Closes};
+ghost use Rattle.vmo_table.specs.Table.{names_of, lineage_in, keepers_of, vmo_room, Settles, Closes};
 
 use crate::child_rows::{ChildRows, add_child};
 use crate::vmos::{Vmo, count_children, settle, write_back};
@@ -25,15 +25,15 @@ pub struct VmoTable {
 }
 
 impl Model for VmoTable {
-    ghost use Rattle.vmo_table.specs.Table.{Table};
+    ghost use Rattle.vmo_table.specs.Table.{Vmos};
 
-    ghost Value = { Table };
+    ghost Value = { Vmos };
 
-    ghost use Rattle.vmo_table.specs.inside.TableFields.{table_of, IsTable};
+    ghost use Rattle.vmo_table.specs.inside.TableFields.{vmo_table_of, IsVmoTable};
 
-    ghost view = { table_of };
+    ghost view = { vmo_table_of };
 
-    ghost invariant = { IsTable };
+    ghost invariant = { IsVmoTable };
 }
 
 impl VmoTable {
@@ -52,7 +52,7 @@ impl VmoTable {
 
     /// Makes room for one name and one VMO more. `HostMemory` if the host has too little memory.
     pub fn reserve(&mut self) -> Result<(), HostMemory>
-        ensures room { OnOk result (1 ≤ room_of self.new) }
+        ensures room { OnOk result (1 ≤ vmo_room self.new) }
         ensures names { names_of self.new ≡ names_of self.old }
         ensures lineage { lineage_in self.new ≡ lineage_in self.old }
         ensures keepers { keepers_of self.new ≡ keepers_of self.old }
@@ -83,7 +83,7 @@ impl VmoTable {
         requires name { names_of self.old name.0 ≡ None }
         requires koid { lineage_in self.old koid.0 ≡ None }
         requires parent { IfSome parent (λ p. IsSome (lineage_in self.old p.0)) }
-        requires room { 1 ≤ room_of self.old }
+        requires room { 1 ≤ vmo_room self.old }
         ensures names { names_of self.new ≡ with_key (names_of self.old) name.0 (owner koid.0 may_write resizable) }
         ensures lineage { lineage_in self.new ≡ with_key (lineage_in self.old) koid.0
             (record { resizable = resizable; origin = origin; parent = option_map koid_number parent }) }
@@ -124,7 +124,7 @@ impl VmoTable {
         requires name { names_of self.old name.0 ≡ None }
         requires koid { IsSome (lineage_in self.old target.koid.0) }
         requires kind { target.kind ≢ NameKind.Owner }
-        requires room { 1 ≤ room_of self.old }
+        requires room { 1 ≤ vmo_room self.old }
         ensures names { names_of self.new ≡ with_key (names_of self.old) name.0 target }
         ensures lineage { lineage_in self.new ≡ lineage_in self.old }
         ensures keepers { keepers_of self.new ≡ keepers_of self.old }

@@ -6,7 +6,7 @@ ghost use Rattle.vm_base.specs.Entries.{with_key};
 ghost use Rattle.vm_base.specs.declared.limits.TheConstants.{NAMES};
 ghost use Rattle.vm_model.specs.Naming.Names.{is_parent, child_count};
 ghost use Rattle.vmo_table.specs.Vmos.{koid_number, vmos_in, lineages, kind_bit, more_names, fewer_names};
-ghost use Rattle.vmo_table.specs.Vmos.{adopted, vmos_without, is_kept, settled, MayGet};
+ghost use Rattle.vmo_table.specs.Vmos.{adopted, vmos_without, is_kept, vmos_settled, MayGet};
 ghost use Rattle.vmo_table.specs.inside.ChildRows.{is_under, AreChildren, MayLeave};
 ghost use Rattle.vmo_table.specs.declared.vmos.Vmo.{Vmo};
 
@@ -179,7 +179,7 @@ pub(crate) fn settle(
 ) -> Option<Koid>
     requires may { MayGet (vmos_in vmos.old.entries) koid.0 vmo }
     requires rows { AreChildren rows.old (lineages (vmos_in vmos.old.entries)) }
-    ensures vmos { vmos_in vmos.new.entries ≡ settled (vmos_in vmos.old.entries) koid.0 vmo }
+    ensures vmos { vmos_in vmos.new.entries ≡ vmos_settled (vmos_in vmos.old.entries) koid.0 vmo }
     ensures rows { AreChildren rows.new (lineages (vmos_in vmos.new.entries)) }
     ensures answer { result ≡ (if is_kept vmo then None else Some koid) }
 {

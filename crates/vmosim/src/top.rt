@@ -4,15 +4,14 @@ ghost use Rattle.std.specs.Prelude.{◌≡◌, ◌≢◌, ◌↔◌, [], ◌∷�
 ghost use Rattle.script_io.specs.Faults.{HasFailed};
 ghost use Rattle.vm_base.specs.declared.limits.TheConstants.{SCRIPT_BYTES};
 ghost use Rattle.vm_model.specs.Contents.Content.{nothing};
-ghost use Rattle.cow_forest.specs.Store.{content_of};
+ghost use Rattle.cow_forest.specs.Store.{forest_content};
 ghost use Rattle.served.specs.Outcome.{EndsAs};
 ghost use Rattle.served.specs.Words.{frames_asked};
 ghost use Rattle.vm_session.specs.Outcome.{task_asked, AskForWork, TaskEndsAs};
 ghost use Rattle.batch_vm.specs.BatchAnswering.{batch_rules};
 ghost use Rattle.source_vm.specs.Answering.{source_rules};
-ghost use Rattle.shared_vm.specs.Outcome.{IfThere};
-ghost use Rattle.shared_vm.specs.Outcome as actors;
-ghost use Rattle.transcript.specs.Reports as transcripts;
+ghost use Rattle.shared_vm.specs.Outcome.{ActorsEndAs, IfThere};
+ghost use Rattle.transcript.specs.Reports.{CheckEndsAs};
 
 use crate::verbs::has_verb;
 use batch_vm::run_batch;
@@ -47,34 +46,34 @@ pub fn top<R: Threads + Wait + Sync, G: Gate, S: Source, K: Sink>(
     source: &mut S,
     sink: &mut K,
 ) -> Status
-    requires store { option_map content_of store.old ≡ Some nothing }
+    requires store { option_map forest_content store.old ≡ Some nothing }
     requires kinds { map (λ f. f.kind) functions ≡ 0 ∷ 1 ∷ 2 ∷ [] }
 
     // What each status says of the bytes that the source gave, the bytes that the sink took and what the tree contains.
-    ensures ends { IfSome (task_asked words.now) (λ task. IfThere (option_map content_of store.new) (λ content.
+    ensures ends { IfSome (task_asked words.now) (λ task. IfThere (option_map forest_content store.new) (λ content.
         TaskEndsAs task result (S.remaining source.old) (S.remaining source.new)
         (K.contents sink.old) (K.contents sink.new) content)) }
 
     // The same of a script on the machine with jobs.
     ensures batch { IfSome (frames_asked (codes "batch") words.now) (λ frames.
-        IfThere (option_map content_of store.new) (λ content.
+        IfThere (option_map forest_content store.new) (λ content.
         EndsAs batch_rules result frames SCRIPT_BYTES (S.remaining source.old) (S.remaining source.new)
         (K.contents sink.old) (K.contents sink.new) content)) }
 
     // The same of a script on the machine of page sources.
     ensures sources { IfSome (frames_asked (codes "sources") words.now) (λ frames.
-        IfThere (option_map content_of store.new) (λ content.
+        IfThere (option_map forest_content store.new) (λ content.
         EndsAs source_rules result frames SCRIPT_BYTES (S.remaining source.old) (S.remaining source.new)
         (K.contents sink.old) (K.contents sink.new) content)) }
 
     // The same of the tasks of four actors.
     ensures actors { IfSome (frames_asked (codes "actors") words.now) (λ frames.
-        actors.EndsAs result frames (S.remaining source.old) (S.remaining source.new)
-        (K.contents sink.old) (K.contents sink.new) (option_map content_of store.new)) }
+        ActorsEndAs result frames (S.remaining source.old) (S.remaining source.new)
+        (K.contents sink.old) (K.contents sink.new) (option_map forest_content store.new)) }
 
     // What each status says of a transcript that is checked. The tree has no part in it.
     ensures check { IfSome (frames_asked (codes "check") words.now) (λ frames.
-        transcripts.EndsAs result frames (S.remaining source.old) (S.remaining source.new)
+        CheckEndsAs result frames (S.remaining source.old) (S.remaining source.new)
         (K.contents sink.old) (K.contents sink.new)) }
     ensures apart { IsSome (frames_asked (codes "check") words.now) → store.new ≡ store.old }
 

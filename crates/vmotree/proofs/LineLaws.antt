@@ -16,7 +16,7 @@ use Rattle.served.specs.Answering.{syntax_text}
 use Rattle.served.specs.Outcome.{AnswersLine, SinkTakes}
 use Rattle.served.proofs.Answered.{written_or_cut}
 use Rattle.vm_session.specs.Plain.{plain, GivesText}
-use Rattle.cow_forest.specs.Store.{Forest, IsStore, content_of}
+use Rattle.cow_forest.specs.Store.{Forest, IsStore, forest_content}
 use Rattle.tree_text.specs.Text.{forest_text}
 use Rattle.tree_text.specs.inside.Pushing.{IsPushed}
 use Rattle.tree_text.proofs.OnceLaws.{each_once}
@@ -82,7 +82,7 @@ module _ (replies each : Bool) (form : Form) (line : List ℕ) where
       AnswersLine plain line old new other_old other_new other → TellsLine {T = T} {E = E} false line old new sink sink (Ok x)
   tells-unheard old new other_old other_new sink other x answer = record { told = answer.text; gives = answer.gives; written = Appends-nil sink }
 
-  module _ (old new : Machine) (f : Forest) (s : IsStore f) (same : content_of f ≡ new.state.content) (order : kind_of (reading line) ≡ kind.Order) where
+  module _ (old new : Machine) (f : Forest) (s : IsStore f) (same : forest_content f ≡ new.state.content) (order : kind_of (reading line) ≡ kind.Order) where
     abbrev drawing : List ℕ
     drawing = if each then forest_text form f else []
 

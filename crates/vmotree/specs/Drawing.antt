@@ -11,7 +11,7 @@ use Rattle.vm_model.specs.Language.Reading.{Reading, Blank, Order, Outside, read
 use Rattle.vm_model.specs.Language.Text.{texts}
 use Rattle.vm_model.specs.Scripts.Run.{GivesAs, Gives}
 use Rattle.served.specs.Answering.{Answering, syntax_text}
-use Rattle.cow_forest.specs.Store.{Forest, IsStore, content_of}
+use Rattle.cow_forest.specs.Store.{Forest, IsStore, forest_content}
 use Rattle.tree_text.specs.Order.{all_nodes, HasEachNodeOnce}
 use Rattle.tree_text.specs.Text.{forest_text}
 use Rattle.tree_text.specs.declared.lines.Form.{Form}
@@ -22,7 +22,7 @@ use Rattle.tree_text.specs.declared.lines.Form.TheVariants as form
 pub record IsDrawing (form : Form) (m : Machine) (drawing : List ℕ) : Type 0 where
   pub forest : Forest
   pub store : IsStore forest
-  pub same : content_of forest ≡ m.state.content
+  pub same : forest_content forest ≡ m.state.content
   pub text : drawing ≡ forest_text form forest
   pub nodes : HasEachNodeOnce forest (all_nodes forest)
 

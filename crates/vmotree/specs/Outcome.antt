@@ -5,7 +5,7 @@ use Rattle.vm_base.specs.declared.limits.TheConstants.{SCRIPT_BYTES}
 use Rattle.script_io.specs.declared.status.Status.{Status}
 use Rattle.script_io.specs.declared.status.Status.TheVariants.{Done, Usage, HostMemory, ReadFault, WriteFault, ScriptLimit}
 use Rattle.script_io.specs.Faults.{IsCutOff}
-use Rattle.cow_forest.specs.Store.{Forest, content_of}
+use Rattle.cow_forest.specs.Store.{Forest, forest_content}
 use Rattle.served.specs.Outcome.{EndsAs}
 use Rattle.tree_text.specs.Text.{forest_text}
 use Rattle.vmotree.specs.declared.request.Request.{Request}
@@ -19,7 +19,7 @@ last_text r f = if r.each then [] else forest_text r.form f
 pub record Draws (r : Request) (status : Status) (source_old source_new sink_old sink_new : Option (List ℕ)) (f : Forest)
     (Takes : Option (List ℕ) → Option (List ℕ) → List ℕ → Type 0) : Type 0 where
   pub sink_mid : Option (List ℕ)
-  pub script : EndsAs (drawing_rules r.replies r.each r.form) status r.frames SCRIPT_BYTES source_old source_new sink_old sink_mid (content_of f)
+  pub script : EndsAs (drawing_rules r.replies r.each r.form) status r.frames SCRIPT_BYTES source_old source_new sink_old sink_mid (forest_content f)
   pub last : Takes sink_mid sink_new (last_text r f)
 
 -- a script that ended so is followed by the last text
@@ -38,8 +38,8 @@ DrawsAs r Done source_old source_new sink_old sink_new f = Draws r Done source_o
 DrawsAs r ReadFault source_old source_new sink_old sink_new f = Draws r ReadFault source_old source_new sink_old sink_new f Appends
 DrawsAs r ScriptLimit source_old source_new sink_old sink_new f = Draws r ScriptLimit source_old source_new sink_old sink_new f Appends
 DrawsAs r WriteFault source_old source_new sink_old sink_new f =
-    EndsAs (drawing_rules r.replies r.each r.form) WriteFault r.frames SCRIPT_BYTES source_old source_new sink_old sink_new (content_of f)
+    EndsAs (drawing_rules r.replies r.each r.form) WriteFault r.frames SCRIPT_BYTES source_old source_new sink_old sink_new (forest_content f)
     ⊎ ((status : Status) × IsFollowed status × Draws r status source_old source_new sink_old sink_new f IsCutOff)
 DrawsAs r HostMemory source_old source_new sink_old sink_new f =
-    EndsAs (drawing_rules r.replies r.each r.form) HostMemory r.frames SCRIPT_BYTES source_old source_new sink_old sink_new (content_of f)
+    EndsAs (drawing_rules r.replies r.each r.form) HostMemory r.frames SCRIPT_BYTES source_old source_new sink_old sink_new (forest_content f)
 DrawsAs r Usage source_old source_new sink_old sink_new f = ⊥

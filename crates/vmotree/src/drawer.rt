@@ -6,7 +6,7 @@ ghost use Rattle.vm_base.specs.declared.limits.TheConstants.{KOIDS};
 ghost use Rattle.vm_model.specs.Machine.Machine.{IsGoodMachine};
 ghost use Rattle.vm_core.specs.Vm.{Agrees, machine_of};
 ghost use Rattle.served.specs.Outcome.{AnswersLine};
-ghost use Rattle.cow_forest.specs.Store.{content_of};
+ghost use Rattle.cow_forest.specs.Store.{forest_content};
 ghost use Rattle.vm_model.specs.Language.Reading.{reading};
 ghost use Rattle.vmotree.specs.Drawing.{drawing_rules, form_of};
 ghost use Rattle.vmotree.specs.inside.Lines.{kind_of, TellsLine};
@@ -113,13 +113,13 @@ fn answer_line<K: Sink>(
     line: &[u8],
     drawn: Drawn,
 ) -> Result<(), Failed>
-    requires agrees { Agrees (content_of store.old) vm.old }
-    requires next { (content_of store.old).next < KOIDS }
-    ensures answer { AnswersLine (drawing_rules drawn.replies drawn.each drawn.form) line.now (machine_of (content_of store.old) vm.old)
-        (machine_of (content_of store.new) vm.new) (K.contents sink.old) (K.contents sink.new) result }
-    ensures agrees { Agrees (content_of store.new) vm.new }
-    ensures good { IsGoodMachine (machine_of (content_of store.new) vm.new) }
-    ensures next { (content_of store.new).next ≤ (content_of store.old).next + 1 }
+    requires agrees { Agrees (forest_content store.old) vm.old }
+    requires next { (forest_content store.old).next < KOIDS }
+    ensures answer { AnswersLine (drawing_rules drawn.replies drawn.each drawn.form) line.now (machine_of (forest_content store.old) vm.old)
+        (machine_of (forest_content store.new) vm.new) (K.contents sink.old) (K.contents sink.new) result }
+    ensures agrees { Agrees (forest_content store.new) vm.new }
+    ensures good { IsGoodMachine (machine_of (forest_content store.new) vm.new) }
+    ensures next { (forest_content store.new).next ≤ (forest_content store.old).next + 1 }
     ensures cause { HasCause (K.faults sink.old) (K.faults sink.new) result }
 {
     match read_kind(line) {
@@ -137,14 +137,14 @@ fn draw_order<K: Sink>(
     line: &[u8],
     drawn: Drawn,
 ) -> Result<(), Failed>
-    requires agrees { Agrees (content_of store.old) vm.old }
-    requires next { (content_of store.old).next < KOIDS }
+    requires agrees { Agrees (forest_content store.old) vm.old }
+    requires next { (forest_content store.old).next < KOIDS }
     requires order { kind_of (reading line.now) ≡ Kind.Order }
-    ensures answer { AnswersLine (drawing_rules drawn.replies drawn.each drawn.form) line.now (machine_of (content_of store.old) vm.old)
-        (machine_of (content_of store.new) vm.new) (K.contents sink.old) (K.contents sink.new) result }
-    ensures agrees { Agrees (content_of store.new) vm.new }
-    ensures good { IsGoodMachine (machine_of (content_of store.new) vm.new) }
-    ensures next { (content_of store.new).next ≤ (content_of store.old).next + 1 }
+    ensures answer { AnswersLine (drawing_rules drawn.replies drawn.each drawn.form) line.now (machine_of (forest_content store.old) vm.old)
+        (machine_of (forest_content store.new) vm.new) (K.contents sink.old) (K.contents sink.new) result }
+    ensures agrees { Agrees (forest_content store.new) vm.new }
+    ensures good { IsGoodMachine (machine_of (forest_content store.new) vm.new) }
+    ensures next { (forest_content store.new).next ≤ (forest_content store.old).next + 1 }
     ensures cause { HasCause (K.faults sink.old) (K.faults sink.new) result }
 {
     let told = tell(store, vm, sink, line, drawn.replies);
@@ -167,13 +167,13 @@ fn tell<K: Sink>(
     line: &[u8],
     replies: bool,
 ) -> Result<(), Failed>
-    requires agrees { Agrees (content_of store.old) vm.old }
-    requires next { (content_of store.old).next < KOIDS }
-    ensures told { TellsLine replies line.now (machine_of (content_of store.old) vm.old)
-        (machine_of (content_of store.new) vm.new) (K.contents sink.old) (K.contents sink.new) result }
-    ensures agrees { Agrees (content_of store.new) vm.new }
-    ensures good { IsGoodMachine (machine_of (content_of store.new) vm.new) }
-    ensures next { (content_of store.new).next ≤ (content_of store.old).next + 1 }
+    requires agrees { Agrees (forest_content store.old) vm.old }
+    requires next { (forest_content store.old).next < KOIDS }
+    ensures told { TellsLine replies line.now (machine_of (forest_content store.old) vm.old)
+        (machine_of (forest_content store.new) vm.new) (K.contents sink.old) (K.contents sink.new) result }
+    ensures agrees { Agrees (forest_content store.new) vm.new }
+    ensures good { IsGoodMachine (machine_of (forest_content store.new) vm.new) }
+    ensures next { (forest_content store.new).next ≤ (forest_content store.old).next + 1 }
     ensures cause { HasCause (K.faults sink.old) (K.faults sink.new) result }
 {
     if replies {

@@ -5,7 +5,7 @@ ghost use Rattle.script_io.specs.Faults.{HasFailed};
 ghost use Rattle.vm_base.specs.declared.limits.TheConstants.{FRAMES, SCRIPT_BYTES};
 ghost use Rattle.vm_model.specs.Contents.Content.{nothing};
 ghost use Rattle.served.specs.Outcome.{EndsAs};
-ghost use Rattle.cow_forest.specs.Store.{content_of};
+ghost use Rattle.cow_forest.specs.Store.{forest_content};
 ghost use Rattle.tree_text.specs.Order.{all_nodes, HasEachNodeOnce};
 ghost use Rattle.vmotree.specs.Words.{request_in};
 ghost use Rattle.vmotree.specs.Drawing.{drawing_rules, form_of};
@@ -35,7 +35,7 @@ pub fn draw<S: Source, K: Sink>(
     source: &mut S,
     sink: &mut K,
 ) -> Status
-    requires { content_of store.old ≡ nothing }
+    requires { forest_content store.old ≡ nothing }
 
     // What each status says of the bytes that the source gave, the bytes that the sink took, and the tree.
     ensures ends { IfSome (request_in words.now) (λ r. DrawsAs r result (S.remaining source.old) (S.remaining source.new)
@@ -71,10 +71,10 @@ fn draw_lines<S: Source, K: Sink>(
     source: &mut S,
     sink: &mut K,
 ) -> Status
-    requires empty { content_of store.old ≡ nothing }
+    requires empty { forest_content store.old ≡ nothing }
     requires frames { 1 ≤ request.frames × request.frames ≤ FRAMES }
     ensures ends { EndsAs (drawing_rules request.replies request.each request.form) result request.frames SCRIPT_BYTES (S.remaining source.old)
-        (S.remaining source.new) (K.contents sink.old) (K.contents sink.new) (content_of store.new) }
+        (S.remaining source.new) (K.contents sink.old) (K.contents sink.new) (forest_content store.new) }
     ensures read_cause { result ≡ Status.ReadFault → HasFailed (S.faults source.old) (S.faults source.new) }
     ensures write_cause { result ≡ Status.WriteFault → HasFailed (K.faults sink.old) (K.faults sink.new) }
     ensures host_memory { result ≡ Status.HostMemory → (source.new ≡ source.old) × (sink.new ≡ sink.old) }
@@ -147,10 +147,10 @@ fn serve_lines<const REPLIES: bool, const EACH: bool, const GRAPH: bool, S: Sour
     source: &mut S,
     sink: &mut K,
 ) -> Status
-    requires empty { content_of store.old ≡ nothing }
+    requires empty { forest_content store.old ≡ nothing }
     requires frames { 1 ≤ frames × frames ≤ FRAMES }
     ensures ends { EndsAs (drawing_rules REPLIES EACH (form_of GRAPH)) result frames SCRIPT_BYTES (S.remaining source.old)
-        (S.remaining source.new) (K.contents sink.old) (K.contents sink.new) (content_of store.new) }
+        (S.remaining source.new) (K.contents sink.old) (K.contents sink.new) (forest_content store.new) }
     ensures read_cause { result ≡ Status.ReadFault → HasFailed (S.faults source.old) (S.faults source.new) }
     ensures write_cause { result ≡ Status.WriteFault → HasFailed (K.faults sink.old) (K.faults sink.new) }
     ensures host_memory { result ≡ Status.HostMemory → (source.new ≡ source.old) × (sink.new ≡ sink.old) }
@@ -176,7 +176,7 @@ fn serve_lines<const REPLIES: bool, const EACH: bool, const GRAPH: bool, S: Sour
 fn draw_last<K: Sink>(request: Request, status: Status, store: &CowForest, sink: &mut K) -> Status
     ensures ends { (source_old source_new sink_old : Option (List ℕ)) →
         EndsAs (drawing_rules request.replies request.each request.form) status request.frames SCRIPT_BYTES source_old source_new sink_old
-        (K.contents sink.old) (content_of store.now) →
+        (K.contents sink.old) (forest_content store.now) →
         DrawsAs request result source_old source_new sink_old (K.contents sink.new) store.now }
     ensures nodes { HasEachNodeOnce store.now (all_nodes store.now) }
     ensures same { (result ≡ status) ⊎ (result ≡ Status.WriteFault) }

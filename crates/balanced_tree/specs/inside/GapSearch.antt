@@ -5,18 +5,18 @@ use Rattle.balanced_tree.specs.declared.spans.Span.{Span}
 use Rattle.balanced_tree.specs.Row.{Functions}
 use Rattle.balanced_tree.specs.Extents.{Extents, span_over}
 use Rattle.balanced_tree.specs.Gaps.{HasNoGap, IsFirstGap}
-use Rattle.balanced_tree.specs.inside.Tree.{Tree, Leaf, Node, height, rows_of}
+use Rattle.balanced_tree.specs.inside.Tree.{SearchTree, Leaf, Node, height, rows_of}
 
 module _ {R : Type 0} (f : Functions R) (e : Extents R) where
   -- the span of a tree that has a row
-  abbrev pub span_of : Tree R → Option Span
+  abbrev pub span_of : SearchTree R → Option Span
   span_of Leaf = None
   span_of (Node l p x r) = Some (span_over (f.rank x) (e.end x) (span_of l) (span_of r))
 
   -- The answer is the first gap of this size in a tree whose extents lie from low on and up to high. The count of steps
   -- went from `before` to `after`. Each clause on steps is what a search above it in the tree needs of one that
   -- begins below the tree, ends above it, or does neither.
-  pub record HasSearched (t : Tree R) (low high from size limit : ℕ) (result : Option ℕ) (before after : ℕ) :
+  pub record HasSearched (t : SearchTree R) (low high from size limit : ℕ) (result : Option ℕ) (before after : ℕ) :
       Type 0 where
     pub gap : MatchOption result (HasNoGap f e (rows_of f t) from size limit)
         (IsFirstGap f e (rows_of f t) from size limit)

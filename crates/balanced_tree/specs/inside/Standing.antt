@@ -6,7 +6,7 @@ use Rattle.balanced_tree.specs.declared.changes.Change.TheVariants.{Hidden, Empt
 use Rattle.balanced_tree.specs.declared.children.Child.{Child}
 use Rattle.balanced_tree.specs.Row.{Functions, link_of, height_in, plain}
 use Rattle.balanced_tree.specs.Rows.{Rows}
-use Rattle.balanced_tree.specs.inside.Tree.{Tree, Leaf, Node, place_of, height, IsBalanced, child_of, rows_of, IsOrdered, has_rank, row_in, inserted, removed, least, without_least, without_root, moved, AreBeside}
+use Rattle.balanced_tree.specs.inside.Tree.{SearchTree, Leaf, Node, place_of, height, IsBalanced, child_of, rows_of, IsOrdered, has_rank, row_in, inserted, removed, least, without_least, without_root, moved, AreBeside}
 
 module _ {R : Type 0} where
   -- a row with the link to it, if there is one
@@ -43,12 +43,12 @@ module _ {R : Type 0} (f : Functions R) where
     pub right : (z : R) (l : Option (Child R)) → f.linked z l a ≡ f.linked z l b
 
   -- the change leads from the child that was there to the root of the tree, or hides that it is another one
-  pub record IsRooted (had : Option (Child R)) (t : Tree R) (change : Change) : Type 0 where
+  pub record IsRooted (had : Option (Child R)) (t : SearchTree R) (change : Change) : Type 0 where
     pub root : place_of t ≡ root_after change (link_of had)
     pub hidden : change ≡ Hidden → IsLike had (child_of f t)
 
   -- under each place of the tree stands its row over its parts
-  abbrev pub Spells : Slab R → Tree R → Type 0
+  abbrev pub Spells : Slab R → SearchTree R → Type 0
   Spells s Leaf = Unit {0}
   Spells s (Node l p x r) = (get s p ≡ Some (f.linked x (child_of f l) (child_of f r))) × Spells s l × Spells s r
 
@@ -59,7 +59,7 @@ module _ {R : Type 0} (f : Functions R) where
 
   -- under this link stands this balanced tree, with ranks from low on and below high; its height is less than a stored
   -- height can be
-  pub record IsStanding (s : Slab R) (at : Option ℕ) (t : Tree R) (low high : ℕ) : Type 0 where
+  pub record IsStanding (s : Slab R) (at : Option ℕ) (t : SearchTree R) (low high : ℕ) : Type 0 where
     pub spelled : Spells s t
     pub is_at : place_of t ≡ at
     pub ordered : IsOrdered f low high t
@@ -68,14 +68,14 @@ module _ {R : Type 0} (f : Functions R) where
 
   -- some tree stands under this link
   pub record Stands (s : Slab R) (at : Option ℕ) : Type 0 where
-    pub tree : Tree R
+    pub tree : SearchTree R
     pub low : ℕ
     pub high : ℕ
     pub standing : IsStanding s at tree low high
 
   -- some tree stands under this link whose bounds hold this rank, and it has a row of it or there is room for one
   pub record StandsFor (s : Slab R) (at : Option ℕ) (n : ℕ) : Type 0 where
-    pub tree : Tree R
+    pub tree : SearchTree R
     pub low : ℕ
     pub high : ℕ
     pub standing : IsStanding s at tree low high
@@ -85,7 +85,7 @@ module _ {R : Type 0} (f : Functions R) where
 
   -- some tree stands under this link whose bounds hold m, and in which no row has the rank m or one between n and m
   pub record StandsBeside (s : Slab R) (at : Option ℕ) (n m : ℕ) : Type 0 where
-    pub tree : Tree R
+    pub tree : SearchTree R
     pub low : ℕ
     pub high : ℕ
     pub standing : IsStanding s at tree low high
@@ -98,14 +98,14 @@ module _ {R : Type 0} (f : Functions R) where
     pub kept : (p : ℕ) (x : R) → get old p ≡ Some x → (f.rank x < low) ⊎ (high ≤ f.rank x) → get new p ≡ Some x
 
   -- the new slab has this tree in place of what was within the bounds, and keeps the rest
-  pub record Becomes (old new : Slab R) (t : Tree R) (low high : ℕ) : Type 0 where
+  pub record Becomes (old new : Slab R) (t : SearchTree R) (low high : ℕ) : Type 0 where
     pub spelled : Spells new t
     pub ordered : IsOrdered f low high t
     pub kept : Keeps low high old new
 
   -- Two trees stand in the slab, and between them is a place with some row; the ranks of this row and of x lie
   -- between theirs.
-  pub record IsSplit (s : Slab R) (l : Tree R) (p : ℕ) (x : R) (r : Tree R) (low high : ℕ) : Type 0 where
+  pub record IsSplit (s : Slab R) (l : SearchTree R) (p : ℕ) (x : R) (r : SearchTree R) (low high : ℕ) : Type 0 where
     pub middle : ℕ
     pub past : ℕ
     pub had : R
@@ -121,8 +121,8 @@ module _ {R : Type 0} (f : Functions R) where
 
   -- some trees stand so, under these links
   pub record Splits (s : Slab R) (left : Option ℕ) (p : ℕ) (x : R) (right : Option ℕ) : Type 0 where
-    pub left_tree : Tree R
-    pub right_tree : Tree R
+    pub left_tree : SearchTree R
+    pub right_tree : SearchTree R
     pub low : ℕ
     pub high : ℕ
     pub split : IsSplit s left_tree p x right_tree low high
@@ -131,7 +131,7 @@ module _ {R : Type 0} (f : Functions R) where
 
   -- The new slab has the tree with the row w, and c is what the row above it stores anew. If no row had the rank of w,
   -- it has one row more. The count of steps went from `before` to `after`.
-  pub record HasInserted (old new : Slab R) (w : R) (t : Tree R) (low high : ℕ) (c : Change)
+  pub record HasInserted (old new : Slab R) (w : R) (t : SearchTree R) (low high : ℕ) (c : Change)
       (before after : ℕ) : Type 0 where
     pub becomes : Becomes old new (inserted f old.vacant_key w t) low high
     pub rooted : IsRooted (child_of f t) (inserted f old.vacant_key w t) c
@@ -140,7 +140,7 @@ module _ {R : Type 0} (f : Functions R) where
 
   -- The new slab has the tree with the row w in place of that of rank n, and c is what the row above it stores anew. The
   -- count of steps went from `before` to `after`.
-  pub record HasMoved (old new : Slab R) (n : ℕ) (w : R) (t : Tree R) (low high : ℕ) (c : Change)
+  pub record HasMoved (old new : Slab R) (n : ℕ) (w : R) (t : SearchTree R) (low high : ℕ) (c : Change)
       (before after : ℕ) : Type 0 where
     pub becomes : Becomes old new (moved f n w t) low high
     pub rooted : IsRooted (child_of f t) (moved f n w t) c
@@ -149,7 +149,7 @@ module _ {R : Type 0} (f : Functions R) where
 
   -- The new slab has the tree without the row of rank n, which is y with no children, and c is what the row above it
   -- stores anew. It has a row less where a row had this rank.
-  pub record HasRemoved (old new : Slab R) (n : ℕ) (t : Tree R) (low high : ℕ) (y : Option R) (c : Change)
+  pub record HasRemoved (old new : Slab R) (n : ℕ) (t : SearchTree R) (low high : ℕ) (y : Option R) (c : Change)
       (before after : ℕ) : Type 0 where
     pub becomes : Becomes old new (removed f n t) low high
     pub row : y ≡ row_in f n t
@@ -158,7 +158,7 @@ module _ {R : Type 0} (f : Functions R) where
     pub steps : after ≤ before + 13 * height t
 
   -- The new slab has the tree without its first row, which is y, and c is what the row above it stores anew.
-  pub record HasTakenLeast (old new : Slab R) (t : Tree R) (low high : ℕ) (y : R) (c : Change)
+  pub record HasTakenLeast (old new : Slab R) (t : SearchTree R) (low high : ℕ) (y : R) (c : Change)
       (before after : ℕ) : Type 0 where
     pub spelled : Spells new (without_least f t)
     pub ordered : IsOrdered f (f.rank (least f t y) + 1) high (without_least f t)
@@ -170,7 +170,7 @@ module _ {R : Type 0} (f : Functions R) where
     pub steps : after ≤ before + 13 * height t
 
   -- The new slab has the tree without its root, and c is the link to the new root.
-  pub record HasTakenRoot (old new : Slab R) (t : Tree R) (low high : ℕ) (c : Option ℕ)
+  pub record HasTakenRoot (old new : Slab R) (t : SearchTree R) (low high : ℕ) (c : Option ℕ)
       (before after : ℕ) : Type 0 where
     pub becomes : Becomes old new (without_root f t) low high
     pub root : place_of (without_root f t) ≡ c
@@ -197,7 +197,7 @@ module _ {R : Type 0} (f : Functions R) where
 
   -- the rows of the slab are those of one balanced tree
   pub record IsTree (s : Slab R) (root : Option ℕ) : Type 0 where
-    pub tree : Tree R
+    pub tree : SearchTree R
     pub standing : IsStanding s root tree 0 (2 ^ 128)
     pub balanced : IsBalanced tree
     pub count : slab_len s ≡ length (rows_of f tree)

@@ -4,7 +4,7 @@ ghost use Rattle.std.specs.Prelude.{◌≡◌, ◌+◌, ◌<◌, ◌≤◌, Some
 ghost use Rattle.vm_base.specs.declared.limits.TheConstants.{VMO_PAGES};
 ghost use Rattle.vm_model.specs.Contents.Content.{nothing};
 ghost use Rattle.page_store.specs.Held.{held_from};
-ghost use Rattle.cow_forest.specs.Store.{content_of};
+ghost use Rattle.cow_forest.specs.Store.{forest_content};
 
 use cow_forest::CowForest;
 use page_list::Steps;
@@ -61,8 +61,8 @@ fn begin<P: PageStore>(store: &mut P) -> Option<Koid>
 /// Makes all pages of a VMO of the greatest size zero, in three steps at most: it is the only one, and there are two rows.
 /// Returns whether that is so, and none is held now.
 fn zero_all<L: Ledger>(tree: &mut CowForest, v: Koid, steps: &mut Steps<L>) -> bool
-    requires vmo { (content_of tree.old).count v.0 ≡ Some VMO_PAGES }
-    requires room { held_from (content_of tree.old) v.0 0 VMO_PAGES ≤ tree.old.rows.spare }
+    requires vmo { (forest_content tree.old).count v.0 ≡ Some VMO_PAGES }
+    requires room { held_from (forest_content tree.old) v.0 0 VMO_PAGES ≤ tree.old.rows.spare }
     ensures { steps.new ≤ steps.old + 3 }
 {
     let rows = tree.rows();
@@ -77,7 +77,7 @@ fn zero_all<L: Ledger>(tree: &mut CowForest, v: Koid, steps: &mut Steps<L>) -> b
 
 /// Makes the VMO, and its pages zero.
 fn goes<L: Ledger>(tree: &mut CowForest, blank: Blank) -> bool
-    requires empty { content_of tree.old ≡ nothing }
+    requires empty { forest_content tree.old ≡ nothing }
     requires blank { (blank.name ≡ L.name) × (blank.parts ≡ L.parts) × (0 < blank.parts) }
 {
     let mut steps = Steps::<L>::new(blank);

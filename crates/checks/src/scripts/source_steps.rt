@@ -4,7 +4,7 @@
 ghost use Rattle.std.specs.Prelude.{◌≡◌, ◌+◌, ◌<◌, ◌≤◌};
 ghost use Rattle.vm_base.specs.declared.limits.TheConstants.{KOIDS};
 ghost use Rattle.vm_model.specs.Contents.Content.{nothing};
-ghost use Rattle.source_vm.specs.Table.{Agrees};
+ghost use Rattle.source_vm.specs.Table.{SourcesAgree};
 
 use super::steps::{Asking, LINES, add_reply, fill, frames_for};
 use super::text_fault::Fault;
@@ -23,9 +23,9 @@ fn reply_to<P: PageStore>(
     command: &SourceCommand,
     asking: Asking,
 ) -> Reply
-    requires agrees { Agrees (P.content store.old) vm.old.table }
+    requires agrees { SourcesAgree (P.content store.old) vm.old.table }
     requires next { (P.content store.old).next + 1 < KOIDS }
-    ensures agrees { Agrees (P.content store.new) vm.new.table }
+    ensures agrees { SourcesAgree (P.content store.new) vm.new.table }
     ensures next { (P.content store.new).next ≤ (P.content store.old).next + 2 }
 {
     let reply = vm.step(store, command);
@@ -43,9 +43,9 @@ fn step<P: PageStore>(
     asking: Asking,
     written: &mut String,
 ) -> Result<(), Fault>
-    requires agrees { Agrees (P.content store.old) vm.old.table }
+    requires agrees { SourcesAgree (P.content store.old) vm.old.table }
     requires next { (P.content store.old).next + 1 < KOIDS }
-    ensures agrees { Agrees (P.content store.new) vm.new.table }
+    ensures agrees { SourcesAgree (P.content store.new) vm.new.table }
     ensures next { (P.content store.new).next ≤ (P.content store.old).next + 2 }
 {
     match read_source_line(line.as_bytes()) {
@@ -66,7 +66,7 @@ fn step_through<P: PageStore>(
     asking: Asking,
     written: &mut String,
 ) -> Result<(), Fault>
-    requires agrees { Agrees (P.content store.old) vm.old.table }
+    requires agrees { SourcesAgree (P.content store.old) vm.old.table }
     requires next { (P.content store.old).next ≤ 1 }
 {
     let mut left = LINES;

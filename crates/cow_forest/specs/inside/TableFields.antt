@@ -10,8 +10,8 @@ abbrev pub entries_of : Inside → NodeEntries
 entries_of a = record { recent = a.recent; displaced = a.displaced.entries; spare = spare a.displaced }
 
 -- each entry of the array stands at the place of its number
-pub record IsPlaced (recent : List (Option (ℕ × NodeId))) : Type 0 where
+pub record IsPlacedByNumber (recent : List (Option (ℕ × NodeId))) : Type 0 where
   pub place : (i n : ℕ) (node : NodeId) → slice_index_or recent i None ≡ Some (n, node) → n % PLACES ≡ i
 
-pub record ArePlaced (a : Inside) : Type 0 where
-  pub placed : IsPlaced a.recent
+pub record ArePlacedByNumber (a : Inside) : Type 0 where
+  pub placed : IsPlacedByNumber a.recent

@@ -3,7 +3,7 @@ use Rattle.std.specs.Prelude.{◌≡◌, ◌↔◌, ℕ, eqb, List, length, Opti
 use Rattle.std.specs.List.{Contains, IsDistinct}
 use Rattle.vm_base.specs.declared.names.Koid.{Koid}
 use Rattle.page_list.specs.declared.row.Slot.{Slot}
-use Rattle.cow_arena.specs.Walk.{Tree, frame_at, frame_in}
+use Rattle.cow_arena.specs.Walk.{Tree, frame_shown, frame_in}
 use Rattle.cow_arena.specs.Ways.{HasRow}
 use Rattle.cow_split.specs.Sight.{IsPage}
 use Rattle.cow_split.specs.Viewers.{IsLeastKoid, IsBelowAll, HasLesser}
@@ -12,7 +12,7 @@ use Rattle.cow_split.specs.Viewers.{IsLeastKoid, IsBelowAll, HasLesser}
 pub record ShowsFrame (t : Tree) (tag k : ℕ) : Type 0 where
   pub p : ℕ
   pub page : IsPage t k p
-  pub frame : frame_at t k p ≡ Some tag
+  pub frame : frame_shown t k p ≡ Some tag
 
 -- the list has each node that shows the frame, and no other, and none of them twice
 pub record AreViewers (t : Tree) (tag : ℕ) (list : List ℕ) : Type 0 where

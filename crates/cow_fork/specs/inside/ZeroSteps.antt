@@ -7,7 +7,7 @@ use Rattle.page_list.specs.declared.row.Slot.{Slot}
 use Rattle.page_list.specs.Lists.{slots_of}
 use Rattle.cow_arena.specs.declared.node.Node.{Node}
 use Rattle.cow_arena.specs.Nodes.{Arena, nodes_of}
-use Rattle.cow_arena.specs.Walk.{frame_at, frame_in}
+use Rattle.cow_arena.specs.Walk.{frame_shown, frame_in}
 use Rattle.cow_arena.specs.Ways.{IsPartOf}
 use Rattle.cow_split.specs.declared.answers.Cut.{Cut}
 use Rattle.cow_split.specs.declared.answers.Cut.TheVariants as cut
@@ -30,7 +30,7 @@ pub record HasLetGo (arena : Arena) (old new : Rows Row) (in_use : ℕ → Bool)
 -- Page p of v is back in sight, and zero.
 pub record HasHidden (arena : Arena) (old new : Rows Row) (in_use : ℕ → Bool) (v p : ℕ) : Type 0 where
   pub exact : IsExact (tree_of arena new) all_in_sight in_use
-  pub zero : frame_at (tree_of arena new) v p ≡ None
+  pub zero : frame_shown (tree_of arena new) v p ≡ None
   pub needed : IsNeeded arena new v p
   pub others : OthersShowSame (tree_of arena old) (tree_of arena new) v p
   pub stood : (l q : ℕ) (row : Slot) (t : ℕ) → slots_of new l q ≡ Some row → frame_in row ≡ Some t → slots_of old l q ≡ Some row

@@ -5,7 +5,7 @@ use Rattle.cow_arena.specs.Walk.{Tree}
 use Rattle.cow_jump.specs.declared.jumps.Jump.{Jump}
 use Rattle.cow_jump.specs.declared.jumps.Place.{Place}
 use Rattle.cow_jump.specs.declared.jumps.JumpTable.{JumpTable}
-use Rattle.cow_jump.specs.Jumps.{jump_in, serial_in, IsTaken, IsJump}
+use Rattle.cow_jump.specs.Jumps.{jump_in, serial_in, IsCurrentJump, IsJump}
 
 -- the jump is one of node k, and has the serial number of the node to which it leads
 pub record IsNewJump (t : Tree) (table : JumpTable) (k : ℕ) (jump : Jump) : Type 0 where
@@ -13,10 +13,10 @@ pub record IsNewJump (t : Tree) (table : JumpTable) (k : ℕ) (jump : Jump) : Ty
   pub serial : serial_in table jump.to.0 ≡ jump.serial
 
 -- the jump of node k serves page p, and leads here
-pub record IsServed (table : JumpTable) (k p : ℕ) (place : Place) : Type 0 where
+pub record IsServedByJump (table : JumpTable) (k p : ℕ) (place : Place) : Type 0 where
   pub jump : Jump
   pub has : jump_in table k ≡ Some jump
-  pub taken : IsTaken table jump
+  pub taken : IsCurrentJump table jump
   pub below : p < jump.end
   pub open_page : bit_at jump.barred (p % 64) ≡ 0
   pub node : place.node ≡ jump.to

@@ -16,7 +16,7 @@ use Rattle.cow_arena.specs.Renamed.{exchanged, AreExchanged}
 use Rattle.cow_arena.specs.Walk.{Slots, tree_with, frame_in}
 use Rattle.cow_split.specs.Exact.{without_frame}
 use Rattle.cow_merge.specs.Ranges.{bit_on, AreLinked, GivesBack, HasGiven}
-use Rattle.cow_merge.specs.inside.Lifting.{IsFamilyOf, AreLifted, has_frame}
+use Rattle.cow_merge.specs.inside.Lifting.{IsFamilyOf, AreLifted, is_row_of_frame}
 use Rattle.cow_merge.specs.inside.Sharing.{IsReached}
 
 -- the frame of the row that a page has, if it has one
@@ -25,7 +25,7 @@ frame_there None = None
 frame_there (Some row) = frame_in row
 
 -- the page of the list has no row, and the frame of the row that it had is free
-pub record HasNoRow (old new : Rows Row) (before after : Pool) (l q : ℕ) : Type 0 where
+pub record HasDroppedRow (old new : Rows Row) (before after : Pool) (l q : ℕ) : Type 0 where
   pub slots : slots_of new ≡ with_pair (slots_of old) l q None
   pub given : HasGiven before after (frame_there (slots_of old l q))
   pub spare : old.spare ≤ new.spare
@@ -37,7 +37,7 @@ pub record HasRowPut (old new : Rows Row) (before after : Pool) (l q : ℕ) (row
   pub slots : slots_of new ≡ with_pair (slots_of old) l q (Some row)
   pub taken : (t : ℕ) → is_taken after t ≡ without_frame (is_taken before) (frame_there (slots_of old l q)) t
   pub gives : GivesBack before after
-  pub links : (t : ℕ) → links_of after t ≡ (if has_frame t row then record { list = l; page = q } else links_of before t)
+  pub links : (t : ℕ) → links_of after t ≡ (if is_row_of_frame t row then record { list = l; page = q } else links_of before t)
   pub spare : old.spare ≤ new.spare + 1
   pub count : row_count new ≤ row_count old + 1
 

@@ -12,7 +12,7 @@ use Rattle.frame_pool.specs.Pool.{Pool, taken_frames, links_of, is_taken}
 use Rattle.cow_arena.specs.declared.node.Node.{Node}
 use Rattle.cow_arena.specs.declared.node.Side.TheVariants as side
 use Rattle.cow_arena.specs.Nodes.{Arena, nodes_of, AreFamily, IsVisible, side_of}
-use Rattle.cow_arena.specs.Walk.{Slots, Tree, tree_with, frame_in, frame_at}
+use Rattle.cow_arena.specs.Walk.{Slots, Tree, tree_with, frame_in, frame_shown}
 use Rattle.cow_arena.specs.Ways.{KeepsBelow}
 use Rattle.cow_split.specs.Trees.{tree_of}
 use Rattle.cow_split.specs.Search.{reached_from}
@@ -39,8 +39,8 @@ pub record IsMoved (t : Tree) (s p : ℕ) (node : Node) (before after : Slot) : 
       (left ≡ not (reached_from t None side.Left s p)) × (right ≡ not (reached_from t None side.Right s p))
 
 -- the slot has the frame t
-abbrev pub has_frame : ℕ → Slot → Bool
-has_frame t slot = passes (λ tag. t == tag) (frame_in slot)
+abbrev pub is_row_of_frame : ℕ → Slot → Bool
+is_row_of_frame t slot = passes (λ tag. t == tag) (frame_in slot)
 
 -- k is a VMO's node, h its parent, and s the other child of h
 pub record IsFamilyOf (arena : Arena) (k h s : ℕ) : Type 0 where
@@ -59,7 +59,7 @@ pub record AreLifted (arena : Arena) (old : Rows Row) (slots : Slots) (before af
   pub shows : ShowsSame (tree_of arena old) (tree_with (nodes_of arena) arena.lists slots) out
   pub bare : (p : ℕ) → slots of.node.list.0 p ≡ None
   pub held : (p tag : ℕ) → p < of.node.count → out k p ≡ false →
-      frame_at (tree_with (nodes_of arena) arena.lists slots) k p ≡ Some tag → IsHeldBy (nodes_of arena) slots h of.node p
+      frame_shown (tree_with (nodes_of arena) arena.lists slots) k p ≡ Some tag → IsHeldBy (nodes_of arena) slots h of.node p
   pub gives : GivesBack before after
   pub rows : KeepsBelow (slots_of old) slots of.parent of.sibling
 
@@ -87,14 +87,14 @@ pub record HasGone (old new : Rows Row) (before after : Pool) (row : Slot) : Typ
   pub given : HasGiven before after (frame_in row)
 
 -- the row, which was taken out, is in the list of node s, at the page of s that comes to page q
-pub record HasMoved (arena : Arena) (old new : Rows Row) (before after : Pool) (s : ℕ) (node : Node) (q : ℕ) (row : Slot) : Type 0 where
+pub record HasLiftedRow (arena : Arena) (old new : Rows Row) (before after : Pool) (s : ℕ) (node : Node) (q : ℕ) (row : Slot) : Type 0 where
   pub now : Slot
   pub moved : IsMoved (tree_of arena old) s (q - node.first) node row now
   pub slots : slots_of new ≡ with_pair (slots_of old) node.list.0 (q - node.first) (Some now)
   pub taken : taken_frames after ≡ taken_frames before
   pub frames : after.frames ≡ before.frames
   pub links : (t : ℕ) → links_of after t ≡
-      (if has_frame t now then record { list = node.list.0; page = q - node.first } else links_of before t)
+      (if is_row_of_frame t now then record { list = node.list.0; page = q - node.first } else links_of before t)
   pub spare : old.spare ≤ new.spare + 1
   pub count : row_count new ≤ row_count old + 1
 
@@ -105,4 +105,4 @@ pub record HasSettled (arena : Arena) (old new : Rows Row) (before after : Pool)
   pub seen : Bool
   pub tells : TellsSeen (slots_of old) parent s node q row seen
   pub gone : seen ≡ false → HasGone old new before after row
-  pub moves : seen ≡ true → HasMoved arena old new before after s node q row
+  pub moves : seen ≡ true → HasLiftedRow arena old new before after s node q row

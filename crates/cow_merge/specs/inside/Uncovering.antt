@@ -9,7 +9,7 @@ use Rattle.page_list.specs.Lists.{slots_of, row_count}
 use Rattle.frame_pool.specs.Pool.{Pool, is_taken, links_of}
 use Rattle.cow_arena.specs.declared.node.Node.{Node}
 use Rattle.cow_arena.specs.Nodes.{Arena, nodes_of, IsVisible, link_to}
-use Rattle.cow_arena.specs.Walk.{frame_in, frame_at}
+use Rattle.cow_arena.specs.Walk.{frame_in, frame_shown}
 use Rattle.cow_arena.specs.Ways.{IsPartOf}
 use Rattle.cow_split.specs.Trees.{tree_of}
 use Rattle.cow_split.specs.Sight.{IsPage}
@@ -49,7 +49,7 @@ pub record IsUncovering (arena : Arena) (old new : Rows Row) (before after : Poo
   pub visible : IsVisible (nodes_of arena) k node
   pub up : node.parent ≡ link_to h
   pub exact : IsExact (tree_of arena new) all_in_sight (is_taken after)
-  pub shows : (w q : ℕ) → w ≢ k → IsPage (tree_of arena old) w q → frame_at (tree_of arena new) w q ≡ frame_at (tree_of arena old) w q
+  pub shows : (w q : ℕ) → w ≢ k → IsPage (tree_of arena old) w q → frame_shown (tree_of arena new) w q ≡ frame_shown (tree_of arena old) w q
   pub free : (p : ℕ) → p < from → IsHeldBy (nodes_of arena) (slots_of new) h node p → slots_of new node.list.0 p ≡ None
   pub part : IsPartOf (slots_of old) (slots_of new)
   pub links : links_of after ≡ links_of before

@@ -10,15 +10,15 @@ use Rattle.cow_arena.specs.declared.node.Node.{Node}
 use Rattle.cow_arena.specs.declared.node.NodeId.{NodeId}
 use Rattle.cow_arena.specs.declared.node.Side.{Side}
 use Rattle.cow_arena.specs.Nodes.{Arena, nodes_of, side_in, link_to}
-use Rattle.cow_arena.specs.Walk.{Tree, frame_at}
+use Rattle.cow_arena.specs.Walk.{Tree, frame_shown}
 use Rattle.cow_arena.specs.Ways.{HasRow, Reaches, Arrives}
 use Rattle.cow_split.specs.Trees.{tree_of}
 use Rattle.cow_merge.specs.declared.witness.Way.{Way}
-use Rattle.cow_merge.specs.Ranges.{no_pages, CameTo, IsBare, IsParent, IsSpared, HasLeftPageOut, HasKept}
+use Rattle.cow_merge.specs.Ranges.{no_pages, CameTo, IsLeftBare, IsParent, IsSpared, HasLeftPageOut, HasKept}
 
 -- The pages of a way lie in the window of its node, and belong to pages of the leaf from `first` on. The leaf's pages
 -- come to pages of its parent `base` further on, below `to`.
-pub record IsWithin (first base to : ℕ) (node : Node) (way : Way) : Type 0 where
+pub record IsWayWithin (first base to : ℕ) (node : Node) (way : Way) : Type 0 where
   pub inside : (p : ℕ) → way.from ≤ p → p < way.to → p < node.seen
   pub low : (p : ℕ) → way.from ≤ p → p < way.to → first + base ≤ p + way.shift
   pub high : (p : ℕ) → way.from ≤ p → p < way.to → p + way.shift < to
@@ -45,7 +45,7 @@ pub record ComesBeside (t : Tree) (v q h list base to e : ℕ) (node : Node) (fr
 -- belongs to it.
 pub record IsBeside (arena : Arena) (old new : Rows Row) (before after : Pool) (v first : ℕ) (spared : Option NodeId) (h : ℕ) (above : Node)
     (base to : ℕ) (s : Side) (way : Way) (upto : ℕ) : Type 0 where
-  pub bare : IsBare arena old new before after v first
+  pub bare : IsLeftBare arena old new before after v first
   pub parent : IsParent spared bare.node
   pub at : nodes_of arena h ≡ Some above
   pub node : Node
@@ -54,8 +54,8 @@ pub record IsBeside (arena : Arena) (old new : Rows Row) (before after : Pool) (
   pub up : node.parent ≡ link_to e
   pub from : Option Side
   pub side : option_or from (side_in (nodes_of arena) way.at.0) ≡ Some s
-  pub within : IsWithin first base to node way
-  pub came : (q tag : ℕ) → first ≤ q → q < bare.node.count → bare.out v q ≡ false → frame_at (tree_of arena new) v q ≡ Some tag →
+  pub within : IsWayWithin first base to node way
+  pub came : (q tag : ℕ) → first ≤ q → q < bare.node.count → bare.out v q ≡ false → frame_shown (tree_of arena new) v q ≡ Some tag →
       IsSpared (nodes_of arena) (slots_of new) spared bare.node q
       ⊎ ComesBeside (tree_of arena new) v q h above.list.0 base to e node from way upto
 
@@ -80,7 +80,7 @@ pub record SeesRowOf (t : Tree) (v p h : ℕ) : Type 0 where
 -- nothing has changed, and page p of v shows no frame but one of node h
 pub record HasLeftPage (arena : Arena) (old new : Rows Row) (before after : Pool) (v p h : ℕ) : Type 0 where
   pub kept : HasKept old new before after
-  pub shows : (tag : ℕ) → frame_at (tree_of arena old) v p ≡ Some tag → SeesRowOf (tree_of arena old) v p h
+  pub shows : (tag : ℕ) → frame_shown (tree_of arena old) v p ≡ Some tag → SeesRowOf (tree_of arena old) v p h
 
 -- page p of v is left out of sight, or shows no frame but one of node h
 abbrev pub IsPageCut : Arena → (old new : Rows Row) → (before after : Pool) → (v p h : ℕ) → Type 0

@@ -13,23 +13,23 @@ use Rattle.vm_model.specs.Machine.Machine.{IsGoodMachine}
 use Rattle.vm_model.specs.Machine.MachineStep.{MachineEffect}
 use Rattle.moving_machine.specs.Moving.{tells_place}
 use Rattle.vmo_table.specs.Table.{CountsKeepers, IsWellCounted}
-use Rattle.ready_map.specs.Notes.{Rows, AreTrue}
+use Rattle.ready_map.specs.Notes.{ReadyRows, NotesAreTrue}
 use Rattle.eager_vmos.specs.declared.eager_vmos.EagerVmos.{EagerVmos}
-use Rattle.eager_vmos.specs.Vmos.{content_in, state_with, AreSame, Does}
+use Rattle.eager_vmos.specs.Vmos.{content_in, state_with_vmos, AreSame, CarriesOut}
 use Rattle.eager_machine.specs.Machine.{state_in, machine_in}
 use Rattle.eager_machine.specs.inside.Leaving.{rows_after}
 
 -- They stand for a good machine, what keeps each VMO is counted right, and the notes of ready pages are true.
-pub record AreSound (e : EagerVmos) (spaces : Spaces) (rows : Rows) : Type 0 where
+pub record AreSound (e : EagerVmos) (spaces : Spaces) (rows : ReadyRows) : Type 0 where
   pub good : IsGoodMachine (machine_in e spaces rows)
   pub counted : CountsKeepers e.vmos (state_in e spaces)
-  pub notes : AreTrue (content_in e) spaces.table rows
+  pub notes : NotesAreTrue (content_in e) spaces.table rows
 
 -- They are parts of a good state in which what keeps each VMO is counted right, and nothing refuses the command there.
 pub record MayDo (e : EagerVmos) (command : Command) : Type 0 where
   pub rest : State
-  pub well : IsWellCounted e.vmos (state_with rest e)
-  pub none : first_of (refusals (state_with rest e) command) ≡ None
+  pub well : IsWellCounted e.vmos (state_with_vmos rest e)
+  pub none : first_of (refusals (state_with_vmos rest e) command) ≡ None
 
 -- The same, with the address spaces.
 pub record MayDoAll (e : EagerVmos) (spaces : Spaces) (command : Command) : Type 0 where
@@ -37,35 +37,35 @@ pub record MayDoAll (e : EagerVmos) (spaces : Spaces) (command : Command) : Type
   pub none : first_of (refusals (state_in e spaces) command) ≡ None
 
 -- A command on VMOs was done, whatever else the machine has, and these notes are left of the ready pages.
-pub record DoesVmos (old : EagerVmos) (rows_old : Rows) (command : Command) (reply : Reply) (new : EagerVmos) (rows_new : Rows) : Type 0 where
-  pub does : Does old command reply new
-  pub left : (s : State) → rows_new ≡ rows_after (state_with s old) command reply (content_in new) rows_old
+pub record DoesVmos (old : EagerVmos) (rows_old : ReadyRows) (command : Command) (reply : Reply) (new : EagerVmos) (rows_new : ReadyRows) : Type 0 where
+  pub does : CarriesOut old command reply new
+  pub left : (s : State) → rows_new ≡ rows_after (state_with_vmos s old) command reply (content_in new) rows_old
 
 -- All is as it was, but for room.
-pub record AreKept (old : EagerVmos) (rows_old : Rows) (new : EagerVmos) (rows_new : Rows) : Type 0 where
+pub record AreKept (old : EagerVmos) (rows_old : ReadyRows) (new : EagerVmos) (rows_new : ReadyRows) : Type 0 where
   pub same : AreSame old new
   pub notes : rows_new ≡ rows_old
 
 -- A command that is no access was done by all that keeps the machine.
-pub record DoesAll (old : EagerVmos) (spaces_old : Spaces) (rows_old : Rows) (command : Command) (reply : Reply)
-    (new : EagerVmos) (spaces_new : Spaces) (rows_new : Rows) : Type 0 where
+pub record DoesAll (old : EagerVmos) (spaces_old : Spaces) (rows_old : ReadyRows) (command : Command) (reply : Reply)
+    (new : EagerVmos) (spaces_new : Spaces) (rows_new : ReadyRows) : Type 0 where
   pub effect : Effect (state_in old spaces_old) command reply (state_in new spaces_new)
   pub counted : CountsKeepers new.vmos (state_in new spaces_new)
   pub left : rows_new ≡ rows_after (state_in old spaces_old) command reply (content_in new) rows_old
 
 -- All that keeps the machine is as it was, but for room.
-pub record AreAllKept (old : EagerVmos) (spaces_old : Spaces) (rows_old : Rows)
-    (new : EagerVmos) (spaces_new : Spaces) (rows_new : Rows) : Type 0 where
+pub record AreAllKept (old : EagerVmos) (spaces_old : Spaces) (rows_old : ReadyRows)
+    (new : EagerVmos) (spaces_new : Spaces) (rows_new : ReadyRows) : Type 0 where
   pub same : state_in new spaces_new ≡ state_in old spaces_old
   pub counted : CountsKeepers new.vmos (state_in new spaces_new)
   pub notes : rows_new ≡ rows_old
 
 -- A command was done by all that keeps the machine, which is sound afterwards.
-pub record Acts (old : EagerVmos) (spaces_old : Spaces) (rows_old : Rows) (command : Command) (reply : Reply)
-    (new : EagerVmos) (spaces_new : Spaces) (rows_new : Rows) : Type 0 where
+pub record Acts (old : EagerVmos) (spaces_old : Spaces) (rows_old : ReadyRows) (command : Command) (reply : Reply)
+    (new : EagerVmos) (spaces_new : Spaces) (rows_new : ReadyRows) : Type 0 where
   pub effect : MachineEffect (machine_in old spaces_old rows_old) command reply (machine_in new spaces_new rows_new)
   pub counted : CountsKeepers new.vmos (state_in new spaces_new)
-  pub notes : AreTrue (content_in new) spaces_new.table rows_new
+  pub notes : NotesAreTrue (content_in new) spaces_new.table rows_new
 
 -- The region was given and is live, and ends at the end of the address space or before.
 pub record IsLiveAt (regions : ℕ → Option Region) (name : ℕ) : Type 0 where
@@ -75,8 +75,8 @@ pub record IsLiveAt (regions : ℕ → Option Region) (name : ℕ) : Type 0 wher
   pub end : region.first + region.count ≤ ROOT_END
 
 -- Nothing refuses the command, which asks for a place, but it can't be at the address that is told. Nothing changes.
-pub record HasNoSuch (old : EagerVmos) (spaces_old : Spaces) (rows_old : Rows) (command : Command) (told : ℕ)
-    (new : EagerVmos) (spaces_new : Spaces) (rows_new : Rows) : Type 0 where
+pub record HasNoSuch (old : EagerVmos) (spaces_old : Spaces) (rows_old : ReadyRows) (command : Command) (told : ℕ)
+    (new : EagerVmos) (spaces_new : Spaces) (rows_new : ReadyRows) : Type 0 where
   pub kept : AreAllKept old spaces_old rows_old new spaces_new rows_new
   pub asks : tells_place command ≡ true
   pub none : (s : State) → Effect (state_in old spaces_old) command (Address told) s → ⊥

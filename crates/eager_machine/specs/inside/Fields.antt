@@ -3,13 +3,13 @@ use Rattle.mapping_set.specs.Tables.{places_of}
 use Rattle.region_tree.specs.Tree.{regions_of, AreNoted}
 use Rattle.ready_map.specs.Notes.{rows_of}
 use Rattle.eager_machine.specs.declared.eager_machine.EagerMachine.TheInside.{Inside}
-use Rattle.eager_machine.specs.Machine.{Parts, spaces_in}
+use Rattle.eager_machine.specs.Machine.{EagerParts, eager_spaces_in}
 use Rattle.eager_machine.specs.inside.Acting.{AreSound}
 
-abbrev pub parts_of : Inside → Parts
-parts_of a = record { vmos = a.vmos; regions = a.regions; maps = a.maps; ready = a.ready }
+abbrev pub eager_parts_of : Inside → EagerParts
+eager_parts_of a = record { vmos = a.vmos; regions = a.regions; maps = a.maps; ready = a.ready }
 
 -- The parts are sound, and the live children of each region are noted in the set of mappings.
-pub record AreFields (a : Inside) : Type 0 where
-  pub sound : AreSound a.vmos (spaces_in (parts_of a)) (rows_of a.ready)
+pub record AreSoundFields (a : Inside) : Type 0 where
+  pub sound : AreSound a.vmos (eager_spaces_in (eager_parts_of a)) (rows_of a.ready)
   pub noted : AreNoted (regions_of a.regions) (places_of a.maps)

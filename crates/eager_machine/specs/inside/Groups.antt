@@ -2,28 +2,28 @@
 use Rattle.vm_model.specs.declared.call.Call.{Call}
 use Rattle.eager_machine.specs.declared.groups.Group.{Group}
 
-abbrev pub group_of : Call → Group
-group_of (Call.VmoCreate name size resizable) = Group.Naming
-group_of (Call.VmoChild name parent kind offset size resizable no_write) = Group.Naming
-group_of (Call.VmoClose name) = Group.Naming
-group_of (Call.VmoUnpin pin) = Group.Naming
-group_of (Call.VmoSetSize name size) = Group.Pages
-group_of (Call.VmoWrite name offset bytes) = Group.Pages
-group_of (Call.VmoFill name offset len byte) = Group.Pages
-group_of (Call.VmoCommit name offset len) = Group.Pages
-group_of (Call.VmoDecommit name offset len) = Group.Pages
-group_of (Call.VmoZero name offset len) = Group.Pages
-group_of (Call.VmoPin pin name offset len) = Group.Pages
-group_of (Call.RootCreate region) = Group.Region
-group_of (Call.VmarAllocate region parent offset len flags caps) = Group.Region
-group_of (Call.VmarMap region offset name vmo_offset len perm flags) = Group.Region
-group_of (Call.VmarUnmap region addr len) = Group.Region
-group_of (Call.VmarProtect region addr len perm) = Group.Region
-group_of (Call.VmarDestroy region) = Group.Region
-group_of (Call.MemRead region addr len) = Group.Memory
-group_of (Call.MemWrite region addr bytes) = Group.Memory
-group_of (Call.VmoRead name offset len) = Group.Telling
-group_of (Call.VmoSize name) = Group.Telling
-group_of (Call.VmoInfo name) = Group.Telling
-group_of (Call.Maps region) = Group.Telling
-group_of Call.Stat = Group.Telling
+abbrev pub eager_group_of : Call → Group
+eager_group_of (Call.VmoCreate name size resizable) = Group.Naming
+eager_group_of (Call.VmoChild name parent kind offset size resizable no_write) = Group.Naming
+eager_group_of (Call.VmoClose name) = Group.Naming
+eager_group_of (Call.VmoUnpin pin) = Group.Naming
+eager_group_of (Call.VmoSetSize name size) = Group.Pages
+eager_group_of (Call.VmoWrite name offset bytes) = Group.Pages
+eager_group_of (Call.VmoFill name offset len byte) = Group.Pages
+eager_group_of (Call.VmoCommit name offset len) = Group.Pages
+eager_group_of (Call.VmoDecommit name offset len) = Group.Pages
+eager_group_of (Call.VmoZero name offset len) = Group.Pages
+eager_group_of (Call.VmoPin pin name offset len) = Group.Pages
+eager_group_of (Call.RootCreate region) = Group.Region
+eager_group_of (Call.VmarAllocate region parent offset len flags caps) = Group.Region
+eager_group_of (Call.VmarMap region offset name vmo_offset len perm flags) = Group.Region
+eager_group_of (Call.VmarUnmap region addr len) = Group.Region
+eager_group_of (Call.VmarProtect region addr len perm) = Group.Region
+eager_group_of (Call.VmarDestroy region) = Group.Region
+eager_group_of (Call.MemRead region addr len) = Group.Memory
+eager_group_of (Call.MemWrite region addr bytes) = Group.Memory
+eager_group_of (Call.VmoRead name offset len) = Group.Telling
+eager_group_of (Call.VmoSize name) = Group.Telling
+eager_group_of (Call.VmoInfo name) = Group.Telling
+eager_group_of (Call.Maps region) = Group.Telling
+eager_group_of Call.Stat = Group.Telling

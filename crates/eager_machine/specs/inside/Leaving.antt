@@ -11,22 +11,22 @@ use Rattle.vm_model.specs.Contents.Content.{Content}
 use Rattle.vm_model.specs.Naming.Pins.{Pin, is_pinned}
 use Rattle.vm_model.specs.Space.Regions.{region_of, end_of}
 use Rattle.vm_model.specs.Machine.State.{State}
-use Rattle.ready_map.specs.Notes.{Rows, kept_rows, without_range, limited_rows, is_current}
+use Rattle.ready_map.specs.Notes.{ReadyRows, kept_rows, without_range, limited_rows, is_current}
 use Rattle.eager_machine.specs.declared.reaching.Reach.{Reach}
-use Rattle.eager_machine.specs.inside.Reaching.{seen_of, reach_of}
+use Rattle.eager_machine.specs.inside.Reaching.{snapshot_reach, reach_of}
 use Rattle.std.specs.Prelude.{Option}
 
 -- the notes whose pages in the reach have the frame that was noted
-abbrev pub settled_rows : Content → Reach → Rows → Rows
+abbrev pub settled_rows : Content → Reach → ReadyRows → ReadyRows
 settled_rows c r rows = kept_rows (is_current c r.koid.0 r.first r.end) rows
 
 -- the notes, with those of pages in the reach for reading alone, unless a pin covers the page
-abbrev pub shared_rows : (ℕ → Option Pin) → Reach → Rows → Rows
+abbrev pub shared_rows : (ℕ → Option Pin) → Reach → ReadyRows → ReadyRows
 shared_rows pins r rows = limited_rows (is_pinned pins r.koid.0) r.koid.0 r.first r.end rows
 
 -- the notes that a command leaves after which the content is c
-abbrev pub rows_after : State → Command → Reply → Content → Rows → Rows
-rows_after s (VmoChild name parent Snapshot offset size resizable no_write) reply c rows = shared_rows s.pins (seen_of s parent.0 offset size) rows
+abbrev pub rows_after : State → Command → Reply → Content → ReadyRows → ReadyRows
+rows_after s (VmoChild name parent Snapshot offset size resizable no_write) reply c rows = shared_rows s.pins (snapshot_reach s parent.0 offset size) rows
 rows_after s (VmoWrite name offset bytes) reply c rows = settled_rows c (reach_of s (VmoWrite name offset bytes)) rows
 rows_after s (VmoFill name offset len byte) reply c rows = settled_rows c (reach_of s (VmoFill name offset len byte)) rows
 rows_after s (VmoCommit name offset len) reply c rows = settled_rows c (reach_of s (VmoCommit name offset len)) rows

@@ -44,8 +44,8 @@ abbrev pub range_of : State → (name offset len : ℕ) → Reach
 range_of s name offset len = reach_at (target_of s name).koid (place_of s name offset) len
 
 -- the pages that a snapshot of a range of a name sees
-abbrev pub seen_of : State → (parent offset size : ℕ) → Reach
-seen_of s parent offset size =
+abbrev pub snapshot_reach : State → (parent offset size : ℕ) → Reach
+snapshot_reach s parent offset size =
     let target = target_of s parent in
     let first = target.first + offset / PAGE in
     record { koid = target.koid; first = first; end = first + seen_pages s.content target (offset / PAGE) (rounded size / PAGE) }

@@ -2,17 +2,6 @@
 use Rattle.std.specs.Prelude.{◌≡◌, ◌≢◌, ℕ, zero, suc, ◌+◌, ◌<◌, ◌≤◌, cond, Option, None, IsSome}
 use Rattle.vm_model.specs.Contents.Content.{Content, is_held}
 
--- page p is the first of v that is held from page `from` on, and is below `end`
-pub record IsNextBelow (c : Content) (v from end p : ℕ) : Type 0 where
-  pub order : from ≤ p
-  pub below : p < end
-  pub held : IsSome (c.page v p)
-  pub gap : (q : ℕ) → from ≤ q → q < p → c.page v q ≡ None
-
--- no page of v from `from` to below `end` is held
-abbrev pub HasNoneBelow : Content → (v from end : ℕ) → Type 0
-HasNoneBelow c v from end = (q : ℕ) → from ≤ q → q < end → c.page v q ≡ None
-
 -- how many of the n pages of v from one on are held
 unfoldable pub held_in : Content → (v from n : ℕ) → ℕ
 held_in c v from zero = 0
@@ -46,7 +35,7 @@ pub record HasWithin (viewers : ℕ → Option ℕ) (from end : ℕ) : Type 0 wh
   pub shows : IsSome (viewers w)
 
 -- no such VMO shows the frame
-pub record HasNoneIn (viewers : ℕ → Option ℕ) (from end : ℕ) : Type 0 where
+pub record HasNoViewerIn (viewers : ℕ → Option ℕ) (from end : ℕ) : Type 0 where
   pub none : (w : ℕ) → from ≤ w → w < end → viewers w ≡ None
 
 -- a VMO other than v and w shows the frame

@@ -13,8 +13,8 @@ use Rattle.fault.specs.Access.{IsDenied}
 use Rattle.fault.specs.inside.Writable.{IsWritable}
 
 -- what a check for writing finds of page p, which may be written
-abbrev pub Finds : Content → (ℕ → ℕ → Option Entry) → Places → (root p : ℕ) → WritablePage → Type 0
-Finds c table places root p page = IsWritable c table places root p page × (refusal_at c writing (table root p) ≡ None)
+abbrev pub FindsWritable : Content → (ℕ → ℕ → Option Entry) → Places → (root p : ℕ) → WritablePage → Type 0
+FindsWritable c table places root p page = IsWritable c table places root p page × (refusal_at c writing (table root p) ≡ None)
 
 -- page p or the one behind it refuses a write with this refusal, which comes before every other
 abbrev pub RefusesTwo : Content → (ℕ → ℕ → Option Entry) → (root p : ℕ) → Refusal → Type 0

@@ -17,8 +17,8 @@ abbrev pub Links : Type 0
 Links = ℕ → Option Link
 
 -- page p of an address space
-abbrev pub place_at : (root p : ℕ) → Place
-place_at root p = record { root = record { 0 = root }; page = p }
+abbrev pub place_in_space : (root p : ℕ) → Place
+place_in_space root p = record { root = record { 0 = root }; page = p }
 
 -- how many translations more fit: one takes room in each map, and a link
 abbrev pub room_in : Pages → Pages → Slab Link → ℕ
@@ -35,12 +35,12 @@ abbrev pub Shown : Type 0
 Shown = ℕ × ℕ × Option Tag
 
 -- the page that a translation shows, and its frame
-abbrev pub shown_by : Translation → Shown
-shown_by x = (x.entry.koid.0, x.entry.page, x.frame)
+abbrev pub page_and_frame : Translation → Shown
+page_and_frame x = (x.entry.koid.0, x.entry.page, x.frame)
 
 -- what the link with this number shows
 abbrev pub shown_in : Links → ℕ → Option Shown
-shown_in links x = option_map (λ (k : Link). shown_by k.translation) (links x)
+shown_in links x = option_map (λ (k : Link). page_and_frame k.translation) (links x)
 
 -- the page that the link with this number is of
 abbrev pub place_in : Links → ℕ → Option Place
@@ -85,11 +85,11 @@ pub record AreLists (shown : ℕ → Option Shown) (previous next : ℕ → Opti
 
 -- each page that is translated has a link, and each link is of such a page
 pub record ArePlaced (places : ℕ → ℕ → Option ℕ) (at : ℕ → Option Place) : Type 0 where
-  pub link : (root p x : ℕ) → places root p ≡ Some x → at x ≡ Some (place_at root p)
+  pub link : (root p x : ℕ) → places root p ≡ Some x → at x ≡ Some (place_in_space root p)
   pub place : (x : ℕ) (w : Place) → at x ≡ Some w → places w.root.0 w.page ≡ Some x
 
 -- The links are those of the pages that are translated, and stand in their lists.
-pub record AreLinked (places lists : ℕ → ℕ → Option ℕ) (links : Links) (count : ℕ) : Type 0 where
+pub record AreLinkedInLists (places lists : ℕ → ℕ → Option ℕ) (links : Links) (count : ℕ) : Type 0 where
   pub placed : ArePlaced places (place_in links)
   pub listed : AreLists (shown_in links) (previous_in links) (next_in links) lists count
 

@@ -10,13 +10,13 @@ pub record FitsAs (c : Content) (count need : ℕ) : Type 0 where
   pub lack : c.frames < used c + count → c.frames < used c + need
 
 -- So many frames are free, and a store and the translations have room for so many page faults.
-pub record IsReady (c : Content) (need faults rows places : ℕ) : Type 0 where
+pub record HasRoomToWrite (c : Content) (need faults rows places : ℕ) : Type 0 where
   pub free : used c + need ≤ c.frames
   pub rows_fit : faults ≤ rows
   pub places_fit : faults ≤ places
 
 -- Why a write has no room that needs so many frames and takes so many page faults: too few frames are free, or the host
 -- lacks memory.
-abbrev pub LacksRoom : Content → (need faults : ℕ) → Refusal → Type 0
-LacksRoom c need faults refusal =
+abbrev pub LacksRoomToWrite : Content → (need faults : ℕ) → Refusal → Type 0
+LacksRoomToWrite c need faults refusal =
     ((c.frames < used c + need) × (refusal ≡ NoMemory)) ⊎ ((used c + need ≤ c.frames) × (refusal ≡ HostMemory) × (0 < faults))

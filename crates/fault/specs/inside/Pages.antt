@@ -12,24 +12,24 @@ pub record Pages : Type 0 where
   pub blocks : Slab Block
 
 -- the number that a place of a block has
-abbrev pub entry_of : Block → ℕ → Option ℕ
-entry_of k i = slice_index_or k.entries i None
+abbrev pub block_entry : Block → ℕ → Option ℕ
+block_entry k i = slice_index_or k.entries i None
 
 -- the number that a place of a block has, if there is the block
 abbrev pub entry_in : Option Block → ℕ → Option ℕ
 entry_in None i = None
-entry_in (Some k) i = entry_of k i
+entry_in (Some k) i = block_entry k i
 
-abbrev pub entry_at : (ℕ → Option Block) → Option ℕ → ℕ → Option ℕ
-entry_at blocks None i = None
-entry_at blocks (Some x) i = entry_in (blocks x) i
+abbrev pub block_entry_at : (ℕ → Option Block) → Option ℕ → ℕ → Option ℕ
+block_entry_at blocks None i = None
+block_entry_at blocks (Some x) i = entry_in (blocks x) i
 
 -- the number of each page of each list
 abbrev pub links_in : (ℕ → ℕ → Option ℕ) → (ℕ → Option Block) → ℕ → ℕ → Option ℕ
-links_in rows blocks a p = entry_at blocks (rows a (p / 8)) (p % 8)
+links_in rows blocks a p = block_entry_at blocks (rows a (p / 8)) (p % 8)
 
-unfoldable pub links_of : Pages → ℕ → ℕ → Option ℕ
-links_of m = links_in (values_of m.rows) (get m.blocks)
+unfoldable pub link_numbers : Pages → ℕ → ℕ → Option ℕ
+link_numbers m = links_in (values_of m.rows) (get m.blocks)
 
 -- how many more fit with no memory from the host: one takes a row and a block
 abbrev pub room_left : Pages → ℕ
@@ -43,7 +43,7 @@ with_entry k i v = record { entries = slice_set k.entries i v }
 pub record AreBlocks (rows : ℕ → ℕ → Option ℕ) (blocks : ℕ → Option Block) : Type 0 where
   pub there : (a n x : ℕ) → rows a n ≡ Some x → IsSome (blocks x)
   pub once : (a n b m x : ℕ) → rows a n ≡ Some x → rows b m ≡ Some x → (a ≡ b) × (n ≡ m)
-  pub used : (a n x : ℕ) (k : Block) → rows a n ≡ Some x → blocks x ≡ Some k → (i : ℕ) × IsSome (entry_of k i)
+  pub used : (a n x : ℕ) (k : Block) → rows a n ≡ Some x → blocks x ≡ Some k → (i : ℕ) × IsSome (block_entry k i)
   pub below : (a n x : ℕ) → rows a n ≡ Some x → n < 2 ^ 61
   pub size : (x : ℕ) (k : Block) → blocks x ≡ Some k → length k.entries ≡ 8
 

@@ -8,7 +8,7 @@ use Rattle.vm_model.specs.Space.Readiness.{frame_at, with_ready}
 use Rattle.vm_model.specs.Machine.Access.{refusal_at}
 use Rattle.fault.specs.declared.translation.Translation.{Translation}
 use Rattle.fault.specs.declared.checking.TouchedPage.{TouchedPage}
-use Rattle.fault.specs.Table.{Places, AreTrue, ready_of, frame_in}
+use Rattle.fault.specs.Table.{Places, AreTrue, ready_of, translated_frame}
 
 -- The page has this entry, on which an access with this right is not refused, and this translation.
 pub record IsTouched (c : Content) (table : ℕ → ℕ → Option Entry) (places : Places) (right root page : ℕ) (touched : TouchedPage) : Type 0 where
@@ -21,18 +21,18 @@ abbrev pub missing_in : TouchedPage → ℕ
 missing_in touched = if is_some touched.translation then 0 else 1
 
 -- The translation is of this entry, and holds the frame of the page that it shows.
-pub record IsOf (c : Content) (entry : Entry) (x : Translation) : Type 0 where
+pub record IsTranslationOf (c : Content) (entry : Entry) (x : Translation) : Type 0 where
   pub same : x.entry ≡ entry
-  pub frame : frame_in x ≡ frame_at c entry.koid.0 entry.page
+  pub frame : translated_frame x ≡ frame_at c entry.koid.0 entry.page
 
 -- What the table does not say of a page: the page of the VMO that it shows lies in the VMO, its translation is of that
 -- page, and each translation of that page holds that page's frame.
-pub record IsFound (c : Content) (places : Places) (root page : ℕ) (touched : TouchedPage) : Type 0 where
+pub record IsFoundPage (c : Content) (places : Places) (root page : ℕ) (touched : TouchedPage) : Type 0 where
   pub translation : places root page ≡ touched.translation
   pub below : touched.entry.page < pages_of c touched.entry.koid.0
-  pub of_entry : (x : Translation) → touched.translation ≡ Some x → IsOf c touched.entry x
+  pub of_entry : (x : Translation) → touched.translation ≡ Some x → IsTranslationOf c touched.entry x
   pub alike : (r q : ℕ) (x : Translation) → places r q ≡ Some x → x.entry.koid.0 ≡ touched.entry.koid.0 → x.entry.page ≡ touched.entry.page
-      → frame_in x ≡ frame_at c touched.entry.koid.0 touched.entry.page
+      → translated_frame x ≡ frame_at c touched.entry.koid.0 touched.entry.page
 
 -- From old, reading the page leads to new: the page is ready for reading at least, and no other page changes.
 pub record ReadsPage (c : Content) (root page : ℕ) (touched : TouchedPage) (old new : Places) : Type 0 where

@@ -6,7 +6,7 @@ use Rattle.vm_model.specs.Space.Readiness.{is_same_frame}
 use Rattle.fault.specs.declared.translation.Translation.{Translation}
 use Rattle.fault.specs.declared.translation.Change.{Change}
 use Rattle.fault.specs.declared.translation.Change.TheVariants.{Forget, Restrict}
-use Rattle.fault.specs.Table.{Places, frame_in}
+use Rattle.fault.specs.Table.{Places, translated_frame}
 
 -- what becomes of the translation of a page: it is changed if it passes
 abbrev pub become : (Translation → Option Translation) → (Translation → Bool) → Option Translation → Option Translation
@@ -22,8 +22,8 @@ abbrev pub dropped : Translation → Option Translation
 dropped x = None
 
 -- the translation is left for reading alone
-abbrev pub restricted : Translation → Option Translation
-restricted x = Some (record x { readiness = Read })
+abbrev pub left_read_only : Translation → Option Translation
+left_read_only x = Some (record x { readiness = Read })
 
 -- the page is page p of an address space
 abbrev pub is_place : (root p : ℕ) → ℕ → ℕ → Bool
@@ -31,7 +31,7 @@ is_place root p r q = (r == root) && (q == p)
 
 -- the translation holds another frame than this one
 abbrev pub holds_other : Option ℕ → Translation → Bool
-holds_other frame x = not (is_same_frame (frame_in x) frame)
+holds_other frame x = not (is_same_frame (translated_frame x) frame)
 
 -- the translation of a page, if it has one, holds another frame than this one
 abbrev pub HoldsOther : Option ℕ → Option Translation → Type 0
@@ -40,11 +40,11 @@ HoldsOther frame place = IfSome place (λ x. holds_other frame x ≡ true)
 -- what a change makes of the translation of a page
 abbrev pub change_by : Change → Translation → Option Translation
 change_by Forget = dropped
-change_by Restrict = restricted
+change_by Restrict = left_read_only
 
 -- no page of the address space from `from` to below `end` is translated
-abbrev pub HasNoPlace : Places → (root from end : ℕ) → Type 0
-HasNoPlace places root from end = (p : ℕ) → from ≤ p → p < end → places root p ≡ None
+abbrev pub HasNoTranslation : Places → (root from end : ℕ) → Type 0
+HasNoTranslation places root from end = (p : ℕ) → from ≤ p → p < end → places root p ≡ None
 
 -- the page is the first of the address space from `from` to below `end` that is translated
 pub record IsNextPlace (places : Places) (root from end page : ℕ) : Type 0 where

@@ -10,7 +10,7 @@ use Rattle.vm_model.specs.Space.Readiness.{frame_at, is_writable}
 use Rattle.page_store.specs.Pages.{Overwrites}
 use Rattle.fault.specs.declared.translation.Translation.{Translation}
 use Rattle.fault.specs.declared.writable.WritablePage.{WritablePage}
-use Rattle.fault.specs.Table.{Places, ready_of, with_translation, without, is_outdated}
+use Rattle.fault.specs.Table.{Places, ready_of, with_translation, translations_without, is_outdated}
 
 -- the frame of a page that is translated for writing
 abbrev pub writing_frame : Option Translation → Option Tag
@@ -46,7 +46,7 @@ fault_of page = if is_some page.frame then 0 else 1
 -- The translations of that page that hold another frame are forgotten, and page p is translated for writing.
 abbrev pub faulted : Places → (root p : ℕ) → Entry → Tag → Places
 faulted places root p entry tag =
-    with_translation (without (is_outdated entry.koid.0 entry.page (Some tag.0)) places) root p
+    with_translation (translations_without (is_outdated entry.koid.0 entry.page (Some tag.0)) places) root p
     (record { entry = entry; frame = Some tag; readiness = Write })
 
 -- From the content c and the translations `old`, writing these bytes to page p of an address space, from a place in the

@@ -6,15 +6,15 @@ use Rattle.frame_pool.specs.declared.frame_pool.FramePool.TheInside.{Inside}
 use Rattle.frame_pool.specs.Pool.{Pool, IsPool}
 
 -- what the frames show: those that are marked zeros, and any other its bytes
-unfoldable pub shown : List (List ℕ) → List Bool → List (List ℕ)
-shown [] marks = []
-shown (frame ∷ frames) [] = frame ∷ frames
-shown (frame ∷ frames) (mark ∷ marks) = (if mark then zeros else frame) ∷ shown frames marks
+unfoldable pub frames_shown : List (List ℕ) → List Bool → List (List ℕ)
+frames_shown [] marks = []
+frames_shown (frame ∷ frames) [] = frame ∷ frames
+frames_shown (frame ∷ frames) (mark ∷ marks) = (if mark then zeros else frame) ∷ frames_shown frames marks
 
 abbrev pub pool_of : Inside → Pool
 pool_of a = record {
   frames = a.frames;
-  buffer = shown a.buffer.items a.blank.items;
+  buffer = frames_shown a.buffer.items a.blank.items;
   links = a.links.items;
   idle = reverse a.idle.items;
 }

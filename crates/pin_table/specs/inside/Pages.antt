@@ -7,7 +7,7 @@ abbrev pub pins_at : ℕ → ℕ → (ℕ → ℕ → Option ℕ) → ℕ
 pins_at v p pages = unwrap_or (pages v p) 0
 
 -- each page in the map has a pin
-pub record AreKept (pages : ℕ → ℕ → Option ℕ) : Type 0 where
+pub record AllHavePins (pages : ℕ → ℕ → Option ℕ) : Type 0 where
   pub pinned : (v p n : ℕ) → pages v p ≡ Some n → 1 ≤ n
 
 -- In `more` each page of v from `first` to below `end` has one pin more than in `fewer`, and every other page has as

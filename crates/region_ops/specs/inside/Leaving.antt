@@ -2,7 +2,7 @@
 use Rattle.std.specs.Prelude.{ℕ, Option}
 use Rattle.vm_model.specs.declared.space.Entry.{Entry}
 use Rattle.vm_model.specs.Contents.Content.{Content}
-use Rattle.vmo_table.specs.Table.{Table as Vmos}
+use Rattle.vmo_table.specs.Table.{Vmos}
 use Rattle.mapping_set.specs.declared.piece.Piece.{Piece}
 use Rattle.mapping_set.specs.Tables.{IsPieceOf}
 use Rattle.region_ops.specs.Spaces.{AreWell}

@@ -14,7 +14,7 @@ use Rattle.vm_model.specs.Space.Rights.{has, writing}
 use Rattle.vm_model.specs.Space.Mappings.{is_mismapped}
 use Rattle.vm_model.specs.Machine.State.{State}
 use Rattle.vm_model.specs.Machine.Leaving.{pruned}
-use Rattle.vmo_table.specs.Table.{Table as Vmos, CountsKeepers, IsWellCounted, IsNamed}
+use Rattle.vmo_table.specs.Table.{Vmos, CountsKeepers, IsWellCounted, IsNamed}
 use Rattle.mapping_set.specs.declared.piece.Piece.{Piece}
 use Rattle.mapping_set.specs.Tables.{with_piece, IsBare}
 use Rattle.region_tree.specs.Tree.{spaces_of}

@@ -25,8 +25,8 @@ pub record IsBetween (extents : ℕ → Option (Extent RegionName)) (first end n
   pub high : start + extent.count ≤ end
 
 -- each extent of the list has a number outside these
-abbrev pub HasNoneBetween : (ℕ → Option (Extent RegionName)) → (first end : ℕ) → Type 0
-HasNoneBetween extents first end = (name : ℕ) → IsBetween extents first end name → ⊥
+abbrev pub HasNoExtentBetween : (ℕ → Option (Extent RegionName)) → (first end : ℕ) → Type 0
+HasNoExtentBetween extents first end = (name : ℕ) → IsBetween extents first end name → ⊥
 
 -- `name` is a live region below `above` that has this page
 pub record IsOver (regions : ℕ → Option Region) (above page name : ℕ) : Type 0 where

@@ -4,5 +4,5 @@ use Rattle.vm_model.specs.declared.command.Command.{Command}
 use Rattle.vm_model.specs.Language.Reading.{commands}
 
 -- the rows of command words of so many bytes
-abbrev pub rows_of : ℕ → List (List ℕ × (List (List ℕ) → Option Command))
-rows_of len = filter (λ row. length row.0 == len) commands
+abbrev pub command_rows_of : ℕ → List (List ℕ × (List (List ℕ) → Option Command))
+command_rows_of len = filter (λ row. length row.0 == len) commands

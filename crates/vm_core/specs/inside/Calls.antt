@@ -10,8 +10,8 @@ use Rattle.vm_model.specs.Machine.Given.{GivesName}
 use Rattle.vm_model.specs.Machine.Step.{Step}
 use Rattle.vm_model.specs.Machine.Machine.{Machine}
 use Rattle.vm_model.specs.Machine.MachineStep.{MachineStep}
-use Rattle.vmo_table.specs.Table.{Table as Vmos, with_vmos, CountsKeepers, IsWellCounted}
-use Rattle.pin_table.specs.Table.{Table as Pins, pins_of}
+use Rattle.vmo_table.specs.Table.{Vmos, with_vmos, CountsKeepers, IsWellCounted}
+use Rattle.pin_table.specs.Table.{Pins, pins_of}
 use Rattle.vmo_ops.specs.Targets.{with_tables}
 use Rattle.region_ops.specs.Spaces.{Does}
 use Rattle.fault.specs.Table.{Places, ready_of, AreTrue}

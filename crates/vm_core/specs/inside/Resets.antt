@@ -20,7 +20,7 @@ use Rattle.vm_model.specs.Space.Regions.{region_of}
 use Rattle.vm_model.specs.Machine.State.{State, target_of, name_pages, seen_pages}
 use Rattle.pages.specs.Names.{IsInside}
 use Rattle.fault.specs.declared.translation.Translation.{Translation}
-use Rattle.fault.specs.Table.{Places, without, is_of, is_stale, is_at}
+use Rattle.fault.specs.Table.{Places, translations_without, is_translation_of, is_stale, is_at}
 
 -- ---- what is left
 
@@ -28,11 +28,11 @@ use Rattle.fault.specs.Table.{Places, without, is_of, is_stale, is_at}
 abbrev pub without_changed : Content → Target → (offset len : ℕ) → Places → Places
 without_changed c target offset len places =
     let at = target.first * PAGE + offset in
-    without (is_stale c target.koid.0 (at / PAGE) (at / PAGE + length (touched at len))) places
+    translations_without (is_stale c target.koid.0 (at / PAGE) (at / PAGE + length (touched at len))) places
 
 -- the translations, without those of pages of the target's VMO past this size
 abbrev pub without_past : Target → (size : ℕ) → Places → Places
-without_past target size places = without (is_of target.koid.0 (rounded size / PAGE) VMO_PAGES) places
+without_past target size places = translations_without (is_translation_of target.koid.0 (rounded size / PAGE) VMO_PAGES) places
 
 -- the translation, left for reading alone if it is of a page of the VMO v, from `first` to below `end`, that does not
 -- pass
@@ -57,7 +57,7 @@ shared_by kind pins c target offset size places = places
 
 -- the translations, without those of `count` pages of an address space from the page `first` on
 abbrev pub without_pages : RegionName → (first count : ℕ) → Places → Places
-without_pages root first count places = without (is_at root.0 first (first + count)) places
+without_pages root first count places = translations_without (is_at root.0 first (first + count)) places
 
 -- what a command leaves, if nothing refuses it in this state, the store contains this afterwards, and this is the reply
 abbrev pub left_by : State → Command → Content → Reply → Places → Places
@@ -101,7 +101,7 @@ pub record IsFirstBelow (passes : ℕ → Bool) (from end : ℕ) (answer : Optio
 -- ---- what is asked for
 
 -- A range of a name lies in the name's VMO, which has at most VMO_PAGES pages.
-pub record IsReached (c : Content) (target : Target) (offset len : ℕ) : Type 0 where
+pub record IsRangeInVmo (c : Content) (target : Target) (offset len : ℕ) : Type 0 where
   pub vmo : IsSome (c.count target.koid.0)
   pub inside : target.first * PAGE + offset + len ≤ pages_of c target.koid.0 * PAGE
   pub few : pages_of c target.koid.0 ≤ VMO_PAGES

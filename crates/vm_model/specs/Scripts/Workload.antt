@@ -75,14 +75,14 @@ is_success (Refused refusal) = false
 is_success reply = true
 
 -- how many replies pass
-abbrev pub count_of : (Reply → Bool) → List Reply → ℕ
-count_of test replies = length (filter test replies)
+abbrev pub reply_count : (Reply → Bool) → List Reply → ℕ
+reply_count test replies = length (filter test replies)
 
 -- the line that tells how many replies there were of each sort, and how many frames and VMOs are in use at the end
 unfoldable pub workload_line : List Reply → Content → List ℕ
 workload_line replies c =
-    ok_line (field (codes "ok") (count_of is_success replies) ++ field (codes "refused") (count_of is_refusal replies)
-    ++ field (codes "host") (count_of is_lack replies) ++ field (codes "used") (used c) ++ field (codes "vmos") (vmos_of c))
+    ok_line (field (codes "ok") (reply_count is_success replies) ++ field (codes "refused") (reply_count is_refusal replies)
+    ++ field (codes "host") (reply_count is_lack replies) ++ field (codes "used") (used c) ++ field (codes "vmos") (vmos_of c))
 
 -- On a machine with this many frames and nothing else, the workload may lead to last, and is told by this line.
 pub record IsWorked (frames number count : ℕ) (line : List ℕ) (last : Machine) : Type 0 where

@@ -8,6 +8,7 @@ use Rattle.vm_model.specs.declared.space.Readiness.{Readiness}
 use Rattle.vm_model.specs.declared.space.Readiness.TheVariants.{Read, Write}
 use Rattle.vm_model.specs.Contents.Content.{Content, Page, pages_of}
 use Rattle.vm_model.specs.Contents.Zeroing.{is_within}
+use Rattle.vm_base.specs.declared.names.Tag.{Tag}
 
 -- what each page of each address space is ready for
 abbrev pub Ready : Type 0
@@ -22,6 +23,10 @@ is_writable (Some Write) = true
 -- the frame of page p of the VMO v, if the page is held
 abbrev pub frame_at : Content → ℕ → ℕ → Option ℕ
 frame_at c v p = option_map (λ (held : Page). held.tag) (c.page v p)
+
+-- the number of a frame, if there is one
+abbrev pub frame_number : Option Tag → Option ℕ
+frame_number frame = option_map (λ (tag : Tag). tag.0) frame
 
 -- both are the same frame, or no frame
 abbrev pub is_same_frame : Option ℕ → Option ℕ → Bool

@@ -3,7 +3,7 @@ use Rattle.std.specs.Prelude.{◌≡◌, ℕ, ◌+◌, ◌++◌, Bool, cond, Lis
 use Rattle.vm_model.specs.declared.reply.Reply.{Reply}
 use Rattle.vm_model.specs.Language.Text.{field}
 use Rattle.vm_model.specs.Machine.Machine.{Machine}
-use Rattle.vm_model.specs.Scripts.Workload.{workload, StepsThrough, is_success, is_refusal, is_lack, count_of}
+use Rattle.vm_model.specs.Scripts.Workload.{workload, StepsThrough, is_success, is_refusal, is_lack, reply_count}
 use Rattle.vm_session.specs.declared.tally.Tally.{Tally}
 
 -- one more, if the bit is set
@@ -20,9 +20,9 @@ with_reply tally reply = record {
 
 -- the replies are those that were counted, and these later ones
 pub record Counts (tally : Tally) (later replies : List Reply) : Type 0 where
-  pub ok : count_of is_success replies ≡ tally.ok + count_of is_success later
-  pub refused : count_of is_refusal replies ≡ tally.refused + count_of is_refusal later
-  pub host : count_of is_lack replies ≡ tally.host + count_of is_lack later
+  pub ok : reply_count is_success replies ≡ tally.ok + reply_count is_success later
+  pub refused : reply_count is_refusal replies ≡ tally.refused + reply_count is_refusal later
+  pub host : reply_count is_lack replies ≡ tally.host + reply_count is_lack later
 
 -- From start, so many commands of a workload may have these later replies, which lead to last, behind the replies that
 -- were counted.

@@ -11,8 +11,8 @@ use Rattle.vmo_table.specs.declared.child_rows.ChildRow.{ChildRow}
 use Rattle.vmo_table.specs.declared.vmos.Vmo.{Vmo}
 use Rattle.vmo_table.specs.Vmos.{koid_number, lineages}
 
-abbrev pub row_functions : Functions ChildRow
-row_functions = record {
+abbrev pub child_row_functions : Functions ChildRow
+child_row_functions = record {
   rank = λ x. pair_rank x.parent.0 x.child.0;
   left = λ x. x.left;
   right = λ x. x.right;
@@ -21,19 +21,19 @@ row_functions = record {
 }
 
 -- the row of the child v of p with no links
-abbrev pub row_of : ℕ → ℕ → ChildRow
-row_of p v =
+abbrev pub child_row_of : ℕ → ℕ → ChildRow
+child_row_of p v =
     record { parent = record { 0 = p }; child = record { 0 = v }; left = None; right = None; height = 0 }
 
-abbrev pub parent_in : ChildRow → ℕ
-parent_in row = row.parent.0
+abbrev pub parent_in_row : ChildRow → ℕ
+parent_in_row row = row.parent.0
 
 abbrev pub child_in : ChildRow → ℕ
 child_in row = row.child.0
 
 -- v has a row under p
 unfoldable pub is_under : Rows ChildRow → ℕ → ℕ → Bool
-is_under t p v = is_some (value_at row_functions child_in t.rows p v)
+is_under t p v = is_some (value_at child_row_functions child_in t.rows p v)
 
 -- whether v has a row under this parent is said anew; all other rows stay
 abbrev pub IsChange : Rows ChildRow → Rows ChildRow → Option ℕ → ℕ → Bool → Type 0

@@ -8,12 +8,12 @@ use Rattle.vm_model.specs.declared.names.Target.{Target}
 use Rattle.vm_model.specs.Naming.Names.{is_of, names_as}
 use Rattle.vmo_table.specs.declared.vmos.Vmo.{Vmo}
 use Rattle.vmo_table.specs.declared.vmo_table.VmoTable.TheInside.{Inside}
-use Rattle.vmo_table.specs.Vmos.{vmos_in, count_of, lineages, IsForest}
+use Rattle.vmo_table.specs.Vmos.{vmos_in, counted_for, lineages, IsVmoForest}
 use Rattle.vmo_table.specs.inside.ChildRows.{AreChildren}
-use Rattle.vmo_table.specs.Table.{Table, names_in}
+use Rattle.vmo_table.specs.Table.{Vmos, names_in}
 
-abbrev pub table_of : Inside → Table
-table_of a = record {
+abbrev pub vmo_table_of : Inside → Vmos
+vmo_table_of a = record {
   names = a.names.entries;
   vmos = a.vmos.entries;
   room = min (min (spare a.names) (spare a.vmos)) a.child_rows.spare;
@@ -27,11 +27,11 @@ name_count names v = entry_count NAMES (is_of v) names
 -- no VMO has. Names have the range of their type.
 pub record AreNamed (names : ℕ → Option Target) (vmos : ℕ → Option Vmo) : Type 0 where
   pub below : (n : ℕ) → IsSome (names n) → n < NAMES
-  pub named : (v : ℕ) → count_of (λ (vmo : Vmo). vmo.names) vmos v ≡ name_count names v
-  pub sliced : (v : ℕ) → count_of (λ (vmo : Vmo). vmo.slices) vmos v ≡ names_as Slice names v
-  pub referred : (v : ℕ) → count_of (λ (vmo : Vmo). vmo.references) vmos v ≡ names_as Reference names v
+  pub named : (v : ℕ) → counted_for (λ (vmo : Vmo). vmo.names) vmos v ≡ name_count names v
+  pub sliced : (v : ℕ) → counted_for (λ (vmo : Vmo). vmo.slices) vmos v ≡ names_as Slice names v
+  pub referred : (v : ℕ) → counted_for (λ (vmo : Vmo). vmo.references) vmos v ≡ names_as Reference names v
 
-pub record IsTable (a : Inside) : Type 0 where
+pub record IsVmoTable (a : Inside) : Type 0 where
   pub named : AreNamed (names_in a.names.entries) (vmos_in a.vmos.entries)
-  pub forest : IsForest (vmos_in a.vmos.entries)
+  pub forest : IsVmoForest (vmos_in a.vmos.entries)
   pub rows : AreChildren a.child_rows (lineages (vmos_in a.vmos.entries))

@@ -7,7 +7,7 @@ use Rattle.cow_arena.specs.Walk.{Slots}
 use Rattle.cow_arena.proofs.AlikeLaws.{with_pair-other}
 use Rattle.balanced_tree.specs.Rows.{Rows}
 use Rattle.page_list.specs.declared.row.Row.{Row}
-use Rattle.cow_merge.specs.Ranges.{IsBare}
+use Rattle.cow_merge.specs.Ranges.{IsLeftBare}
 use Rattle.cow_merge.proofs.RangeLaws.{visible-of, dropping-start, dropping-taken, dropping-more, dropping-end}
 use Rattle.cow_merge.proofs.ranges.drop_rows.Goals as goal
 
@@ -41,7 +41,7 @@ loop-page-preserved c =
 
 pub returns-clause-bare : goal.returns-clause-bare
 returns-clause-bare c =
-    subst (λ (rows : Rows Row). IsBare c.args.arena.now c.args.lists.now rows c.args.frames.now c.loop-page.frames c.args.leaf.0 c.args.first)
+    subst (λ (rows : Rows Row). IsLeftBare c.args.arena.now c.args.lists.now rows c.args.frames.now c.loop-page.frames c.args.leaf.0 c.args.first)
     (sym c.in_default.ensures.none)
     (dropping-end c.args.arena.now c.args.lists.now c.loop-page.lists c.args.frames.now c.loop-page.frames c.args.leaf.0 c.node-node.result c.args.first
     c.loop-page.from c.loop-page.invariant.dropping c.loop-page.invariant.from c.in_default.ensures.page)

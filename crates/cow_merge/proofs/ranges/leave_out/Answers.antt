@@ -4,7 +4,7 @@ use Rattle.std.specs.Prelude.{is_some}
 use Rattle.vm_base.proofs.EntryLaws.{some_same}
 use Rattle.cow_arena.specs.declared.node.Node.{Node}
 use Rattle.cow_arena.specs.Ways.{Reaches}
-use Rattle.cow_merge.specs.Ranges.{bare_of, no_pages, IsUnderWay}
+use Rattle.cow_merge.specs.Ranges.{bare_of, no_pages, IsOnItsWayUp}
 use Rattle.cow_merge.proofs.RangeLaws.{visible-of}
 use Rattle.cow_merge.proofs.PassingLaws.{no-parent, passing-start, passing-parent, passing-top, passing-again, sparing-none}
 use Rattle.cow_merge.proofs.CloseLaws.{root-of, family-of}
@@ -71,7 +71,7 @@ cut_rows-requires-clause-way c =
 
 pub leave_out_further-requires-clause-passing : goal.leave_out_further-requires-clause-passing
 leave_out_further-requires-clause-passing c = λ above at.
-    subst (λ (n : Node). IsUnderWay c.args.arena.now c.cut_rows.new.lists c.cut_rows.new.frames c.args.leaf.0 c.args.first no_pages n c.node-node.result.first
+    subst (λ (n : Node). IsOnItsWayUp c.args.arena.now c.cut_rows.new.lists c.cut_rows.new.frames c.args.leaf.0 c.args.first no_pages n c.node-node.result.first
     (c.node-node.result.first + c.node-node.result.seen) (c.node-node.result.first + c.node-node.result.seen))
     (some_same (sym c.node-above.ensures ∙ at)) (record {
       spared = None;

@@ -2,12 +2,12 @@ use Rattle.std.proofs.Common.{ℕ, ◌≤◌, List}
 use Rattle.cow_arena.specs.Nodes.{nodes_of}
 use Rattle.cow_arena.specs.Walk.{Slots, tree_with}
 use Rattle.cow_split.specs.Cost.{depth}
-use Rattle.cow_split.specs.Searching.{Below, IsPassed, weight_after}
+use Rattle.cow_split.specs.Searching.{FoundBelow, IsPassed, weight_after}
 use Rattle.cow_split.proofs.viewers.next_after.Given as goal
 
 abbrev pub invariant-loop-at : goal.invariant-loop-at
 invariant-loop-at l = record {
-  passed : (slots : Slots) (below : Below) (after : List ℕ) →
+  passed : (slots : Slots) (below : FoundBelow) (after : List ℕ) →
       IsPassed (tree_with (nodes_of l.arena) l.arena.lists slots) below l.fn.passed.start.0 l.fn.passed.at.0 l.fn.passed.page after →
       IsPassed (tree_with (nodes_of l.arena) l.arena.lists slots) below l.fn.passed.start.0 l.at.0 l.here after;
   less : weight_after (nodes_of l.arena) l.arena.lists l.at.0 ≤ weight_after (nodes_of l.arena) l.arena.lists l.fn.passed.at.0;

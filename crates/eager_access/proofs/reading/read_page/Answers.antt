@@ -1,11 +1,11 @@
 use Rattle.mapping_set.specs.Tables.{table_of}
-use Rattle.eager_pages.specs.Eager.{content_of}
+use Rattle.eager_pages.specs.Eager.{eager_content}
 use Rattle.eager_access.proofs.AskLaws.{shows_entry}
 use Rattle.eager_access.proofs.reading.read_page.Goals as goal
 
 pub returns-clause-reads : goal.returns-clause-reads
 returns-clause-reads c =
-    let shows = shows_entry (content_of c.args.pages.now) (table_of c.args.maps.now) c.args.root.0 c.args.page c.entry_of-entry.result c.requires.shows c.entry_of-entry.ensures in
+    let shows = shows_entry (eager_content c.args.pages.now) (table_of c.args.maps.now) c.args.root.0 c.args.page c.entry_of-entry.result c.requires.shows c.entry_of-entry.ensures in
     let touches = c.touch.ensures.touches (table_of c.args.maps.now) in
     record {
       entry = c.entry_of-entry.result;

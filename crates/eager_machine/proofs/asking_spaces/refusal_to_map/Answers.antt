@@ -5,7 +5,7 @@ use Rattle.pages.proofs.NameLaws.{IsInside-good}
 use Rattle.mapping_set.specs.Tables.{table_of}
 use Rattle.region_tree.specs.Tree.{regions_of, spaces_of}
 use Rattle.region_ops.specs.Spaces.{with_all}
-use Rattle.eager_pages.specs.Eager.{content_of}
+use Rattle.eager_pages.specs.Eager.{eager_content}
 use Rattle.eager_machine.proofs.SpaceLaws.{other_open}
 use Rattle.eager_machine.proofs.asking_spaces.refusal_to_map.Goals as goal
 
@@ -14,11 +14,11 @@ returns-in-Err c = λ s. other_open _ _ _ _ _ (ap (λ (o : Option Target). is_so
 
 pub ask_to_map-requires-clause-inside : goal.ask_to_map-requires-clause-inside
 ask_to_map-requires-clause-inside c =
-    IsInside-good (with_all c.requires.well.rest (content_of c.args.pages.now) c.args.vmos.now (spaces_of (regions_of c.args.regions.now) (table_of c.args.maps.now)))
+    IsInside-good (with_all c.requires.well.rest (eager_content c.args.pages.now) c.args.vmos.now (spaces_of (regions_of c.args.regions.now) (table_of c.args.maps.now)))
     c.args.name.0 _ c.requires.well.well.good (sym c.resolve.ensures ∙ c.in-Some.is)
 
 pub returns-in-Ok-ask_to_map : goal.returns-in-Ok-ask_to_map
-returns-in-Ok-ask_to_map c = λ s. c.in-Ok-ask_to_map.ensures.0 (with_all s (content_of c.args.pages.now) c.args.vmos.now (spaces_of (regions_of c.args.regions.now) (table_of c.args.maps.now))) c.args.name (sym c.resolve.ensures ∙ c.in-Some.is)
+returns-in-Ok-ask_to_map c = λ s. c.in-Ok-ask_to_map.ensures.0 (with_all s (eager_content c.args.pages.now) c.args.vmos.now (spaces_of (regions_of c.args.regions.now) (table_of c.args.maps.now))) c.args.name (sym c.resolve.ensures ∙ c.in-Some.is)
 
 pub returns-in-Err-ask_to_map : goal.returns-in-Err-ask_to_map
-returns-in-Err-ask_to_map c = λ s. c.in-Err-ask_to_map.ensures (with_all s (content_of c.args.pages.now) c.args.vmos.now (spaces_of (regions_of c.args.regions.now) (table_of c.args.maps.now))) c.args.name (sym c.resolve.ensures ∙ c.in-Some.is)
+returns-in-Err-ask_to_map c = λ s. c.in-Err-ask_to_map.ensures (with_all s (eager_content c.args.pages.now) c.args.vmos.now (spaces_of (regions_of c.args.regions.now) (table_of c.args.maps.now))) c.args.name (sym c.resolve.ensures ∙ c.in-Some.is)

@@ -16,7 +16,7 @@ use Rattle.vm_model.specs.declared.reply.Reply.{Reply}
 use Rattle.vm_model.specs.Machine.State.{target_of}
 use Rattle.vm_model.specs.Space.Mappings.{IsMapPlace}
 use Rattle.vm_model.specs.Space.Rights.{has, specific, overwrite, upper_limit}
-use Rattle.eager_pages.specs.Eager.{content_of}
+use Rattle.eager_pages.specs.Eager.{eager_content}
 use Rattle.region_ops.specs.Spaces.{Does}
 use Rattle.ready_map.specs.Notes.{rows_of}
 use Rattle.eager_vmos.specs.Vmos.{content_in}
@@ -63,7 +63,7 @@ pub returns-in-Ok-clause-does : goal.returns-in-Ok-clause-does
 unfolding target_of
 returns-in-Ok-clause-does c =
     all_done c.args.vmos.now c.map_at.new.vmos c.map_at.new.store (spaces_of (regions_of c.args.regions.now) (table_of c.args.maps.now)) _ (VmarMap c.args.region c.args.offset c.args.name c.args.vmo_offset c.args.len c.args.perm c.args.flags) c.requires.may (Address c.args.told) (rows_of c.args.ready.now) _ (λ refusal e. absurd cc)
-    (subst (λ (r : Reply). Does (content_in c.args.vmos.now) c.args.vmos.now.vmos (spaces_of (regions_of c.args.regions.now) (table_of c.args.maps.now)) (VmarMap c.args.region c.args.offset c.args.name c.args.vmo_offset c.args.len c.args.perm c.args.flags) r (content_of c.map_at.new.store) c.map_at.new.vmos (spaces_of (regions_of c.args.regions.now) (table_of c.map_at.new.maps)))
+    (subst (λ (r : Reply). Does (content_in c.args.vmos.now) c.args.vmos.now.vmos (spaces_of (regions_of c.args.regions.now) (table_of c.args.maps.now)) (VmarMap c.args.region c.args.offset c.args.name c.args.vmo_offset c.args.len c.args.perm c.args.flags) r (eager_content c.map_at.new.store) c.map_at.new.vmos (spaces_of (regions_of c.args.regions.now) (table_of c.map_at.new.maps)))
     (address_of c.args.told c.in_page.result c.page_of-first.result c.page_of-first.result c.in_page.ensures c.if-in_page-ne0.false c.page_of-first.ensures refl)
     (map_does (content_in c.args.vmos.now) c.args.vmos.now.vmos (spaces_of (regions_of c.args.regions.now) (table_of c.args.maps.now)) c.args.region c.args.offset c.args.name c.args.vmo_offset c.args.len c.args.perm c.args.flags _ _
     c.live_region-above.ensures.given c.live_region-above.ensures.live (sym c.in-Some.ensures) _ (λ s. c.requires.may.none) (rw (c.by-wanted.ensures, c.page_count-count.ensures) at (c.is_map_place.ensures.0 c.if-not-is_map_place.false)) _ _ _ (rw c.piece_at-piece.ensures at c.in-Ok.ensures.puts)))

@@ -5,7 +5,7 @@ use Rattle.vm_base.specs.Entries.{with_key}
 use Rattle.vm_base.proofs.EntryLaws.{some_same, with_key-here, with_key-other}
 use Rattle.balanced_tree.specs.Pairs.{with_pair}
 use Rattle.fault.specs.declared.page_map.Block.{Block}
-use Rattle.fault.specs.inside.Pages.{with_entry, entry_of}
+use Rattle.fault.specs.inside.Pages.{with_entry, block_entry}
 use Rattle.fault.proofs.LinkLaws.{links_without}
 use Rattle.fault.proofs.PageLaws.{size-set, links-set, AreBlocks-set, links-same, AreBlocks-gone}
 use Rattle.fault.proofs.page_map.take_entry.Goals as goal
@@ -32,7 +32,7 @@ returns-in-Some-first_entry-clause-pages c =
     some_same (sym (ap (λ (m : ℕ → Option Block). m c.args.at) now ∙ with_key-here (get c.args.blocks.now) c.args.at _ c.args.at refl) ∙ c.index-in-Some.ensures) in
     AreBlocks-set (values_of c.args.rows.now) (get c.args.blocks.now) c.requires.pages c.args.list c.args.page c.args.at k c.requires.block c.index.ensures None (get c.set_entry.new.blocks) now (
       c.in-Some-first_entry.field-0.0,
-      ap {B = Bool} is_some (ap (λ (b : Block). entry_of b c.in-Some-first_entry.field-0.0) is ∙ c.in-Some-first_entry.ensures.value.0),
+      ap {B = Bool} is_some (ap (λ (b : Block). block_entry b c.in-Some-first_entry.field-0.0) is ∙ c.in-Some-first_entry.ensures.value.0),
     )
 
 pub returns-in-Some-first_entry-clause-links : goal.returns-in-Some-first_entry-clause-links

@@ -1,6 +1,6 @@
 use Rattle.std.proofs.Common.{◌≡◌, ◌+◌, None}
 use Rattle.vm_model.specs.Space.Table.{with_pages}
-use Rattle.mapping_set.specs.Tables.{table_of, spare_of, places_of}
+use Rattle.mapping_set.specs.Tables.{table_of, mapping_spare, places_of}
 use Rattle.region_ops.proofs.ClearLaws.{IsOnTheWay, HasRoomLeft, entries_under}
 use Rattle.region_ops.proofs.leaving.clear_range.Given as goal
 
@@ -9,7 +9,7 @@ invariant-loop-piece g l = record {
   way : IsOnTheWay (g.P.Pages.content l.initial.store) l.initial.vmos (table_of l.initial.maps) (g.P.Pages.content l.store) l.vmos (table_of l.maps);
   cleared : with_pages (table_of l.maps) l.root.0 l.first (l.first + l.count) (λ p. None)
       ≡ with_pages (table_of l.initial.maps) l.root.0 l.first (l.first + l.count) (λ p. None);
-  room : HasRoomLeft (spare_of l.initial.maps) (spare_of l.maps) (table_of l.maps l.root.0) l.first (l.first + l.count);
+  room : HasRoomLeft (mapping_spare l.initial.maps) (mapping_spare l.maps) (table_of l.maps l.root.0) l.first (l.first + l.count);
   places : places_of l.maps ≡ places_of l.initial.maps;
 }
 

@@ -5,7 +5,7 @@ use Rattle.served.specs.Outcome.{AnswersAll}
 use Rattle.served.proofs.Served.{answers_all, Completes-end, StopsReading-there, ReachesLimit-there}
 use Rattle.script_io.specs.declared.line_reader.Fetch.TheVariants.{Line, TooLong, End, Fault, Limit}
 use Rattle.script_io.specs.declared.status.Status.TheVariants.{Done, HostMemory, ReadFault, ScriptLimit, WriteFault}
-use Rattle.served.proofs.Answered.{used_up, IsAnswered-line, IsAnswered-long, IsReady-answered, IsServed-after, bytes_left-answered, write_fault-none, write_fault-caused, write_fault-no_read, write_fault-no_memory, other_status}
+use Rattle.served.proofs.Answered.{used_up, IsAnswered-line, IsAnswered-long, IsReady-answered, IsServed-after, bytes_left-answered, write_failure-none, write_failure-caused, write_failure-no_read, write_failure-no_memory, other_status}
 use Rattle.served.proofs.answers.answer_next.Goals as goal
 
 pub returns-in-End : goal.returns-in-End
@@ -106,14 +106,14 @@ returns-in-Line g c =
       once = λ pending still. (Line, c.in-Line.ensures.fetches pending still);
       agrees = line.ensures.agrees;
       good = line.ensures.good;
-      ready = rw c.write_fault.ensures (write_fault-none line.result (IsReady-answered rules c.args.lines.now c.next.new.self _ _ _ _ before after _ _ line.result ready first line.ensures.next));
+      ready = rw c.write_fault.ensures (write_failure-none line.result (IsReady-answered rules c.args.lines.now c.next.new.self _ _ _ _ before after _ _ line.result ready first line.ensures.next));
       limit = c.in-Line.ensures.limit;
-      falls = rw c.write_fault.ensures (write_fault-none line.result (bytes_left-answered rules c.args.lines.now c.next.new.self _ _ _ _ before after _ line.result ready first c.in-Line.ensures.limit));
+      falls = rw c.write_fault.ensures (write_failure-none line.result (bytes_left-answered rules c.args.lines.now c.next.new.self _ _ _ _ before after _ line.result ready first c.in-Line.ensures.limit));
       read_later = c.in-Line.ensures.later;
       write_later = line.ensures.cause.later;
-      read_cause = λ e. write_fault-no_read line.result (sym c.write_fault.ensures ∙ e);
-      write_cause = λ e. write_fault-caused line.result line.ensures.cause.failed (sym c.write_fault.ensures ∙ e);
-      host_memory = λ e. write_fault-no_memory line.result (sym c.write_fault.ensures ∙ e);
+      read_cause = λ e. write_failure-no_read line.result (sym c.write_fault.ensures ∙ e);
+      write_cause = λ e. write_failure-caused line.result line.ensures.cause.failed (sym c.write_fault.ensures ∙ e);
+      host_memory = λ e. write_failure-no_memory line.result (sym c.write_fault.ensures ∙ e);
     }
 
 pub returns-in-TooLong : goal.returns-in-TooLong
@@ -135,12 +135,12 @@ returns-in-TooLong g c =
       once = λ pending still. (TooLong, c.in-TooLong.ensures.fetches pending still);
       agrees = c.requires.agrees;
       good = c.requires.good;
-      ready = rw fault (write_fault-none push.result (IsReady-answered rules c.args.lines.now c.next.new.self _ _ _ _ now now _ _ push.result ready first (le-add_right (g.P.PageStore.content c.args.store.now).next 1)));
+      ready = rw fault (write_failure-none push.result (IsReady-answered rules c.args.lines.now c.next.new.self _ _ _ _ now now _ _ push.result ready first (le-add_right (g.P.PageStore.content c.args.store.now).next 1)));
       limit = c.in-TooLong.ensures.limit;
-      falls = rw fault (write_fault-none push.result (bytes_left-answered rules c.args.lines.now c.next.new.self _ _ _ _ now now _ push.result ready first c.in-TooLong.ensures.limit));
+      falls = rw fault (write_failure-none push.result (bytes_left-answered rules c.args.lines.now c.next.new.self _ _ _ _ now now _ push.result ready first c.in-TooLong.ensures.limit));
       read_later = c.in-TooLong.ensures.later;
       write_later = push.ensures.cause.later;
-      read_cause = λ e. write_fault-no_read push.result (sym fault ∙ e);
-      write_cause = λ e. write_fault-caused push.result push.ensures.cause.failed (sym fault ∙ e);
-      host_memory = λ e. write_fault-no_memory push.result (sym fault ∙ e);
+      read_cause = λ e. write_failure-no_read push.result (sym fault ∙ e);
+      write_cause = λ e. write_failure-caused push.result push.ensures.cause.failed (sym fault ∙ e);
+      host_memory = λ e. write_failure-no_memory push.result (sym fault ∙ e);
     }

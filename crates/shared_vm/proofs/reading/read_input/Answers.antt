@@ -3,7 +3,7 @@ use Rattle.std.proofs.KnownBytes.{Consumes-nil}
 use Rattle.served.proofs.Beginning.{HasFailed-earlier, IsServed-fresh}
 use Rattle.vm_base.specs.declared.limits.TheConstants.{INPUT_BYTES}
 use Rattle.shared_vm.specs.Gathering.{gathering}
-use Rattle.shared_vm.proofs.GatherLaws.{IsReady-none, told-gathers, told-few, told-fault}
+use Rattle.shared_vm.proofs.GatherLaws.{IsReady-none, lists_or_status-gathers, lists_or_status-few, lists_or_status-fault}
 use Rattle.shared_vm.proofs.reading.read_input.Goals as goal
 
 pub returns-in_default-clause-read : goal.returns-in_default-clause-read
@@ -33,12 +33,12 @@ loop-status-smaller g c = c.in_default-next.ensures.falls
 
 pub returns-in-Some-clause-read : goal.returns-in-Some-clause-read
 returns-in-Some-clause-read g c =
-    rw c.told.ensures (told-gathers c.in-Some.status _ _ _ (c.in-Some.ensures.gathered _ c.loop-status.invariant.gathered))
+    rw c.told.ensures (lists_or_status-gathers c.in-Some.status _ _ _ (c.in-Some.ensures.gathered _ c.loop-status.invariant.gathered))
 
 pub returns-in-Some-clause-few : goal.returns-in-Some-clause-few
 returns-in-Some-clause-few g c =
-    rw c.told.ensures (told-few c.in-Some.status _ (λ e. omega (arith, c.in-Some.ensures.few e, c.in-Some.ensures.limit, c.loop-status.invariant.limit)))
+    rw c.told.ensures (lists_or_status-few c.in-Some.status _ (λ e. omega (arith, c.in-Some.ensures.few e, c.in-Some.ensures.limit, c.loop-status.invariant.limit)))
 
 pub returns-in-Some-clause-cause : goal.returns-in-Some-clause-cause
 returns-in-Some-clause-cause g c = λ e.
-    HasFailed-earlier _ _ _ c.loop-status.invariant.later (told-fault c.in-Some.status _ c.in-Some.ensures.cause (sym c.told.ensures ∙ e))
+    HasFailed-earlier _ _ _ c.loop-status.invariant.later (lists_or_status-fault c.in-Some.status _ c.in-Some.ensures.cause (sym c.told.ensures ∙ e))

@@ -4,7 +4,7 @@ use Rattle.vm_base.specs.declared.limits.TheConstants.{PAGE}
 use Rattle.vm_base.specs.Search.{any_from}
 use Rattle.source_model.specs.State.{evicted}
 use Rattle.source_vm.specs.Pages.{cleared, is_clean_at}
-use Rattle.source_vm.specs.Table.{names_of, backings_of, links_of, state_of}
+use Rattle.source_vm.specs.Table.{source_names_of, backings_of, loose_links_of, source_state_of}
 use Rattle.source_vm.proofs.StepLaws.{kept_content, no_more, settled}
 use Rattle.source_vm.proofs.RowLaws.{evict_lacked, evict_done}
 use Rattle.source_vm.proofs.AccessLaws.{readable_of}
@@ -24,14 +24,14 @@ pub returns-in-Ok-evict_pages : goal.returns-in-Ok-evict_pages
 returns-in-Ok-evict_pages g c =
     let t = c.args.table.now in
     let content = g.P.PageStore.content c.args.store.now in
-    let s = state_of content t in
+    let s = source_state_of content t in
     let found = c.in-Ok.ensures.ok in
     let v = c.in-Ok.found.0.0 in
     let b = c.in-Ok.found.1 in
     let ends = c.in-Ok-evict_pages.ensures.ok ∙ (ap (λ (n : ℕ). cleared b content v n c.page_of-end.result) c.page_of-first.ensures
     ∙ (ap (λ (n : ℕ). cleared b content v (c.args.offset / PAGE) n) c.page_of-end.ensures
-    ∙ evicted_is content (names_of t) (backings_of t) (links_of t) v b found.backed (c.args.offset / PAGE) ((c.args.offset + c.args.len) / PAGE))) in
-    settled s (record s { content = evicted s v (c.args.offset / PAGE) ((c.args.offset + c.args.len) / PAGE) }) _ _ _ (names_of t) (backings_of t) (links_of t) c.requires.agrees.good
+    ∙ evicted_is content (source_names_of t) (backings_of t) (loose_links_of t) v b found.backed (c.args.offset / PAGE) ((c.args.offset + c.args.len) / PAGE))) in
+    settled s (record s { content = evicted s v (c.args.offset / PAGE) ((c.args.offset + c.args.len) / PAGE) }) _ _ _ (source_names_of t) (backings_of t) (loose_links_of t) c.requires.agrees.good
     (evict_done s c.args.name v found.named c.args.offset c.args.len found.aligned found.unlinked (no_more _ _ found.inside) _ refl) ends refl refl refl
 
 pub returns-in-Err-evict_pages : goal.returns-in-Err-evict_pages
@@ -44,6 +44,6 @@ returns-in-Err-evict_pages g c =
     let clean : any_from (c.args.offset / PAGE) ((c.args.offset + c.args.len) / PAGE) (is_clean_at b content v) ≡ true =
     ap (λ (n : ℕ). any_from n ((c.args.offset + c.args.len) / PAGE) (is_clean_at b content v)) (sym c.page_of-first.ensures)
     ∙ (ap (λ (n : ℕ). any_from c.page_of-first.result n (is_clean_at b content v)) (sym c.page_of-end.ensures) ∙ c.in-Err-evict_pages.ensures.err) in
-    kept_content content _ (names_of t) (backings_of t) (links_of t) _ _ c.in-Err-evict_pages.ensures.same
-    (evict_lacked (state_of content t) c.args.name v found.named c.args.offset c.args.len found.aligned found.unlinked (no_more _ _ found.inside)
-    (evict_tests content (names_of t) (backings_of t) (links_of t) v b found.backed (c.args.offset / PAGE) ((c.args.offset + c.args.len) / PAGE) ∙ clean))
+    kept_content content _ (source_names_of t) (backings_of t) (loose_links_of t) _ _ c.in-Err-evict_pages.ensures.same
+    (evict_lacked (source_state_of content t) c.args.name v found.named c.args.offset c.args.len found.aligned found.unlinked (no_more _ _ found.inside)
+    (evict_tests content (source_names_of t) (backings_of t) (loose_links_of t) v b found.backed (c.args.offset / PAGE) ((c.args.offset + c.args.len) / PAGE) ∙ clean))

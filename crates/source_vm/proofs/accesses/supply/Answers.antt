@@ -1,6 +1,6 @@
 use Rattle.std.proofs.Common.{arith}
 use Rattle.vm_model.proofs.ContentLaws.{pages_of_le}
-use Rattle.source_vm.specs.Table.{names_of, backings_of, links_of}
+use Rattle.source_vm.specs.Table.{source_names_of, backings_of, loose_links_of}
 use Rattle.source_vm.proofs.StepLaws.{kept_content, no_more}
 use Rattle.source_vm.proofs.RowLaws.{supply_refused}
 use Rattle.source_vm.proofs.AccessLaws.{readable_of, supply_supplied, supply_lacks}
@@ -26,7 +26,7 @@ returns-in-Ok-supply_pages g c =
     let t = c.args.table.now in
     let content = g.P.PageStore.content c.args.store.now in
     let found = c.in-Ok.ensures.ok in
-    supply_supplied content (names_of t) (backings_of t) (links_of t) c.args.name c.in-Ok.found.0.0 found.named c.args.offset c.args.len (no_more _ _ found.inside) _ _ c.touched_pages-first.ensures.pages
+    supply_supplied content (source_names_of t) (backings_of t) (loose_links_of t) c.args.name c.in-Ok.found.0.0 found.named c.args.offset c.args.len (no_more _ _ found.inside) _ _ c.touched_pages-first.ensures.pages
     c.in-Ok.found.1 found.backed found.unlinked found.aligned _ c.in-Ok-supply_pages.ensures.free c.in-Ok-supply_pages.ensures.ok
 
 pub returns-in-Err-supply_pages : goal.returns-in-Err-supply_pages
@@ -34,6 +34,6 @@ returns-in-Err-supply_pages g c =
     let t = c.args.table.now in
     let content = g.P.PageStore.content c.args.store.now in
     let found = c.in-Ok.ensures.ok in
-    kept_content content _ (names_of t) (backings_of t) (links_of t) _ _ c.in-Err-supply_pages.ensures.same
-    (supply_lacks content (names_of t) (backings_of t) (links_of t) c.args.name c.in-Ok.found.0.0 found.named c.args.offset c.args.len (no_more _ _ found.inside) _ _ c.touched_pages-first.ensures.pages
+    kept_content content _ (source_names_of t) (backings_of t) (loose_links_of t) _ _ c.in-Err-supply_pages.ensures.same
+    (supply_lacks content (source_names_of t) (backings_of t) (loose_links_of t) c.args.name c.in-Ok.found.0.0 found.named c.args.offset c.args.len (no_more _ _ found.inside) _ _ c.touched_pages-first.ensures.pages
     c.in-Ok.found.1 found.backed found.unlinked found.aligned _ c.in-Err-supply_pages.ensures.err)

@@ -2,7 +2,7 @@ use Rattle.std.proofs.Common.{◌∙◌, ◌/◌, ℕ, refl, ap, arith}
 use Rattle.vm_base.specs.declared.limits.TheConstants.{PAGE, SOURCE_BYTES, SOURCE_KIND_MAX}
 use Rattle.vm_base.specs.Entries.{with_key}
 use Rattle.source_model.specs.declared.backing.Backing.{Backing}
-use Rattle.source_vm.specs.Table.{names_of, owners_of, backings_of, links_of, children_of, state_of}
+use Rattle.source_vm.specs.Table.{source_names_of, owners_of, backings_of, loose_links_of, children_of, source_state_of}
 use Rattle.source_vm.proofs.StepLaws.{no_more}
 use Rattle.source_vm.proofs.TableLaws.{closed_from}
 use Rattle.source_vm.proofs.TextLaws.{no_backing_yet, no_owner_yet}
@@ -20,14 +20,14 @@ enter_name-requires-clause-unnamed g c =
     let content = g.P.PageStore.content c.args.store.now in
     ap (λ owners. owners c.in-Ok-create.v.0) c.reserve.ensures.owners
     ∙ (ap (λ (k : ℕ). owners_of t k) c.in-Ok-create.ensures.koid
-    ∙ no_owner_yet (state_of content t) c.requires.agrees.good (owners_of t) (children_of t) c.requires.agrees.indexed)
+    ∙ no_owner_yet (source_state_of content t) c.requires.agrees.good (owners_of t) (children_of t) c.requires.agrees.indexed)
 
 pub enter_backing-requires-clause-other : goal.enter_backing-requires-clause-other
 enter_backing-requires-clause-other g c =
     let t = c.args.table.now in
     let content = g.P.PageStore.content c.args.store.now in
     ap (λ backings. backings c.in-Ok-create.v.0) (c.enter_name.ensures.backings ∙ c.reserve.ensures.backings)
-    ∙ (ap (λ (k : ℕ). backings_of t k) c.in-Ok-create.ensures.koid ∙ no_backing_yet (state_of content t) c.requires.agrees.good)
+    ∙ (ap (λ (k : ℕ). backings_of t k) c.in-Ok-create.ensures.koid ∙ no_backing_yet (source_state_of content t) c.requires.agrees.good)
 
 pub returns-clause-step : goal.returns-clause-step
 returns-clause-step g c =
@@ -35,7 +35,7 @@ returns-clause-step g c =
     let content = g.P.PageStore.content c.args.store.now in
     let v = c.in-Ok-create.v.0 in
     let b : Backing = record { kind = c.args.kind; seed = c.args.seed; base = 0; seen = c.page_of-pages.result } in
-    create_step content _ (names_of t) _ (backings_of t) _ (links_of t) _ c.args.name v c.requires.agrees.good
+    create_step content _ (source_names_of t) _ (backings_of t) _ (loose_links_of t) _ c.args.name v c.requires.agrees.good
     (closed_from c.find.result _ c.is_some.result c.find.ensures c.is_some.ensures c.if-is_some.false) c.in-Ok-create.ensures.koid
     (c.enter_backing.ensures.names ∙ (c.enter_name.ensures.names ∙ ap (λ names. with_key names c.args.name.0 v) c.reserve.ensures.names))
     c.args.size c.args.kind c.args.seed c.page_of-pages.result b refl

@@ -2,7 +2,7 @@ use Rattle.std.proofs.Common.{◌∙◌, sym, ap, take, drop, length, true, fals
 use Rattle.page_store.proofs.PartLaws.{part_of_zeros}
 use Rattle.pages.proofs.LookLaws.{zero_frame, held_frame}
 use Rattle.source_vm.specs.Pages.{page_at}
-use Rattle.source_vm.specs.Table.{backings_of, links_of}
+use Rattle.source_vm.specs.Table.{backings_of, loose_links_of}
 use Rattle.source_model.proofs.FillingLaws.{absent-held}
 use Rattle.source_vm.proofs.FillingLaws.{text-held}
 use Rattle.source_vm.proofs.EndLaws.{walked-from_end, absent-end, absent-unheld, zeros-end}
@@ -12,7 +12,7 @@ pub returns-then-is_sourced-clause-absent : goal.returns-then-is_sourced-clause-
 returns-then-is_sourced-clause-absent g c =
     let content = g.P.PageStore.content c.args.store.now in
     let bs = backings_of c.args.table.now in
-    let ls = links_of c.args.table.now in
+    let ls = loose_links_of c.args.table.now in
     let end = c.find_end-end.result in
     let is = sym c.if-is_sourced.true ∙ (c.is_sourced.ensures ∙ sym (absent-unheld content bs end.koid.0 end.page (zero_frame _ c.in_default.ensures))) in
     absent-end content bs ls c.args.place.koid.0 c.args.place.page (page_at end) true c.find_end-end.ensures.end is
@@ -21,7 +21,7 @@ pub returns-in_default-clause-absent : goal.returns-in_default-clause-absent
 returns-in_default-clause-absent g c =
     let content = g.P.PageStore.content c.args.store.now in
     let bs = backings_of c.args.table.now in
-    let ls = links_of c.args.table.now in
+    let ls = loose_links_of c.args.table.now in
     let end = c.find_end-end.result in
     let is = sym c.if-is_sourced.false ∙ (c.is_sourced.ensures ∙ sym (absent-unheld content bs end.koid.0 end.page (zero_frame _ c.in_default.ensures))) in
     absent-end content bs ls c.args.place.koid.0 c.args.place.page (page_at end) false c.find_end-end.ensures.end is
@@ -30,7 +30,7 @@ pub returns-in_default-clause-read : goal.returns-in_default-clause-read
 returns-in_default-clause-read g c = λ supplied.
     let content = g.P.PageStore.content c.args.store.now in
     let bs = backings_of c.args.table.now in
-    let ls = links_of c.args.table.now in
+    let ls = loose_links_of c.args.table.now in
     let end = c.find_end-end.result in
     let free = zero_frame _ c.in_default.ensures in
     let tight = absent-unheld content bs end.koid.0 end.page free ∙ (sym c.is_sourced.ensures ∙ c.if-is_sourced.false) in
@@ -43,7 +43,7 @@ pub returns-clause-absent : goal.returns-clause-absent
 returns-clause-absent g c =
     let content = g.P.PageStore.content c.args.store.now in
     let bs = backings_of c.args.table.now in
-    let ls = links_of c.args.table.now in
+    let ls = loose_links_of c.args.table.now in
     let end = c.find_end-end.result in
     let held = held_frame _ _ c.in-Some.ensures in
     absent-end content bs ls c.args.place.koid.0 c.args.place.page (page_at end) false c.find_end-end.ensures.end
@@ -53,7 +53,7 @@ pub returns-clause-read : goal.returns-clause-read
 returns-clause-read g c = λ supplied.
     let content = g.P.PageStore.content c.args.store.now in
     let bs = backings_of c.args.table.now in
-    let ls = links_of c.args.table.now in
+    let ls = loose_links_of c.args.table.now in
     let end = c.find_end-end.result in
     let held = held_frame _ _ c.in-Some.ensures in
     let text = sym (text-held content bs end.koid.0 end.page held.0 held.1)

@@ -2,7 +2,7 @@ use Rattle.std.proofs.Common.{◌∙◌, ◌≤◌, ◌+◌, length, List, ℕ, 
 use Rattle.std.proofs.lemmas.Result.{on_ok_weaker, IfErr-weaker}
 use Rattle.vm_model.specs.Contents.Content.{used}
 use Rattle.source_vm.specs.Pages.{LacksFrames, is_end_absent}
-use Rattle.source_vm.specs.Table.{backings_of, links_of}
+use Rattle.source_vm.specs.Table.{backings_of, loose_links_of}
 use Rattle.source_vm.proofs.AbsentLaws.{absent-behind, filter_front, IsSupplied-front}
 use Rattle.source_vm.proofs.EndLaws.{end_absent-unlinked, absent_ends-unlinked}
 use Rattle.source_vm.proofs.ranges.supply_pages.Goals as goal
@@ -12,7 +12,7 @@ supply_counted-requires-clause-need g c =
     let t = c.args.table.now in
     let content = g.P.PageStore.content c.args.store.now in
     let bs = backings_of t in
-    let ls = links_of t in
+    let ls = loose_links_of t in
     let unlinked = c.requires.readable.either c.args.v.0 c.args.backing.now c.requires.backed in
     c.count_absent-need.ensures ∙ ap (λ (ps : List ℕ). length ps)
     (sym (absent_ends-unlinked content bs ls c.args.v.0 c.args.backing.now c.requires.backed unlinked c.args.first c.seen_end-last.result))
@@ -22,7 +22,7 @@ returns-clause-ok g c =
     let t = c.args.table.now in
     let content = g.P.PageStore.content c.args.store.now in
     let bs = backings_of t in
-    let ls = links_of t in
+    let ls = loose_links_of t in
     let last = c.seen_end-last.ensures in
     let unlinked = c.requires.readable.either c.args.v.0 c.args.backing.now c.requires.backed in
     on_ok_weaker c.supply_counted.result (IsSupplied-front bs ls c.args.v.0 _ _ c.args.first c.seen_end-last.result c.args.end last.first last.end
@@ -34,7 +34,7 @@ returns-clause-free g c =
     let t = c.args.table.now in
     let content = g.P.PageStore.content c.args.store.now in
     let bs = backings_of t in
-    let ls = links_of t in
+    let ls = loose_links_of t in
     let last = c.seen_end-last.ensures in
     let unlinked = c.requires.readable.either c.args.v.0 c.args.backing.now c.requires.backed in
     let front = filter_front (is_end_absent bs ls content c.args.v.0) c.args.first c.seen_end-last.result c.args.end last.first last.end
@@ -48,7 +48,7 @@ returns-clause-err g c =
     let t = c.args.table.now in
     let content = g.P.PageStore.content c.args.store.now in
     let bs = backings_of t in
-    let ls = links_of t in
+    let ls = loose_links_of t in
     let last = c.seen_end-last.ensures in
     let unlinked = c.requires.readable.either c.args.v.0 c.args.backing.now c.requires.backed in
     let front = filter_front (is_end_absent bs ls content c.args.v.0) c.args.first c.seen_end-last.result c.args.end last.first last.end

@@ -1,5 +1,5 @@
 use Rattle.std.proofs.Common.{◌∙◌, refl, sym}
-use Rattle.source_vm.specs.Table.{backings_of, links_of}
+use Rattle.source_vm.specs.Table.{backings_of, loose_links_of}
 use Rattle.source_vm.proofs.TableLaws.{no_backing, pairs-without, AreIndexed-same, AreIndexed-unlinked, without_key-none}
 use Rattle.source_vm.proofs.table.leave.Goals as goal
 
@@ -21,4 +21,4 @@ returns-in-None-clause-backings c = pairs-without _ _ _ c.remove-in-None.ensures
 
 pub returns-in-None-clause-links : goal.returns-in-None-clause-links
 returns-in-None-clause-links c =
-    sym (without_key-none (links_of c.args.table.now) c.args.v.0 (sym c.find.ensures ∙ c.in-None.is))
+    sym (without_key-none (loose_links_of c.args.table.now) c.args.v.0 (sym c.find.ensures ∙ c.in-None.is))

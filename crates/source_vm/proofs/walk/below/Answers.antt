@@ -4,18 +4,18 @@ use Rattle.vm_base.proofs.EntryLaws.{some_is, none_is}
 use Rattle.vm_model.proofs.ContentLaws.{pages_of_le}
 use Rattle.pages.proofs.LookLaws.{is_held_frame}
 use Rattle.source_model.proofs.LinkLaws.{below-held, below-seen, below-past, below-unlinked}
-use Rattle.source_vm.specs.Table.{links_of}
+use Rattle.source_vm.specs.Table.{loose_links_of}
 use Rattle.source_vm.proofs.walk.below.Goals as goal
 
 pub returns-then-is_some-clause-next : goal.returns-then-is_some-clause-next
 returns-then-is_some-clause-next g c =
     let page = (g.P.PageStore.content c.args.store.now).page c.args.at.koid.0 c.args.at.page in
     let held = some_is page (sym (is_held_frame page) ∙ (ap is_some (sym c.frame.ensures) ∙ (sym c.is_some.ensures ∙ c.if-is_some.true))) in
-    sym (below-held (g.P.PageStore.content c.args.store.now) (links_of c.args.table.now) c.args.at.koid.0 c.args.at.page held.0 held.1)
+    sym (below-held (g.P.PageStore.content c.args.store.now) (loose_links_of c.args.table.now) c.args.at.koid.0 c.args.at.page held.0 held.1)
 
 pub returns-in_default-clause-next : goal.returns-in_default-clause-next
 returns-in_default-clause-next g c =
-    sym (below-unlinked (g.P.PageStore.content c.args.store.now) (links_of c.args.table.now) c.args.at.koid.0 c.args.at.page (sym c.find.ensures ∙ c.in_default.is))
+    sym (below-unlinked (g.P.PageStore.content c.args.store.now) (loose_links_of c.args.table.now) c.args.at.koid.0 c.args.at.page (sym c.find.ensures ∙ c.in_default.is))
 
 pub overflow_add-result : goal.overflow_add-result
 overflow_add-result g c =
@@ -26,7 +26,7 @@ pub returns-then-at-link-clause-next : goal.returns-then-at-link-clause-next
 returns-then-at-link-clause-next g c =
     let page = (g.P.PageStore.content c.args.store.now).page c.args.at.koid.0 c.args.at.page in
     let none = sym (is_held_frame page) ∙ (ap is_some (sym c.frame.ensures) ∙ (sym c.is_some.ensures ∙ c.if-is_some.false)) in
-    sym (below-seen (g.P.PageStore.content c.args.store.now) (links_of c.args.table.now) c.args.at.koid.0 c.args.at.page c.in-Some.link
+    sym (below-seen (g.P.PageStore.content c.args.store.now) (loose_links_of c.args.table.now) c.args.at.koid.0 c.args.at.page c.in-Some.link
     (none_is page none) (sym c.find.ensures ∙ c.in-Some.is) (omega (arith, c.if-at-link.true)))
 
 pub returns-then-at-link-clause-smaller : goal.returns-then-at-link-clause-smaller
@@ -40,5 +40,5 @@ returns-then-at-link-clause-inside g c =
 
 pub returns-else-at-link-clause-next : goal.returns-else-at-link-clause-next
 returns-else-at-link-clause-next g c =
-    sym (below-past (g.P.PageStore.content c.args.store.now) (links_of c.args.table.now) c.args.at.koid.0 c.args.at.page c.in-Some.link
+    sym (below-past (g.P.PageStore.content c.args.store.now) (loose_links_of c.args.table.now) c.args.at.koid.0 c.args.at.page c.in-Some.link
     (sym c.find.ensures ∙ c.in-Some.is) (omega (arith, c.if-at-link.false)))

@@ -1,7 +1,7 @@
 use Rattle.std.proofs.Common.{◌≡◌, ◌<◌}
 use Rattle.vm_model.specs.Contents.Content.{pages_of}
-use Rattle.source_vm.specs.Pages.{end_of}
-use Rattle.source_vm.specs.Table.{links_of}
+use Rattle.source_vm.specs.Pages.{lookup_end}
+use Rattle.source_vm.specs.Table.{loose_links_of}
 use Rattle.source_vm.proofs.walk.find_end.Given as goal
 
 abbrev pub invariant-loop-next : goal.invariant-loop-next
@@ -9,7 +9,7 @@ invariant-loop-next g l =
     let content = g.P.PageStore.content l.store in
     record {
       inside : l.at.page < pages_of content l.at.koid.0;
-      same : end_of (links_of l.table) content l.at.koid.0 l.at.page ≡ end_of (links_of l.table) content l.fn.start.koid.0 l.fn.start.page;
+      same : lookup_end (loose_links_of l.table) content l.at.koid.0 l.at.page ≡ lookup_end (loose_links_of l.table) content l.fn.start.koid.0 l.fn.start.page;
     }
 
 abbrev pub decreases-loop-next : goal.decreases-loop-next

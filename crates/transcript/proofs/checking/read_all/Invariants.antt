@@ -1,13 +1,13 @@
 use Rattle.std.proofs.Common.{◌≡◌, ℕ, ◌+◌, ◌≤◌}
 use Rattle.vm_base.specs.declared.limits.TheConstants.{SCRIPT_BYTES}
 use Rattle.served.specs.Serving.{IsReady, bytes_left}
-use Rattle.transcript.specs.Reports.{IsUnderWay}
+use Rattle.transcript.specs.Reports.{IsBeingChecked}
 use Rattle.transcript.proofs.checking.read_all.Given as goal
 
 abbrev pub invariant-loop-status : goal.invariant-loop-status
 invariant-loop-status g l = record {
-  way : (frames : ℕ) → IsUnderWay frames l.fn.lines (g.S.Source.remaining l.fn.source) (g.S.Source.remaining l.fn.source) l.fn.check
-      → IsUnderWay frames l.lines (g.S.Source.remaining l.fn.source) (g.S.Source.remaining l.source) l.check;
+  way : (frames : ℕ) → IsBeingChecked frames l.fn.lines (g.S.Source.remaining l.fn.source) (g.S.Source.remaining l.fn.source) l.fn.check
+      → IsBeingChecked frames l.lines (g.S.Source.remaining l.fn.source) (g.S.Source.remaining l.source) l.check;
   ready : IsReady l.lines (g.S.Source.remaining l.source) (l.check.lines + 1);
   limit : l.lines.limit ≡ SCRIPT_BYTES;
   later : g.S.Source.faults l.fn.source ≤ g.S.Source.faults l.source;

@@ -3,7 +3,7 @@ use Rattle.vm_base.specs.declared.names.VmoName.{VmoName}
 use Rattle.vm_model.specs.declared.command.Command.TheVariants.{VmoCommit}
 use Rattle.vmo_table.specs.Table.{with_vmos}
 use Rattle.vm_core.proofs.CallLaws.{inside_named, steps_named}
-use Rattle.fault.specs.Table.{places_of}
+use Rattle.fault.specs.Table.{translations_of}
 use Rattle.vm_model.specs.Machine.Lent.{reply_for}
 use Rattle.vm_core.proofs.LeavesLaws.{asked_range, left_changed}
 use Rattle.vm_core.proofs.changing.vmo_commit.Goals as goal
@@ -22,4 +22,4 @@ returns-in-Some-clause-step g c =
     rw c.changed.ensures.reply (steps_named command c.args.vmos.now c.args.name c.commit-outcome.ensures c.in-Some.ensures)
 
 pub returns-in-Some-clause-left : goal.returns-in-Some-clause-left
-returns-in-Some-clause-left g c = record { left = left_changed _ (g.P.PageStore.content c.commit-outcome.new.store) c.args.vmos.now c.args.name (reply_for c.changed.result) c.args.offset c.args.len (places_of c.args.translations.now) c.in-Some.ensures c.changed.ensures.left }
+returns-in-Some-clause-left g c = record { left = left_changed _ (g.P.PageStore.content c.commit-outcome.new.store) c.args.vmos.now c.args.name (reply_for c.changed.result) c.args.offset c.args.len (translations_of c.args.translations.now) c.in-Some.ensures c.changed.ensures.left }

@@ -1,7 +1,7 @@
 use Rattle.std.proofs.Common.{sym}
 use Rattle.vm_model.specs.declared.command.Command.TheVariants.{VmoDecommit}
 use Rattle.vmo_ops.specs.Targets.{with_tables}
-use Rattle.fault.specs.Table.{places_of}
+use Rattle.fault.specs.Table.{translations_of}
 use Rattle.vm_model.specs.Machine.Lent.{reply_for}
 use Rattle.vm_core.proofs.LeavesLaws.{asked_range, left_changed}
 use Rattle.vm_core.proofs.changing.vmo_decommit.Goals as goal
@@ -16,4 +16,4 @@ returns-in-Some-clause-step g c =
     rw c.changed.ensures.reply (record { step = λ s good. c.decommit-outcome.ensures s c.args.name (sym c.in-Some.ensures) })
 
 pub returns-in-Some-clause-left : goal.returns-in-Some-clause-left
-returns-in-Some-clause-left g c = record { left = left_changed _ (g.P.PageStore.content c.decommit-outcome.new.store) c.args.vmos.now c.args.name (reply_for c.changed.result) c.args.offset c.args.len (places_of c.args.translations.now) c.in-Some.ensures c.changed.ensures.left }
+returns-in-Some-clause-left g c = record { left = left_changed _ (g.P.PageStore.content c.decommit-outcome.new.store) c.args.vmos.now c.args.name (reply_for c.changed.result) c.args.offset c.args.len (translations_of c.args.translations.now) c.in-Some.ensures c.changed.ensures.left }

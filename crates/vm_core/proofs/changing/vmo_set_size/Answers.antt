@@ -5,7 +5,7 @@ use Rattle.vm_model.specs.declared.names.Target.{Target}
 use Rattle.vm_model.specs.declared.reply.Reply.TheVariants.{Done}
 use Rattle.vmo_table.specs.Table.{with_vmos}
 use Rattle.vmo_ops.specs.Targets.{with_tables}
-use Rattle.fault.specs.Table.{places_of}
+use Rattle.fault.specs.Table.{translations_of}
 use Rattle.vm_core.specs.inside.Resets.{without_past}
 use Rattle.vm_core.proofs.BoundLaws.{done_bounds}
 use Rattle.vm_core.proofs.CallLaws.{parts_of, inside_named, steps_named_with}
@@ -28,7 +28,7 @@ returns-in-Ok-clause-step g c =
 pub returns-in-Ok-clause-left : goal.returns-in-Ok-clause-left
 returns-in-Ok-clause-left g c = record {
   left = λ s.
-      left_named (with_vmos s (g.P.PageStore.content c.args.store.now) c.args.vmos.now) c.args.name.0 (λ (target : Target). without_past target c.args.size (places_of c.args.translations.now))
+      left_named (with_vmos s (g.P.PageStore.content c.args.store.now) c.args.vmos.now) c.args.name.0 (λ (target : Target). without_past target c.args.size (translations_of c.args.translations.now))
       c.in-Some.ensures c.forget_past.ensures;
 }
 

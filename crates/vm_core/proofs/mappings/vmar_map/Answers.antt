@@ -8,7 +8,7 @@ use Rattle.vm_model.specs.declared.reply.Reply.TheVariants.{Address}
 use Rattle.mapping_set.specs.Tables.{table_of}
 use Rattle.region_tree.specs.Tree.{regions_of, spaces_of}
 use Rattle.region_ops.specs.Spaces.{with_all, with_spaces}
-use Rattle.fault.specs.Table.{places_of}
+use Rattle.fault.specs.Table.{translations_of}
 use Rattle.vm_core.specs.inside.Resets.{without_pages}
 use Rattle.vm_model.proofs.RegionLaws.{region_bounds}
 use Rattle.vm_core.proofs.BoundLaws.{done_bounds}
@@ -55,7 +55,7 @@ returns-in-Ok g c = record {
   left = record {
     left = λ s d.
         left_region (with_spaces s (spaces_of (regions_of c.args.regions.now) (table_of c.args.maps.now))) c.args.region.0
-        (λ (above : Region). without_pages above.root (c.in-Ok.address / PAGE) (rounded c.args.len / PAGE) (places_of c.args.translations.now)) c.in-Some.ensures.region
+        (λ (above : Region). without_pages above.root (c.in-Ok.address / PAGE) (rounded c.args.len / PAGE) (translations_of c.args.translations.now)) c.in-Some.ensures.region
         (rw (c.page_of.ensures, c.page_count.ensures) at c.forget_pages.ensures);
   };
 }

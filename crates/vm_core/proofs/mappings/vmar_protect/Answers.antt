@@ -7,7 +7,7 @@ use Rattle.vm_model.specs.declared.reply.Reply.TheVariants.{Done}
 use Rattle.mapping_set.specs.Tables.{table_of}
 use Rattle.region_tree.specs.Tree.{regions_of, spaces_of}
 use Rattle.region_ops.specs.Spaces.{with_spaces}
-use Rattle.fault.specs.Table.{places_of}
+use Rattle.fault.specs.Table.{translations_of}
 use Rattle.vm_core.specs.inside.Resets.{without_pages}
 use Rattle.vm_core.proofs.BoundLaws.{done_bounds}
 use Rattle.vm_core.proofs.LeavesLaws.{left_region}
@@ -32,7 +32,7 @@ returns-in-Ok-protect_in c = record {
   left = record {
     left = λ s d.
         left_region (with_spaces s (spaces_of (regions_of c.args.regions.now) (table_of c.args.maps.now))) c.args.region.0
-        (λ (above : Region). without_pages above.root (c.args.addr / PAGE) (rounded c.args.len / PAGE) (places_of c.args.translations.now)) (sym c.in-Ok.ensures.0)
+        (λ (above : Region). without_pages above.root (c.args.addr / PAGE) (rounded c.args.len / PAGE) (translations_of c.args.translations.now)) (sym c.in-Ok.ensures.0)
         (rw (c.page_of.ensures, c.page_count.ensures) at c.forget_pages.ensures);
   };
   mapped = c.in-Ok-protect_in.ensures.mapped;

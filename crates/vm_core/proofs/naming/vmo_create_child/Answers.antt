@@ -5,7 +5,7 @@ use Rattle.vm_model.specs.declared.names.Target.{Target}
 use Rattle.vm_model.specs.declared.reply.Reply.TheVariants.{Done}
 use Rattle.pin_table.specs.Table.{pins_of}
 use Rattle.vmo_ops.specs.Targets.{with_tables}
-use Rattle.fault.specs.Table.{places_of}
+use Rattle.fault.specs.Table.{translations_of}
 use Rattle.vm_core.specs.inside.Resets.{shared_by, IsShared}
 use Rattle.vm_core.proofs.BoundLaws.{bounds_of}
 use Rattle.vm_core.proofs.LeavesLaws.{asked_named, left_named}
@@ -28,7 +28,7 @@ pub returns-in-Ok-clause-left : goal.returns-in-Ok-clause-left
 returns-in-Ok-clause-left g c = record {
   left = λ s.
       left_named (with_tables s (g.P.PageStore.content c.args.store.now) c.args.vmos.now c.args.pins.now) c.args.parent.0
-      (λ (target : Target). shared_by c.args.kind (pins_of c.args.pins.now) (g.P.PageStore.content c.create_child.new.store) target c.args.offset c.args.size (places_of c.args.translations.now)) c.in-Some.ensures c.child_made.ensures;
+      (λ (target : Target). shared_by c.args.kind (pins_of c.args.pins.now) (g.P.PageStore.content c.create_child.new.store) target c.args.offset c.args.size (translations_of c.args.translations.now)) c.in-Some.ensures c.child_made.ensures;
 }
 
 pub returns-in-Err-clause-step : goal.returns-in-Err-clause-step

@@ -2,7 +2,7 @@ use Rattle.std.proofs.Common.{refl, sym}
 use Rattle.vm_model.specs.declared.command.Command.TheVariants.{VmoPin}
 use Rattle.vm_model.specs.declared.reply.Reply.TheVariants.{Done}
 use Rattle.vmo_ops.specs.Targets.{with_tables}
-use Rattle.fault.specs.Table.{places_of}
+use Rattle.fault.specs.Table.{translations_of}
 use Rattle.vm_core.proofs.LeavesLaws.{asked_range, left_changed}
 use Rattle.vm_core.proofs.RefusedLaws.{refused_tables, left_vmos}
 use Rattle.vm_core.proofs.pinning.vmo_pin.Goals as goal
@@ -25,7 +25,7 @@ returns-in-Ok-clause-counted g c = record { counts = c.in-Ok.ensures.counted }
 
 pub returns-in-Ok-clause-left : goal.returns-in-Ok-clause-left
 returns-in-Ok-clause-left g c = record {
-  left = left_changed _ (g.P.PageStore.content c.pin_into.new.store) c.args.vmos.now c.args.name Done c.args.offset c.args.len (places_of c.args.translations.now) c.in-Some.ensures c.forget_changed.ensures;
+  left = left_changed _ (g.P.PageStore.content c.pin_into.new.store) c.args.vmos.now c.args.name Done c.args.offset c.args.len (translations_of c.args.translations.now) c.in-Some.ensures c.forget_changed.ensures;
 }
 
 pub returns-in-Err-clause-step : goal.returns-in-Err-clause-step

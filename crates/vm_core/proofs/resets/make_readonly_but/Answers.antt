@@ -1,5 +1,5 @@
 use Rattle.std.proofs.Common.{◌+◌, ◌-◌, ◌≡◌, refl, ap, ◌∙◌, ℕ, arith}
-use Rattle.fault.specs.Table.{places_of, with_read_only}
+use Rattle.fault.specs.Table.{translations_of, with_read_only}
 use Rattle.vm_core.proofs.LeavesLaws.{gaps-start, gaps-next, gaps-end}
 use Rattle.vm_core.proofs.resets.make_readonly_but.Goals as goal
 
@@ -21,7 +21,7 @@ returns c =
     let inv = c.loop-pinned.invariant in
     let e : c.loop-pinned.from + (c.args.first + c.args.count - c.loop-pinned.from) ≡ c.args.first + c.args.count = omega (arith, inv.bound) in
     gaps-end _ _ _ _ _ inv.first inv.bound (c.in_default.ensures.none refl) _ _ _ inv.left
-    (c.make_readonly-2.ensures.at ∙ ap (λ (n : ℕ). with_read_only c.args.v.0 c.loop-pinned.from n (places_of c.loop-pinned.translations)) e)
+    (c.make_readonly-2.ensures.at ∙ ap (λ (n : ℕ). with_read_only c.args.v.0 c.loop-pinned.from n (translations_of c.loop-pinned.translations)) e)
 
 pub loop-pinned-smaller : goal.loop-pinned-smaller
 loop-pinned-smaller c = let next = c.in-Some.ensures.least c.in-Some.pinned refl in omega (arith, next.0, next.1)

@@ -1,7 +1,7 @@
 use Rattle.std.proofs.Common.{◌≡◌, ◌-◌, ◌≤◌}
 use Rattle.vm_model.specs.Naming.Pins.{is_pinned}
 use Rattle.pin_table.specs.Table.{pins_of}
-use Rattle.fault.specs.Table.{places_of}
+use Rattle.fault.specs.Table.{translations_of}
 use Rattle.vm_core.specs.inside.Resets.{with_read_only_but}
 use Rattle.vm_core.proofs.resets.make_readonly_but.Given as goal
 
@@ -10,7 +10,7 @@ abbrev pub invariant-loop-pinned : goal.invariant-loop-pinned
 invariant-loop-pinned l = record {
   first : l.first ≤ l.from;
   bound : l.from ≤ l.end;
-  left : places_of l.translations ≡ with_read_only_but (is_pinned (pins_of l.pins) l.v.0) l.v.0 l.first l.from (places_of l.initial.translations);
+  left : translations_of l.translations ≡ with_read_only_but (is_pinned (pins_of l.pins) l.v.0) l.v.0 l.first l.from (translations_of l.initial.translations);
 }
 
 abbrev pub decreases-loop-pinned : goal.decreases-loop-pinned

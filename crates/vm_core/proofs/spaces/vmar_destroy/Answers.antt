@@ -6,7 +6,7 @@ use Rattle.vm_model.specs.Space.Regions.{end_of}
 use Rattle.mapping_set.specs.Tables.{table_of}
 use Rattle.region_tree.specs.Tree.{regions_of, spaces_of}
 use Rattle.region_ops.specs.Spaces.{with_all, with_spaces}
-use Rattle.fault.specs.Table.{places_of}
+use Rattle.fault.specs.Table.{translations_of}
 use Rattle.vm_core.specs.inside.Resets.{without_pages}
 use Rattle.vm_core.proofs.LeavesLaws.{asked_region, left_region}
 use Rattle.vm_core.proofs.RefusedLaws.{refused_spaces}
@@ -25,7 +25,7 @@ pub returns-clause-left : goal.returns-clause-left
 returns-clause-left g c = record {
   left = λ s d.
       left_region (with_spaces s (spaces_of (regions_of c.args.regions.now) (table_of c.args.maps.now))) c.args.region.0
-      (λ (dying : Region). without_pages dying.root dying.first dying.count (places_of c.args.translations.now)) (sym c.in-Ok.ensures.0) c.forget_pages.ensures;
+      (λ (dying : Region). without_pages dying.root dying.first dying.count (translations_of c.args.translations.now)) (sym c.in-Ok.ensures.0) c.forget_pages.ensures;
 }
 
 pub returns-clause-noted : goal.returns-clause-noted

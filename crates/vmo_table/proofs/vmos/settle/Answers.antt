@@ -3,7 +3,7 @@ use Rattle.std.specs.Option.{option_map}
 use Rattle.std.proofs.lemmas.Bool.{cond-true, cond-false}
 use Rattle.vmo_table.specs.declared.vmos.Vmo.{Vmo}
 use Rattle.vm_model.specs.Naming.Names.{Lineage}
-use Rattle.vmo_table.specs.Vmos.{koid_number, lineages, adopted, settled}
+use Rattle.vmo_table.specs.Vmos.{koid_number, lineages, adopted, vmos_settled}
 use Rattle.vmo_table.specs.inside.ChildRows.{AreChildren}
 use Rattle.vmo_table.proofs.VmosLaws.{lineages-adopted}
 use Rattle.vmo_table.proofs.SettledLaws.{AreChildren-got, may_leave, left_fits}
@@ -14,7 +14,7 @@ pub write_back-requires : goal.write_back-requires
 write_back-requires c = (c.requires.may.old, c.requires.may.found)
 
 pub returns-then-is_kept-clause-vmos : goal.returns-then-is_kept-clause-vmos
-unfolding settled
+unfolding vmos_settled
 returns-then-is_kept-clause-vmos c = c.write_back.ensures ∙ sym (cond-true _ _ _ (sym c.is_kept.ensures ∙ c.if-is_kept.true))
 
 pub returns-then-is_kept-clause-rows : goal.returns-then-is_kept-clause-rows
@@ -31,7 +31,7 @@ count_children-requires c = λ v above hit e.
     (fits.0, omega (arith, fits.1, vmo_count_le c.args.vmos.now.entries, c.len.ensures.small))
 
 pub returns-clause-vmos : goal.returns-clause-vmos
-unfolding settled
+unfolding vmos_settled
 returns-clause-vmos c =
     let vmo = c.args.vmo in
     c.count_children.ensures

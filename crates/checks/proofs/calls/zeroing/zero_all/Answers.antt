@@ -1,12 +1,12 @@
 use Rattle.std.proofs.Common.{◌+◌, arith}
 use Rattle.vm_base.specs.declared.limits.TheConstants.{VMO_PAGES}
-use Rattle.cow_forest.specs.Store.{content_of}
+use Rattle.cow_forest.specs.Store.{forest_content}
 use Rattle.cow_forest.proofs.ZeroedLaws.{node-there}
 use Rattle.checks.proofs.WholeLaws.{whole_pages, still_there}
 use Rattle.checks.proofs.calls.zeroing.zero_all.Goals as goal
 
 pub zero_range-requires-clause-range : goal.zero_range-requires-clause-range
-zero_range-requires-clause-range g c = omega (arith, whole_pages (content_of c.args.tree.now) c.args.v.0 c.requires.vmo)
+zero_range-requires-clause-range g c = omega (arith, whole_pages (forest_content c.args.tree.now) c.args.v.0 c.requires.vmo)
 
 pub next_held-requires : goal.next_held-requires
 next_held-requires g c = still_there _ _ c.args.v.0 0 (0 + VMO_PAGES) VMO_PAGES c.zero_range.ensures.content c.requires.vmo

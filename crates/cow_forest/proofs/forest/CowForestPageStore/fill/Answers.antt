@@ -2,7 +2,7 @@ use Rattle.std.proofs.Common.{◌≡◌, ℕ, Result, Ok, Err, None, OnOk, OnErr
 use Rattle.frame_pool.specs.Pool.{Pool, taken_frames}
 use Rattle.vm_model.specs.Contents.Content.{nothing}
 use Rattle.cow_forest.specs.inside.Fields.{forest_of}
-use Rattle.cow_forest.specs.Store.{Forest, content_of, IsStore}
+use Rattle.cow_forest.specs.Store.{Forest, forest_content, IsStore}
 use Rattle.cow_forest.proofs.EmptyLaws.{no-frames, store-filled, content-filled}
 use Rattle.cow_forest.proofs.forest.CowForestPageStore.fill.Goals as goal
 
@@ -10,13 +10,13 @@ pub fill-requires-clause-empty : goal.fill-requires-clause-empty
 fill-requires-clause-empty c = no-frames (forest_of c.self.inside) c.self.inside.frames c.self.invariant.store (rw (← c.self.view_is) at c.requires.empty)
 
 -- the pool has its frames, or nothing changed
-either : {T E : Type 0} (f : Forest) (pool : Pool) (answer : Result T E) → IsStore f → content_of f ≡ nothing →
+either : {T E : Type 0} (f : Forest) (pool : Pool) (answer : Result T E) → IsStore f → forest_content f ≡ nothing →
     OnOk answer ((t : ℕ) → taken_frames pool t ≡ None) → OnErr answer (pool ≡ f.pool) → IsStore (record f { pool = pool })
 either f pool (Ok _) s empty free same = store-filled f pool s empty free
 either f pool (Err _) s empty free same = subst (λ (other : Pool). IsStore (record f { pool = other })) (sym same) s
 
-filled : {T E : Type 0} (f : Forest) (pool : Pool) (n : ℕ) (answer : Result T E) → IsStore f → content_of f ≡ nothing → OnOk answer (pool.frames ≡ n) →
-    OnOk answer (content_of (record f { pool = pool }) ≡ record (content_of f) { frames = n })
+filled : {T E : Type 0} (f : Forest) (pool : Pool) (n : ℕ) (answer : Result T E) → IsStore f → forest_content f ≡ nothing → OnOk answer (pool.frames ≡ n) →
+    OnOk answer (forest_content (record f { pool = pool }) ≡ record (forest_content f) { frames = n })
 filled f pool n (Ok _) s empty frames = content-filled f pool s empty n frames
 filled f pool n (Err _) s empty frames = frames
 

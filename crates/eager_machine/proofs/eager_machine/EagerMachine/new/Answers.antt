@@ -1,10 +1,10 @@
-use Rattle.eager_machine.specs.Machine.{Parts}
+use Rattle.eager_machine.specs.Machine.{EagerParts}
 use Rattle.region_tree.proofs.NotedLaws.{AreNoted-none}
-use Rattle.eager_machine.proofs.StartLaws.{machine_of-start, start_good, start_sound}
+use Rattle.eager_machine.proofs.StartLaws.{eager_machine_of-start, start_good, start_sound}
 use Rattle.eager_machine.proofs.eager_machine.EagerMachine.new.Goals as goal
 
 -- what is made
-abbrev made : goal.After-new-4 → Parts
+abbrev made : goal.After-new-4 → EagerParts
 made c = record { vmos = c.new.result; regions = c.new-2.result; maps = c.new-3.result; ready = c.new-4.result }
 
 pub invariant_of-result : goal.invariant_of-result
@@ -15,7 +15,7 @@ invariant_of-result c = record {
 
 pub returns-clause-empty : goal.returns-clause-empty
 returns-clause-empty c =
-    machine_of-start (made c) c.new.ensures.pages c.new.ensures.names c.new.ensures.lineage c.new.ensures.keepers c.new.ensures.pins c.new-2.ensures c.new-3.ensures.table c.new-4.ensures
+    eager_machine_of-start (made c) c.new.ensures.pages c.new.ensures.names c.new.ensures.lineage c.new.ensures.keepers c.new.ensures.pins c.new-2.ensures c.new-3.ensures.table c.new-4.ensures
 
 pub returns-clause-good : goal.returns-clause-good
 returns-clause-good c =

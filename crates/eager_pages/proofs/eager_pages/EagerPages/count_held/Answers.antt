@@ -1,13 +1,13 @@
 use Rattle.std.proofs.Common.{◌-◌, arith}
-use Rattle.eager_pages.specs.Eager.{content_of}
+use Rattle.eager_pages.specs.Eager.{eager_content}
 use Rattle.eager_pages.proofs.SnapshotLaws.{held_in_le, held_in-next, held_in-end}
 use Rattle.eager_pages.proofs.eager_pages.EagerPages.count_held.Goals as goal
 
 pub overflow_add-held : goal.overflow_add-held
 overflow_add-held c =
     let inv = c.loop-page.invariant in
-    let next = held_in-next (content_of c.args.self.now) c.args.v.0 c.loop-page.from c.args.end _ c.in-Some.ensures.some in
-    omega (arith, inv.held, next, held_in_le (content_of c.args.self.now) c.args.v.0 c.args.first (c.args.end - c.args.first))
+    let next = held_in-next (eager_content c.args.self.now) c.args.v.0 c.loop-page.from c.args.end _ c.in-Some.ensures.some in
+    omega (arith, inv.held, next, held_in_le (eager_content c.args.self.now) c.args.v.0 c.args.first (c.args.end - c.args.first))
 
 pub loop-page-smaller : goal.loop-page-smaller
 loop-page-smaller c = let next = c.in-Some.ensures.some in omega (arith, next.order, next.below)
@@ -19,10 +19,10 @@ loop-page-preserved c =
     record {
       first = omega (arith, next.order, inv.first);
       end = omega (arith, next.below);
-      held = omega (arith, inv.held, held_in-next (content_of c.args.self.now) c.args.v.0 c.loop-page.from c.args.end _ next);
+      held = omega (arith, inv.held, held_in-next (eager_content c.args.self.now) c.args.v.0 c.loop-page.from c.args.end _ next);
     }
 
 pub returns : goal.returns
 returns c =
     let inv = c.loop-page.invariant in
-    omega (arith, inv.held, held_in-end (content_of c.args.self.now) c.args.v.0 c.loop-page.from c.args.end c.in_default.ensures.none)
+    omega (arith, inv.held, held_in-end (eager_content c.args.self.now) c.args.v.0 c.loop-page.from c.args.end c.in_default.ensures.none)

@@ -1,6 +1,6 @@
 use Rattle.std.proofs.Common.{◌≡◌, ◌+◌, ◌-◌, ◌≤◌}
 use Rattle.eager_pages.specs.inside.Rows.{held_in}
-use Rattle.eager_pages.specs.Eager.{content_of}
+use Rattle.eager_pages.specs.Eager.{eager_content}
 use Rattle.eager_pages.proofs.eager_pages.EagerPages.count_held.Given as goal
 
 -- the pages up to here were counted
@@ -8,7 +8,7 @@ abbrev pub invariant-loop-page : goal.invariant-loop-page
 invariant-loop-page l = record {
   first : l.first ≤ l.from;
   end : l.from ≤ l.end;
-  held : l.held + held_in (content_of l.self) l.v.0 l.from (l.end - l.from) ≡ held_in (content_of l.self) l.v.0 l.first (l.end - l.first);
+  held : l.held + held_in (eager_content l.self) l.v.0 l.from (l.end - l.from) ≡ held_in (eager_content l.self) l.v.0 l.first (l.end - l.first);
 }
 
 abbrev pub decreases-loop-page : goal.decreases-loop-page

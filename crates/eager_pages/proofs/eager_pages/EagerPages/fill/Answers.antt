@@ -1,5 +1,5 @@
 use Rattle.std.proofs.Common.{ℕ, ◌∙◌, ap}
-use Rattle.eager_pages.specs.Eager.{content_of, eager_of}
+use Rattle.eager_pages.specs.Eager.{eager_content, eager_of}
 use Rattle.eager_pages.proofs.VmoLaws.{no_frames, content-filled, IsEager-filled}
 use Rattle.eager_pages.proofs.eager_pages.EagerPages.fill.Goals as goal
 
@@ -12,4 +12,4 @@ invariant_of-self-2 c = record { eager = IsEager-filled (eager_of c.self.inside)
 pub returns-clause-ok : goal.returns-clause-ok
 returns-clause-ok c =
     rw (← c.self.view_is) (content-filled (eager_of c.self.inside) (rw (← c.self.view_is) at c.requires.empty) c.fill.new.self
-    ∙ ap (λ (n : ℕ). record (content_of (eager_of c.self.inside)) { frames = n }) c.in-Ok.ensures.frames)
+    ∙ ap (λ (n : ℕ). record (eager_content (eager_of c.self.inside)) { frames = n }) c.in-Ok.ensures.frames)

@@ -1,14 +1,14 @@
 use Rattle.std.proofs.Common.{◌≡◌}
 use Rattle.pair_map.specs.Maps.{count_of}
 use Rattle.vm_model.specs.Contents.Zeroing.{zeroed}
-use Rattle.eager_pages.specs.Eager.{content_of, spare_of}
+use Rattle.eager_pages.specs.Eager.{eager_content, eager_spare}
 use Rattle.eager_pages.proofs.eager_pages.EagerPages.release_pages.Given as goal
 
 -- what is left to become zero
 abbrev pub invariant-loop-page : goal.invariant-loop-page
 invariant-loop-page l = record {
-  rest : zeroed (content_of l.self) l.v.0 l.first l.end ≡ zeroed (content_of l.initial.self) l.v.0 l.first l.end;
-  spare : spare_of l.self ≡ spare_of l.initial.self;
+  rest : zeroed (eager_content l.self) l.v.0 l.first l.end ≡ zeroed (eager_content l.initial.self) l.v.0 l.first l.end;
+  spare : eager_spare l.self ≡ eager_spare l.initial.self;
 }
 
 abbrev pub decreases-loop-page : goal.decreases-loop-page

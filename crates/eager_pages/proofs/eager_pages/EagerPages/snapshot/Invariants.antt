@@ -1,6 +1,6 @@
 use Rattle.std.proofs.Common.{◌+◌, ◌-◌, ◌≤◌}
 use Rattle.eager_pages.specs.inside.Rows.{held_in}
-use Rattle.eager_pages.specs.Eager.{content_of, spare_of}
+use Rattle.eager_pages.specs.Eager.{eager_content, eager_spare}
 use Rattle.eager_pages.proofs.SnapshotLaws.{IsShowing}
 use Rattle.eager_pages.proofs.eager_pages.EagerPages.snapshot.Given as goal
 
@@ -8,8 +8,8 @@ use Rattle.eager_pages.proofs.eager_pages.EagerPages.snapshot.Given as goal
 abbrev pub invariant-loop-page : goal.invariant-loop-page
 invariant-loop-page l = record {
   end : l.from ≤ l.end;
-  shown : IsShowing (content_of l.fn.self) (content_of l.self) l.of.0 l.first l.from l.end l.count l.koid.0;
-  room : spare_of l.fn.self + held_in (content_of l.fn.self) l.of.0 l.from (l.end - l.from) ≤ spare_of l.self;
+  shown : IsShowing (eager_content l.fn.self) (eager_content l.self) l.of.0 l.first l.from l.end l.count l.koid.0;
+  room : eager_spare l.fn.self + held_in (eager_content l.fn.self) l.of.0 l.from (l.end - l.from) ≤ eager_spare l.self;
 }
 
 abbrev pub decreases-loop-page : goal.decreases-loop-page

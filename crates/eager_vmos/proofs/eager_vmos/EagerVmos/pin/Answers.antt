@@ -2,7 +2,7 @@ use Rattle.std.proofs.Common.{sym, ◌∙◌}
 use Rattle.vm_model.specs.declared.command.Command.TheVariants.{VmoPin}
 use Rattle.vm_base.proofs.EntryLaws.{none_is}
 use Rattle.vm_model.specs.Machine.State.{target_of, lineage_of}
-use Rattle.eager_vmos.specs.Vmos.{state_with}
+use Rattle.eager_vmos.specs.Vmos.{state_with_vmos}
 use Rattle.eager_vmos.proofs.RowLaws.{rows_off_at, pin_rows}
 use Rattle.eager_vmos.proofs.DoingLaws.{done, kept}
 use Rattle.eager_vmos.proofs.eager_vmos.EagerVmos.pin.Goals as goal
@@ -15,17 +15,17 @@ pin_into-requires-clause-named c = (c.args.name.0, sym c.requires.named ∙ c.in
 
 pub pin_into-requires-clause-free : goal.pin_into-requires-clause-free
 pin_into-requires-clause-free c =
-    let off = rows_off_at (state_with c.requires.allowed.rest c.args.self.now) c.args.name.0 _ (sym c.requires.named ∙ c.in-Some.is) (pin_rows (state_with c.requires.allowed.rest c.args.self.now) c.args.pin.0 c.args.offset c.args.len) c.requires.allowed.none in
+    let off = rows_off_at (state_with_vmos c.requires.allowed.rest c.args.self.now) c.args.name.0 _ (sym c.requires.named ∙ c.in-Some.is) (pin_rows (state_with_vmos c.requires.allowed.rest c.args.self.now) c.args.pin.0 c.args.offset c.args.len) c.requires.allowed.none in
     none_is _ off.0
 
 pub returns-in-Ok : goal.returns-in-Ok
 unfolding target_of lineage_of
 returns-in-Ok c =
-    done c.args.self.now _ (VmoPin c.args.pin c.args.name c.args.offset c.args.len) c.requires.parts (λ s. c.requires.allowed.none) (λ s counted. c.pin_into.ensures.counted (state_with s c.args.self.now) counted) _ (λ refusal e. absurd cc)
+    done c.args.self.now _ (VmoPin c.args.pin c.args.name c.args.offset c.args.len) c.requires.parts (λ s. c.requires.allowed.none) (λ s counted. c.pin_into.ensures.counted (state_with_vmos s c.args.self.now) counted) _ (λ refusal e. absurd cc)
     (λ s well. c.in-Ok.ensures.step s c.args.name (sym c.requires.named ∙ c.in-Some.is))
 
 pub returns-in-Err : goal.returns-in-Err
 unfolding target_of lineage_of
 returns-in-Err c =
-    kept c.args.self.now _ (VmoPin c.args.pin c.args.name c.args.offset c.args.len) c.requires.parts (λ s. c.requires.allowed.none) (λ s counted. c.pin_into.ensures.counted (state_with s c.args.self.now) counted) c.in-Err.field-0 (λ s effect. let e = effect.0 in absurd cc)
+    kept c.args.self.now _ (VmoPin c.args.pin c.args.name c.args.offset c.args.len) c.requires.parts (λ s. c.requires.allowed.none) (λ s counted. c.pin_into.ensures.counted (state_with_vmos s c.args.self.now) counted) c.in-Err.field-0 (λ s effect. let e = effect.0 in absurd cc)
     (λ s well. c.in-Err.ensures.step s c.args.name (sym c.requires.named ∙ c.in-Some.is))

@@ -1,7 +1,7 @@
 use Rattle.std.proofs.Common.{refl, sym, ◌∙◌}
 use Rattle.vm_model.specs.declared.command.Command.TheVariants.{VmoRead}
 use Rattle.vm_model.specs.Machine.State.{target_of, lineage_of}
-use Rattle.eager_vmos.specs.Vmos.{state_with}
+use Rattle.eager_vmos.specs.Vmos.{state_with_vmos}
 use Rattle.eager_vmos.proofs.DoingLaws.{done, no_refusal}
 use Rattle.eager_vmos.proofs.FoundLaws.{name_inside}
 use Rattle.eager_vmos.proofs.eager_vmos.EagerVmos.read.Goals as goal
@@ -11,10 +11,10 @@ read_into-requires-clause-inside c = name_inside c.args.self.now c.requires.part
 
 pub unreachable-requires-in-Err : goal.unreachable-requires-in-Err
 unfolding target_of lineage_of
-unreachable-requires-in-Err c = let s = state_with c.requires.parts.rest c.args.self.now in no_refusal s _ (VmoRead c.args.name c.args.offset c.args.len) c.requires.allowed.none (λ effect. let e = effect.0 in absurd cc) refl (c.in-Err.ensures s c.args.name (sym c.requires.named ∙ c.in-Some.is))
+unreachable-requires-in-Err c = let s = state_with_vmos c.requires.parts.rest c.args.self.now in no_refusal s _ (VmoRead c.args.name c.args.offset c.args.len) c.requires.allowed.none (λ effect. let e = effect.0 in absurd cc) refl (c.in-Err.ensures s c.args.name (sym c.requires.named ∙ c.in-Some.is))
 
 pub returns : goal.returns
 unfolding target_of lineage_of
 returns c =
     done c.args.self.now _ (VmoRead c.args.name c.args.offset c.args.len) c.requires.parts (λ s. c.requires.allowed.none) (λ s counted. counted) _ (λ refusal e. absurd cc)
-    (λ s well. c.in-Ok.ensures (state_with s c.args.self.now) c.args.name (sym c.requires.named ∙ c.in-Some.is))
+    (λ s well. c.in-Ok.ensures (state_with_vmos s c.args.self.now) c.args.name (sym c.requires.named ∙ c.in-Some.is))

@@ -1,6 +1,6 @@
 use Rattle.std.proofs.Common.{not, refl, sym, ap, ◌∙◌}
 use Rattle.std.proofs.lemmas.Bool.{lt-ltb, le-ltb}
-use Rattle.eager_vmos.specs.Vmos.{state_with}
+use Rattle.eager_vmos.specs.Vmos.{state_with_vmos}
 use Rattle.vm_model.specs.Naming.Names.{Lineage, may_decommit}
 use Rattle.eager_vmos.proofs.FoundLaws.{name_inside, name_known}
 use Rattle.eager_vmos.proofs.RowLaws.{hit, skip, by_name, decommit_rows, of_lineage, whole_parts, pinned_row}
@@ -14,17 +14,17 @@ place_in_vmo-requires-clause-inside c = name_inside c.args.self.now c.requires.c
 
 pub returns-then-not-target : goal.returns-then-not-target
 returns-then-not-target c = λ s.
-    by_name (state_with s c.args.self.now) c.args.name.0 _ (sym c.requires.named ∙ c.in-Some.is) (decommit_rows (state_with s c.args.self.now) c.args.offset c.args.len) _
+    by_name (state_with_vmos s c.args.self.now) c.args.name.0 _ (sym c.requires.named ∙ c.in-Some.is) (decommit_rows (state_with_vmos s c.args.self.now) c.args.offset c.args.len) _
     (hit _ _ _ (ap not c.if-not-target.true))
 
 pub returns-then-not-is_whole : goal.returns-then-not-is_whole
 returns-then-not-is_whole c = λ s.
-    by_name (state_with s c.args.self.now) c.args.name.0 _ (sym c.requires.named ∙ c.in-Some.is) (decommit_rows (state_with s c.args.self.now) c.args.offset c.args.len) _
+    by_name (state_with_vmos s c.args.self.now) c.args.name.0 _ (sym c.requires.named ∙ c.in-Some.is) (decommit_rows (state_with_vmos s c.args.self.now) c.args.offset c.args.len) _
     (skip _ _ _ _ (ap not c.if-not-target.false) (hit _ _ _ (ap not (sym c.is_whole.ensures ∙ c.if-not-is_whole.true))))
 
 pub returns-then-not-may_decommit : goal.returns-then-not-may_decommit
 returns-then-not-may_decommit c = λ s.
-    let t = state_with s c.args.self.now in
+    let t = state_with_vmos s c.args.self.now in
     by_name t c.args.name.0 _ (sym c.requires.named ∙ c.in-Some.is) (decommit_rows t c.args.offset c.args.len) _
     (skip _ _ _ _ (ap not c.if-not-target.false) (skip _ _ _ _ (ap not (sym c.is_whole.ensures ∙ c.if-not-is_whole.false))
     (hit _ _ _ (ap not (sym (of_lineage t c.in-Some.target.koid.0 _ (λ (l : Lineage). may_decommit t.names t.lineage c.in-Some.target.koid.0 l)
@@ -32,7 +32,7 @@ returns-then-not-may_decommit c = λ s.
 
 pub returns-in_default-place_in_vmo : goal.returns-in_default-place_in_vmo
 returns-in_default-place_in_vmo c = λ s.
-    let t = state_with s c.args.self.now in
+    let t = state_with_vmos s c.args.self.now in
     by_name t c.args.name.0 _ (sym c.requires.named ∙ c.in-Some.is) (decommit_rows t c.args.offset c.args.len) _
     (skip _ _ _ _ (ap not c.if-not-target.false) (skip _ _ _ _ (ap not (sym c.is_whole.ensures ∙ c.if-not-is_whole.false))
     (skip _ _ _ _ (ap not (sym (of_lineage t c.in-Some.target.koid.0 _ (λ (l : Lineage). may_decommit t.names t.lineage c.in-Some.target.koid.0 l)
@@ -41,7 +41,7 @@ returns-in_default-place_in_vmo c = λ s.
 
 pub returns-then-pinned : goal.returns-then-pinned
 returns-then-pinned c = λ s.
-    let t = state_with s c.args.self.now in
+    let t = state_with_vmos s c.args.self.now in
     let placed = c.in-Some-place_in_vmo.ensures.some in
     by_name t c.args.name.0 _ (sym c.requires.named ∙ c.in-Some.is) (decommit_rows t c.args.offset c.args.len) _
     (skip _ _ _ _ (ap not c.if-not-target.false) (skip _ _ _ _ (ap not (sym c.is_whole.ensures ∙ c.if-not-is_whole.false))
@@ -52,7 +52,7 @@ returns-then-pinned c = λ s.
 
 pub returns : goal.returns
 returns c = λ s.
-    let t = state_with s c.args.self.now in
+    let t = state_with_vmos s c.args.self.now in
     let placed = c.in-Some-place_in_vmo.ensures.some in
     by_name t c.args.name.0 _ (sym c.requires.named ∙ c.in-Some.is) (decommit_rows t c.args.offset c.args.len) _
     (skip _ _ _ _ (ap not c.if-not-target.false) (skip _ _ _ _ (ap not (sym c.is_whole.ensures ∙ c.if-not-is_whole.false))

@@ -2,7 +2,7 @@ use Rattle.std.proofs.Common.{refl, sym, ◌∙◌}
 use Rattle.vm_model.specs.declared.command.Command.TheVariants.{VmoSetSize}
 use Rattle.vm_model.specs.declared.reply.Reply.TheVariants.{Done}
 use Rattle.vm_model.specs.Machine.State.{target_of, lineage_of}
-use Rattle.eager_vmos.specs.Vmos.{state_with}
+use Rattle.eager_vmos.specs.Vmos.{state_with_vmos}
 use Rattle.eager_vmos.proofs.DoingLaws.{done, no_refusal}
 use Rattle.eager_vmos.proofs.FoundLaws.{name_inside}
 use Rattle.eager_vmos.proofs.eager_vmos.EagerVmos.set_size.Goals as goal
@@ -12,10 +12,10 @@ resize-requires-clause-inside c = name_inside c.args.self.now c.requires.parts c
 
 pub unreachable-requires-in-Err : goal.unreachable-requires-in-Err
 unfolding target_of lineage_of
-unreachable-requires-in-Err c = let s = state_with c.requires.parts.rest c.args.self.now in no_refusal s _ (VmoSetSize c.args.name c.args.size) c.requires.allowed.none (λ effect. let e = effect.0 in absurd cc) refl (c.in-Err.ensures s c.args.name (sym c.requires.named ∙ c.in-Some.is))
+unreachable-requires-in-Err c = let s = state_with_vmos c.requires.parts.rest c.args.self.now in no_refusal s _ (VmoSetSize c.args.name c.args.size) c.requires.allowed.none (λ effect. let e = effect.0 in absurd cc) refl (c.in-Err.ensures s c.args.name (sym c.requires.named ∙ c.in-Some.is))
 
 pub returns : goal.returns
 unfolding target_of lineage_of
 returns c =
     done c.args.self.now _ (VmoSetSize c.args.name c.args.size) c.requires.parts (λ s. c.requires.allowed.none) (λ s counted. counted) Done (λ refusal e. absurd cc)
-    (λ s well. c.in-Ok.ensures (state_with s c.args.self.now) c.args.name (sym c.requires.named ∙ c.in-Some.is))
+    (λ s well. c.in-Ok.ensures (state_with_vmos s c.args.self.now) c.args.name (sym c.requires.named ∙ c.in-Some.is))

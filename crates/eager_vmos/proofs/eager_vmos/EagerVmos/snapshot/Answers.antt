@@ -6,7 +6,7 @@ use Rattle.vm_base.proofs.EntryLaws.{none_is}
 use Rattle.vm_model.proofs.StepLaws.{AllOff-from_none}
 use Rattle.vm_model.specs.Machine.Refusals.{refusals}
 use Rattle.vm_model.specs.Machine.State.{target_of, lineage_of}
-use Rattle.eager_vmos.specs.Vmos.{state_with}
+use Rattle.eager_vmos.specs.Vmos.{state_with_vmos}
 use Rattle.eager_vmos.proofs.DoingLaws.{done, kept}
 use Rattle.eager_vmos.proofs.eager_vmos.EagerVmos.snapshot.Goals as goal
 
@@ -18,7 +18,7 @@ create_child-requires-clause-named c = (c.args.parent.0, sym c.resolve.ensures â
 
 pub create_child-requires-clause-closed : goal.create_child-requires-clause-closed
 create_child-requires-clause-closed c =
-    let s = state_with c.requires.allowed.rest c.args.self.now in
+    let s = state_with_vmos c.requires.allowed.rest c.args.self.now in
     none_is (s.names c.args.name.0) (AllOff-from_none (refusals s (VmoChild c.args.name c.args.parent Snapshot c.args.offset c.args.size c.args.resizable c.args.no_write)) c.requires.allowed.none).1.0
 
 pub returns-in-Ok : goal.returns-in-Ok

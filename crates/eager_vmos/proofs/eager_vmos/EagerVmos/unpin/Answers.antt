@@ -5,7 +5,7 @@ use Rattle.vm_model.specs.declared.reply.Reply.TheVariants.{Done}
 use Rattle.vm_model.specs.Machine.State.{target_of, lineage_of}
 use Rattle.vm_model.proofs.StepLaws.{AllOff-from_none}
 use Rattle.vm_model.specs.Machine.Refusals.{refusals}
-use Rattle.eager_vmos.specs.Vmos.{state_with}
+use Rattle.eager_vmos.specs.Vmos.{state_with_vmos}
 use Rattle.eager_vmos.proofs.DoingLaws.{done}
 use Rattle.eager_vmos.proofs.eager_vmos.EagerVmos.unpin.Goals as goal
 
@@ -14,11 +14,11 @@ unpin-requires-clause-parts c = (c.requires.parts.rest, c.requires.parts.well)
 
 pub unpin-requires-clause-there : goal.unpin-requires-clause-there
 unpin-requires-clause-there c =
-    let s = state_with c.requires.allowed.rest c.args.self.now in
+    let s = state_with_vmos c.requires.allowed.rest c.args.self.now in
     not-false (is_some (s.pins c.args.pin.0)) (AllOff-from_none (refusals s (VmoUnpin c.args.pin)) c.requires.allowed.none).0
 
 pub returns : goal.returns
 unfolding target_of lineage_of
 returns c =
-    done c.args.self.now _ (VmoUnpin c.args.pin) c.requires.parts (λ s. c.requires.allowed.none) (λ s counted. c.unpin.ensures.counted (state_with s c.args.self.now) counted) Done (λ refusal e. absurd cc)
+    done c.args.self.now _ (VmoUnpin c.args.pin) c.requires.parts (λ s. c.requires.allowed.none) (λ s counted. c.unpin.ensures.counted (state_with_vmos s c.args.self.now) counted) Done (λ refusal e. absurd cc)
     (λ s well. c.unpin.ensures.step s well)

@@ -3,7 +3,7 @@ use Rattle.slab.specs.Slab.{get}
 use Rattle.pair_map.specs.Maps.{values_of}
 use Rattle.vm_base.specs.Entries.{with_key}
 use Rattle.balanced_tree.specs.Pairs.{with_pair}
-use Rattle.fault.specs.inside.Pages.{with_entry, links_of}
+use Rattle.fault.specs.inside.Pages.{with_entry, link_numbers}
 use Rattle.fault.proofs.LinkLaws.{links_with}
 use Rattle.fault.proofs.PageLaws.{block-there, entry-given, links-set, AreBlocks-set, links-new, AreBlocks-new}
 use Rattle.fault.proofs.page_map.PageMap.insert.Goals as goal
@@ -17,7 +17,7 @@ invariant_of-self c =
     (c.args.page % 8, entry-given k.0 (c.args.page % 8) c.args.link (c.self.invariant.size c.in-Some.at k.0 k.1) (omega arith))
 
 pub returns-in-Some-clause-links : goal.returns-in-Some-clause-links
-unfolding links_of
+unfolding link_numbers
 returns-in-Some-clause-links c =
     let row = ap (values_of c.self.inside.rows c.args.list) (sym c.block_of.ensures) ∙ sym c.in-Some.ensures in
     let k = block-there (values_of c.self.inside.rows) (get c.self.inside.blocks) c.self.invariant c.args.list (c.args.page / 8) c.in-Some.at row in
@@ -32,7 +32,7 @@ invariant_of-self-in-None c = AreBlocks-new (values_of c.self.inside.rows) (get 
     (get c.insert_reserved-at.new.self) (links_with c.self.inside.blocks c.insert_reserved-at.new.self c.insert_reserved-at.result _ c.insert_reserved-at.ensures.updates)
 
 pub returns-in-None-clause-links : goal.returns-in-None-clause-links
-unfolding links_of
+unfolding link_numbers
 returns-in-None-clause-links c = rw (← c.self.view_is) (links-new (values_of c.self.inside.rows) (get c.self.inside.blocks) c.self.invariant c.args.list c.args.page c.insert_reserved-at.result c.args.link (omega arith)
     (ap (values_of c.self.inside.rows c.args.list) (sym c.block_of.ensures) ∙ sym c.in-None.ensures) c.insert_reserved-at.ensures.was_vacant _
     (ap (λ (i : ℕ). set (replicate 8 (let o : Option ℕ = None in o)) i (Some c.args.link)) c.place_of-in-None.ensures)

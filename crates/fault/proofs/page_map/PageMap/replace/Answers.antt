@@ -2,7 +2,7 @@ use Rattle.std.proofs.Common.{◌/◌, ◌%◌, ℕ, Some, sym, ap, ◌∙◌, a
 use Rattle.slab.specs.Slab.{get}
 use Rattle.pair_map.specs.Maps.{values_of}
 use Rattle.vm_base.specs.Entries.{with_key}
-use Rattle.fault.specs.inside.Pages.{with_entry, links_of}
+use Rattle.fault.specs.inside.Pages.{with_entry, link_numbers}
 use Rattle.fault.proofs.PageLaws.{block-there, entry-given, links-set, AreBlocks-set}
 use Rattle.fault.proofs.page_map.PageMap.replace.Goals as goal
 
@@ -15,7 +15,7 @@ invariant_of-self c =
     (c.args.page % 8, entry-given k.0 (c.args.page % 8) c.args.link (c.self.invariant.size c.in-Some.at k.0 k.1) (omega arith))
 
 pub returns-in-Some-clause-links : goal.returns-in-Some-clause-links
-unfolding links_of
+unfolding link_numbers
 returns-in-Some-clause-links c =
     let row = ap (values_of c.self.inside.rows c.args.list) (sym c.block_of.ensures) ∙ sym c.in-Some.ensures in
     let k = block-there (values_of c.self.inside.rows) (get c.self.inside.blocks) c.self.invariant c.args.list (c.args.page / 8) c.in-Some.at row in

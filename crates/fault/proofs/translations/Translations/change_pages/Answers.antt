@@ -1,5 +1,5 @@
 use Rattle.std.proofs.Common.{◌+◌, true, refl, arith}
-use Rattle.fault.specs.Table.{places_of, is_of}
+use Rattle.fault.specs.Table.{translations_of, is_translation_of}
 use Rattle.fault.specs.inside.Walks.{change_by}
 use Rattle.fault.proofs.PlaceLaws.{change_by-once, changed-all, changed-all_of}
 use Rattle.fault.proofs.WalkLaws.{pages-start, pages-next, pages-end}
@@ -23,15 +23,15 @@ loop-page-preserved c =
     record {
       first = omega (arith, inv.first, next.order);
       end = omega (arith, next.below);
-      changed = pages-next _ (change_by-once c.args.change) c.args.v.0 c.args.first (λ k. true) (places_of c.args.self.now) (places_of c.loop-page.self)
+      changed = pages-next _ (change_by-once c.args.change) c.args.v.0 c.args.first (λ k. true) (translations_of c.args.self.now) (translations_of c.loop-page.self)
           _ _ inv.changed c.in-Some.page (λ k. true) _ inv.first next (λ k h. refl)
-          (changed-all_of (change_by c.args.change) _ _ (is_of c.args.v.0 c.in-Some.page (c.in-Some.page + 1)) c.change_list.ensures.at);
+          (changed-all_of (change_by c.args.change) _ _ (is_translation_of c.args.v.0 c.in-Some.page (c.in-Some.page + 1)) c.change_list.ensures.at);
       room = omega (arith, inv.room, c.change_list.ensures.room);
     }
 
 pub returns-clause-at : goal.returns-clause-at
 returns-clause-at c =
     let inv = c.loop-page.invariant in
-    changed-all (change_by c.args.change) _ _ (is_of c.args.v.0 c.args.first (c.args.first + c.args.count))
-    (pages-end _ (change_by-once c.args.change) c.args.v.0 c.args.first (λ k. true) (places_of c.args.self.now) (places_of c.loop-page.self)
+    changed-all (change_by c.args.change) _ _ (is_translation_of c.args.v.0 c.args.first (c.args.first + c.args.count))
+    (pages-end _ (change_by-once c.args.change) c.args.v.0 c.args.first (λ k. true) (translations_of c.args.self.now) (translations_of c.loop-page.self)
     _ _ inv.changed inv.end c.in_default.ensures)

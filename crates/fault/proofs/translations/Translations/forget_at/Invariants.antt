@@ -1,5 +1,5 @@
 use Rattle.std.proofs.Common.{◌≡◌, ◌≤◌, ◌-◌}
-use Rattle.fault.specs.Table.{places_of, room_of}
+use Rattle.fault.specs.Table.{translations_of, room_of}
 use Rattle.fault.specs.inside.Walks.{changed_where, dropped}
 use Rattle.fault.proofs.WalkLaws.{place_below}
 use Rattle.fault.proofs.translations.Translations.forget_at.Given as goal
@@ -9,7 +9,7 @@ abbrev pub invariant-loop-page : goal.invariant-loop-page
 invariant-loop-page l = record {
   first : l.first ≤ l.from;
   end : l.from ≤ l.end;
-  changed : places_of l.self ≡ changed_where dropped (place_below l.root.0 l.first l.from) (places_of l.initial.self);
+  changed : translations_of l.self ≡ changed_where dropped (place_below l.root.0 l.first l.from) (translations_of l.initial.self);
   room : room_of l.initial.self ≤ room_of l.self;
 }
 

@@ -1,9 +1,9 @@
 use Rattle.std.proofs.Common.{refl, arith}
 use Rattle.std.proofs.lemmas.Result.{err_from_is_err_and}
 use Rattle.fault.proofs.AskedLaws.{IsDenied-first, IsDenied-memory}
-use Rattle.fault.proofs.OutcomeLaws.{asked-one, faults-one, Reads-one}
+use Rattle.fault.proofs.OutcomeLaws.{asked-one, faults-one, ReadsSpace-one}
 use Rattle.vm_model.proofs.TouchedLaws.{touched-one}
-use Rattle.fault.proofs.TouchingLaws.{IsFound-from_IsTouched}
+use Rattle.fault.proofs.TouchingLaws.{IsFoundPage-from_IsTouched}
 use Rattle.fault.proofs.translations.Translations.read_in_page.Goals as goal
 
 pub returns-in_err-touched-clause-outcome : goal.returns-in_err-touched-clause-outcome
@@ -22,10 +22,10 @@ returns-in_err-reserve_missing-clause-outcome g c =
 
 pub read_page-requires-clause-found : goal.read_page-requires-clause-found
 read_page-requires-clause-found g c =
-    IsFound-from_IsTouched c.reserve_missing.ensures.same c.requires.translations c.in_ok-touched.ensures
+    IsFoundPage-from_IsTouched c.reserve_missing.ensures.same c.requires.translations c.in_ok-touched.ensures
 
 pub returns-clause-outcome : goal.returns-clause-outcome
 returns-clause-outcome g c =
-    Reads-one c.in_ok-touched.ensures _ _ c.page_of-page.ensures
+    ReadsSpace-one c.in_ok-touched.ensures _ _ c.page_of-page.ensures
     (rw c.page_of-page.ensures (touched-one c.args.addr _ c.requires.some c.requires.one)) c.requires.one c.requires.backed.good
     c.reserve_missing.ensures.same c.read_page.ensures.faults (rw c.in_page.ensures at c.read_page.ensures.bytes) c.read_page.ensures.places

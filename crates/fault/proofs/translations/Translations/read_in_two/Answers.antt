@@ -2,9 +2,9 @@ use Rattle.std.proofs.Common.{refl, arith}
 use Rattle.std.proofs.lemmas.Result.{err_from_is_err_and}
 use Rattle.mapping_set.specs.Tables.{table_of}
 use Rattle.fault.proofs.AskedLaws.{IsDenied-first, IsDenied-second, IsDenied-memory}
-use Rattle.fault.proofs.OutcomeLaws.{asked-two, faults-two, Reads-two}
+use Rattle.fault.proofs.OutcomeLaws.{asked-two, faults-two, ReadsSpace-two}
 use Rattle.vm_model.proofs.TouchedLaws.{touched-two}
-use Rattle.fault.proofs.TouchingLaws.{IsFound-from_IsTouched, IsFound-stays, refusal_at-touched}
+use Rattle.fault.proofs.TouchingLaws.{IsFoundPage-from_IsTouched, IsFoundPage-stays, refusal_at-touched}
 use Rattle.fault.proofs.translations.Translations.read_in_two.Goals as goal
 
 pub returns-in_err-first-clause-outcome : goal.returns-in_err-first-clause-outcome
@@ -33,19 +33,19 @@ returns-in_err-reserve_missing-clause-outcome g c =
 
 pub read_page-faults-requires-clause-found : goal.read_page-faults-requires-clause-found
 read_page-faults-requires-clause-found g c =
-    IsFound-from_IsTouched c.reserve_missing.ensures.same c.requires.translations c.in_ok-first.ensures
+    IsFoundPage-from_IsTouched c.reserve_missing.ensures.same c.requires.translations c.in_ok-first.ensures
 
 pub read_page-requires-clause-found : goal.read_page-requires-clause-found
 read_page-requires-clause-found g c =
-    IsFound-stays (table_of c.args.maps.now) (c.read_page-faults.ensures.places.are_true (table_of c.args.maps.now) c.in_ok-first.ensures.entry (rw c.reserve_missing.ensures.same c.requires.translations))
+    IsFoundPage-stays (table_of c.args.maps.now) (c.read_page-faults.ensures.places.are_true (table_of c.args.maps.now) c.in_ok-first.ensures.entry (rw c.reserve_missing.ensures.same c.requires.translations))
     (c.read_page-faults.ensures.places.others _ (omega arith))
-    (IsFound-from_IsTouched c.reserve_missing.ensures.same c.requires.translations c.in_ok-second.ensures)
+    (IsFoundPage-from_IsTouched c.reserve_missing.ensures.same c.requires.translations c.in_ok-second.ensures)
 
 pub returns-clause-outcome : goal.returns-clause-outcome
 returns-clause-outcome g c =
     let parts = c.split_at_mut-here.ensures in
     let at = c.in_page-at.ensures in
-    Reads-two c.in_ok-first.ensures c.in_ok-second.ensures _ _ _ _ _ c.page_of-page.ensures
+    ReadsSpace-two c.in_ok-first.ensures c.in_ok-second.ensures _ _ _ _ _ c.page_of-page.ensures
     (rw c.page_of-page.ensures (touched-two c.args.addr _ c.requires.two c.requires.len)) c.requires.len c.requires.backed.good
     c.reserve_missing.ensures.same (omega (arith, parts.front_len)) (omega (arith, parts.front_len, parts.back_len))
     (omega (arith, c.read_page-faults.ensures.faults, c.read_page.ensures.faults))

@@ -1,5 +1,6 @@
 use Rattle.std.proofs.Common.{◌∙◌}
-use Rattle.fault.specs.Table.{places_of, number_of}
+use Rattle.fault.specs.Table.{translations_of}
+use Rattle.vm_model.specs.Space.Readiness.{frame_number}
 use Rattle.fault.proofs.ForgettingLaws.{HoldsOther-none}
 use Rattle.fault.proofs.TouchingLaws.{ReadsPage-translated}
 use Rattle.fault.proofs.TranslationLaws.{IsOfEntry-none}
@@ -11,13 +12,13 @@ returns-in-Some-clause-bytes g c =
 
 pub translate-requires-clause-same : goal.translate-requires-clause-same
 translate-requires-clause-same g c =
-    IsOfEntry-none (places_of c.args.self.now) c.args.root.0 c.args.page c.to_read-translation.result.entry (c.requires.found.translation ∙ c.in-None.is)
+    IsOfEntry-none (translations_of c.args.self.now) c.args.root.0 c.args.page c.to_read-translation.result.entry (c.requires.found.translation ∙ c.in-None.is)
 
 pub translate-requires-clause-other : goal.translate-requires-clause-other
 translate-requires-clause-other g c =
-    HoldsOther-none (places_of c.args.self.now c.args.root.0 c.args.page) (number_of c.to_read-translation.result.frame) (c.requires.found.translation ∙ c.in-None.is)
+    HoldsOther-none (translations_of c.args.self.now c.args.root.0 c.args.page) (frame_number c.to_read-translation.result.frame) (c.requires.found.translation ∙ c.in-None.is)
 
 pub returns-in-None-clause-places : goal.returns-in-None-clause-places
 returns-in-None-clause-places g c =
-    ReadsPage-translated _ c.args.root.0 c.args.page c.args.touched (places_of c.args.self.now) (places_of c.translate.new.self) _
+    ReadsPage-translated _ c.args.root.0 c.args.page c.args.touched (translations_of c.args.self.now) (translations_of c.translate.new.self) _
     c.requires.found c.in-None.is c.to_read-translation.ensures.of_entry c.to_read-translation.ensures.readiness c.translate.ensures.at

@@ -1,5 +1,5 @@
 use Rattle.std.proofs.Common.{◌∙◌}
-use Rattle.fault.specs.Table.{places_of}
+use Rattle.fault.specs.Table.{translations_of}
 use Rattle.fault.proofs.ForgettingLaws.{set-elsewhere}
 use Rattle.fault.proofs.PlaceLaws.{places-set}
 use Rattle.fault.proofs.translations.Translations.set.Goals as goal
@@ -12,5 +12,5 @@ put-requires-clause-may c = c.in-Some.ensures.may
 
 pub returns-in-Some-clause-at : goal.returns-in-Some-clause-at
 returns-in-Some-clause-at c =
-    places-set _ (places_of c.args.self.now) c.args.root.0 c.args.page c.args.translation c.put.ensures.at
-    ∙ set-elsewhere (places_of c.args.self.now) c.args.root.0 c.args.page c.args.translation c.put.ensures.others
+    places-set _ (translations_of c.args.self.now) c.args.root.0 c.args.page c.args.translation c.put.ensures.at
+    ∙ set-elsewhere (translations_of c.args.self.now) c.args.root.0 c.args.page c.args.translation c.put.ensures.others

@@ -1,8 +1,8 @@
 use Rattle.std.proofs.Common.{◌+◌, ◌∙◌, refl, arith}
-use Rattle.fault.specs.Table.{places_of}
+use Rattle.fault.specs.Table.{translations_of}
 use Rattle.fault.proofs.AskedLaws.{AreAsked-two}
 use Rattle.vm_model.proofs.PartLaws.{part_at-first, part_bytes-first, part_at-second, part_bytes-second}
-use Rattle.fault.proofs.ThroughLaws.{IsBetween, IsBetween-written, Writes-two}
+use Rattle.fault.proofs.ThroughLaws.{IsBetween, IsBetween-written, WritesSpace-two}
 use Rattle.vm_model.proofs.TouchedLaws.{touched-two}
 use Rattle.pages.proofs.NeedLaws.{first-free}
 use Rattle.fault.proofs.WritableLaws.{entry-found}
@@ -37,7 +37,7 @@ write_page-requires-clause-room g c = omega (arith, c.requires.room)
 
 -- the first page was written
 between : (g : Over) (c : goal.After-write_page-arg-4-1 g)
-    → IsBetween (g.P.PageStore.content c.write_page.new.store) c.requires.found.0 (places_of c.write_page.new.self) c.args.root.0
+    → IsBetween (g.P.PageStore.content c.write_page.new.store) c.requires.found.0 (translations_of c.write_page.new.self) c.args.root.0
     (c.page_of-page.result + 1) c.args.second
 between g c =
     let found = c.requires.found.1 in
@@ -70,7 +70,7 @@ pub returns : goal.returns
 returns g c = record {
   writes = λ table found.
       let parts = c.split_at.ensures in
-      Writes-two _ _ _ _ _ _ _ _ _ _ found.good found.are found.first_is (omega (arith, c.in_page-at.ensures, parts.front_len))
+      WritesSpace-two _ _ _ _ _ _ _ _ _ _ found.good found.are found.first_is (omega (arith, c.in_page-at.ensures, parts.front_len))
       (rw c.page_of-page.ensures at c.write_page.ensures.writes) c.args.second found.second_is found.frames
       _ _ _ _ (omega (arith, c.in_page-at.ensures, parts.back_len, c.requires.len)) (rw c.page_of-page.ensures at c.write_page-2.ensures.writes)
       c.args.addr c.args.bytes.now (touched-two c.args.addr _ c.requires.two c.requires.len)

@@ -1,8 +1,8 @@
 use Rattle.std.proofs.Common.{refl, ◌∙◌, arith}
 use Rattle.fault.proofs.AskedLaws.{AreAsked-one, IsDenied-first, IsDenied-room, wants-one}
 use Rattle.vm_model.proofs.PartLaws.{part_at-first, part_bytes-all}
-use Rattle.fault.proofs.NeedingLaws.{LacksRoom-as}
-use Rattle.fault.proofs.ThroughLaws.{Writes-one}
+use Rattle.fault.proofs.NeedingLaws.{LacksRoomToWrite-as}
+use Rattle.fault.proofs.ThroughLaws.{WritesSpace-one}
 use Rattle.vm_model.proofs.TouchedLaws.{touched-one}
 use Rattle.fault.proofs.WritableLaws.{entry-found, IsAbsent-stays, one-free}
 use Rattle.fault.proofs.WrittenLaws.{AreTrue-written}
@@ -18,7 +18,7 @@ returns-in-Err-make_ready-clause-outcome g c =
     let found = rw c.page_of-page.ensures at c.in-Ok.ensures in
     let ready = c.in-Err-make_ready.ensures in
     rw (touched-one c.args.addr _ c.requires.some c.requires.one) (
-      IsDenied-room _ _ _ _ (AreAsked-one _ _ _ _ _ found.0.entry found.1) _ _ _ (LacksRoom-as _ _ _ _ _ c.frames_for_one-need.ensures (rw c.faults-faults.ensures at ready.err))
+      IsDenied-room _ _ _ _ (AreAsked-one _ _ _ _ _ found.0.entry found.1) _ _ _ (LacksRoomToWrite-as _ _ _ _ _ c.frames_for_one-need.ensures (rw c.faults-faults.ensures at ready.err))
           (wants-one _ _ _ _ _ _ found.0),
       ready.content,
       ready.places,
@@ -42,7 +42,7 @@ returns-clause-outcome g c =
     let found = rw c.page_of-page.ensures at c.in-Ok.ensures in
     let ready = c.in-Ok-make_ready.ensures in
     let writes = rw (ready.content, ready.places, c.page_of-page.ensures) at c.write_page.ensures.writes in
-    rw c.faults-faults.ensures (Writes-one _ _ _ _ _ _ _ _ _ _ c.requires.backed.good c.requires.translations found.0
+    rw c.faults-faults.ensures (WritesSpace-one _ _ _ _ _ _ _ _ _ _ c.requires.backed.good c.requires.translations found.0
     (omega (arith, c.in_page.ensures, c.requires.one)) writes c.args.addr c.args.bytes.now (touched-one c.args.addr _ c.requires.some c.requires.one)
     (AreAsked-one _ _ _ _ _ found.0.entry found.1) (c.frames_for_one-need.ensures.enough ready.ok.free) (c.in_page.ensures ∙ part_at-first c.args.addr)
     (part_bytes-all c.args.addr c.args.bytes.now c.requires.one))

@@ -1,7 +1,7 @@
 use Rattle.std.proofs.Common.{◌+◌, refl}
 use Rattle.mapping_set.specs.Tables.{table_of}
-use Rattle.fault.specs.Access.{Writes}
-use Rattle.fault.specs.Table.{places_of, AreTrue}
+use Rattle.fault.specs.Access.{WritesSpace}
+use Rattle.fault.specs.Table.{translations_of, AreTrue}
 use Rattle.fault.specs.inside.Writable.{fault_of}
 use Rattle.fault.proofs.BothLaws.{AreFound-ready}
 use Rattle.fault.proofs.AskedLaws.{AreAsked-two, IsDenied-room, wants-two}
@@ -42,9 +42,9 @@ write_both-requires-clause-room g c = rw (← c.faults.ensures, ← c.faults-2.e
 
 -- both pages were written
 both : (g : Over) (c : goal.After-write_both g)
-    → Writes (g.P.PageStore.content c.make_ready.new.store) (table_of c.args.maps.now) c.args.root.0 c.args.addr c.args.bytes.now (places_of c.make_ready.new.self)
-    (fault_of c.in-Ok.found.0 + fault_of c.in-Ok.found.1) (g.P.PageStore.content c.write_both.new.store) (places_of c.write_both.new.self)
-    × AreTrue (g.P.PageStore.content c.write_both.new.store) (table_of c.args.maps.now) (places_of c.write_both.new.self)
+    → WritesSpace (g.P.PageStore.content c.make_ready.new.store) (table_of c.args.maps.now) c.args.root.0 c.args.addr c.args.bytes.now (translations_of c.make_ready.new.self)
+    (fault_of c.in-Ok.found.0 + fault_of c.in-Ok.found.1) (g.P.PageStore.content c.write_both.new.store) (translations_of c.write_both.new.self)
+    × AreTrue (g.P.PageStore.content c.write_both.new.store) (table_of c.args.maps.now) (translations_of c.write_both.new.self)
 both g c =
     let found = rw c.page_of.ensures at c.in-Ok.ensures in
     let ready = c.in-Ok-make_ready.ensures in

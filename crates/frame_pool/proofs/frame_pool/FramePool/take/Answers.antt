@@ -1,6 +1,6 @@
 use Rattle.std.proofs.Common.{refl, arith}
 use Rattle.vm_base.specs.Pages.{zeros}
-use Rattle.frame_pool.proofs.ShownLaws.{shown-marked}
+use Rattle.frame_pool.proofs.ShownLaws.{frames_shown-marked}
 use Rattle.frame_pool.proofs.PoolLaws.{as_many_marks, as_many_shown, idle_below, popped, not_popped}
 use Rattle.frame_pool.proofs.frame_pool.FramePool.take.Goals as goal
 
@@ -24,7 +24,7 @@ invariant_of-self c = record {
 
 pub invariant_of-self-2 : goal.invariant_of-self-2
 invariant_of-self-2 c = record {
-  pool = rw (shown-marked _ _ c.in-Some.idle.0 (as_many_marks c.self.inside c.self.invariant))
+  pool = rw (frames_shown-marked _ _ c.in-Some.idle.0 (as_many_marks c.self.inside c.self.invariant))
       (popped _ _ _ _ c.self.invariant.pool c.in-Some.ensures.items refl zeros).pool;
   marked = c.self.invariant.marked;
   buffer_room = c.self.invariant.buffer_room;
@@ -35,6 +35,6 @@ invariant_of-self-2 c = record {
 
 pub returns-clause-some : goal.returns-clause-some
 returns-clause-some c = rw (
-  shown-marked _ _ c.in-Some.idle.0 (as_many_marks c.self.inside c.self.invariant),
+  frames_shown-marked _ _ c.in-Some.idle.0 (as_many_marks c.self.inside c.self.invariant),
   ← c.self.view_is,
 ) (popped _ _ _ _ c.self.invariant.pool c.in-Some.ensures.items refl zeros).takes

@@ -1,6 +1,6 @@
 use Rattle.std.proofs.Common.{[], ◌∷◌, ◌++◌, refl, arith}
 use Rattle.frame_pool.specs.inside.PoolFields.{pool_of}
-use Rattle.frame_pool.proofs.ShownLaws.{shown-pushed}
+use Rattle.frame_pool.proofs.ShownLaws.{frames_shown-pushed}
 use Rattle.frame_pool.proofs.PoolLaws.{HasTaken, as_many_marks, as_many_shown, few_frames, pushed, all_taken}
 use Rattle.frame_pool.proofs.frame_pool.FramePool.take_fresh.Goals as goal
 
@@ -45,7 +45,7 @@ invariant_of-self c = record {
   pool = rw (
     c.push_reserved.ensures.items,
     c.push_reserved-2.ensures.items,
-    shown-pushed _ _ c.blank_frame.result (as_many_marks c.self.inside c.self.invariant),
+    frames_shown-pushed _ _ c.blank_frame.result (as_many_marks c.self.inside c.self.invariant),
   ) (fresh c).pool;
   marked = omega (arith, c.push_reserved.ensures.len, c.push_reserved-2.ensures.len, c.self.invariant.marked);
   buffer_room = omega (arith, c.self.invariant.buffer_room, c.push_reserved.ensures.capacity);
@@ -58,7 +58,7 @@ pub returns-clause-some : goal.returns-clause-some
 returns-clause-some c = rw (
   c.push_reserved.ensures.items,
   c.push_reserved-2.ensures.items,
-  shown-pushed _ _ c.blank_frame.result (as_many_marks c.self.inside c.self.invariant),
+  frames_shown-pushed _ _ c.blank_frame.result (as_many_marks c.self.inside c.self.invariant),
   ← c.blank_frame.ensures,
   ← c.self.view_is,
 ) (fresh c).takes

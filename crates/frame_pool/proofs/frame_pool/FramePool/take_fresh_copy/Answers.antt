@@ -2,7 +2,7 @@ use Rattle.std.proofs.Common.{◌≡◌, [], ◌∷◌, ◌++◌, refl, arith}
 use Rattle.vm_base.specs.Pages.{zeros}
 use Rattle.frame_pool.specs.Pool.{frame_bytes}
 use Rattle.frame_pool.specs.inside.PoolFields.{pool_of}
-use Rattle.frame_pool.proofs.ShownLaws.{shown-pushed}
+use Rattle.frame_pool.proofs.ShownLaws.{frames_shown-pushed}
 use Rattle.frame_pool.proofs.PoolLaws.{HasTaken, as_many_marks, as_many_shown, few_frames, in_marks, in_range, reads_blank, reads_plain, pushed, all_taken}
 use Rattle.frame_pool.proofs.frame_pool.FramePool.take_fresh_copy.Goals as goal
 
@@ -60,7 +60,7 @@ invariant_of-self c = record {
   pool = rw (
     c.push_reserved.ensures.items,
     c.push_reserved-2.ensures.items,
-    shown-pushed _ _ c.index-bytes.result.now (as_many_marks c.self.inside c.self.invariant),
+    frames_shown-pushed _ _ c.index-bytes.result.now (as_many_marks c.self.inside c.self.invariant),
   ) (fresh c).pool;
   marked = omega (arith, c.push_reserved.ensures.len, c.push_reserved-2.ensures.len, c.self.invariant.marked);
   buffer_room = omega (arith, c.self.invariant.buffer_room, c.push_reserved.ensures.capacity);
@@ -73,7 +73,7 @@ pub returns-clause-some : goal.returns-clause-some
 returns-clause-some c = rw (
   c.push_reserved.ensures.items,
   c.push_reserved-2.ensures.items,
-  shown-pushed _ _ c.index-bytes.result.now (as_many_marks c.self.inside c.self.invariant),
+  frames_shown-pushed _ _ c.index-bytes.result.now (as_many_marks c.self.inside c.self.invariant),
   ← c.self.view_is,
   reads_plain c.self.inside c.args.from.0 c.self.invariant (rw (← c.self.view_is) at c.requires.taken)
       c.index-bytes.result.now c.index.result.now c.index.ensures c.if-index.false c.index-bytes.ensures,

@@ -1,6 +1,6 @@
 use Rattle.std.proofs.Common.{◌≡◌, ◌-◌, ◌≤◌}
 use Rattle.page_store.specs.Held.{held_from}
-use Rattle.page_store.specs.Flat.{content_of}
+use Rattle.page_store.specs.Flat.{flat_content}
 use Rattle.page_store.proofs.flat_store.FlatStore.count_held.Given as goal
 
 -- the held pages up to here were counted
@@ -8,7 +8,7 @@ abbrev pub invariant-loop-page : goal.invariant-loop-page
 invariant-loop-page l = record {
   first : l.first ≤ l.from;
   end : l.from ≤ l.end;
-  held : l.held ≡ held_from (content_of l.self) l.v.0 l.first (l.from - l.first);
+  held : l.held ≡ held_from (flat_content l.self) l.v.0 l.first (l.from - l.first);
 }
 
 abbrev pub decreases-loop-page : goal.decreases-loop-page

@@ -1,10 +1,10 @@
 use Rattle.std.proofs.Common.{refl, inl, inr, arith}
-use Rattle.page_store.specs.Flat.{content_of}
+use Rattle.page_store.specs.Flat.{flat_content}
 use Rattle.page_store.proofs.HeldLaws.{zeroed-start, zeroed-next, zeroed-end}
 use Rattle.page_store.proofs.flat_store.FlatStore.release_pages.Goals as goal
 
 pub loop-page-init : goal.loop-page-init
-loop-page-init c = record { first = omega arith; end = inr refl; zero = zeroed-start (content_of c.args.self.now) c.args.v.0 c.args.first }
+loop-page-init c = record { first = omega arith; end = inr refl; zero = zeroed-start (flat_content c.args.self.now) c.args.v.0 c.args.first }
 
 pub loop-page-smaller : goal.loop-page-smaller
 loop-page-smaller c = let next = c.in-Some.ensures.some in omega (arith, next.order, next.below)
@@ -16,10 +16,10 @@ loop-page-preserved c =
     record {
       first = omega (arith, next.order, inv.first);
       end = inl (omega (arith, next.below));
-      zero = zeroed-next (content_of c.args.self.now) (content_of c.loop-page.self) c.args.v.0 c.args.first c.loop-page.from c.args.end inv.zero _ _ inv.first next c.release_page.ensures.content;
+      zero = zeroed-next (flat_content c.args.self.now) (flat_content c.loop-page.self) c.args.v.0 c.args.first c.loop-page.from c.args.end inv.zero _ _ inv.first next c.release_page.ensures.content;
     }
 
 pub returns : goal.returns
 returns c =
     let inv = c.loop-page.invariant in
-    zeroed-end (content_of c.args.self.now) (content_of c.loop-page.self) c.args.v.0 c.args.first c.loop-page.from c.args.end inv.zero inv.end c.in_default.ensures.none
+    zeroed-end (flat_content c.args.self.now) (flat_content c.loop-page.self) c.args.v.0 c.args.first c.loop-page.from c.args.end inv.zero inv.end c.in_default.ensures.none

@@ -1,6 +1,6 @@
 use Rattle.std.proofs.Common.{◌≡◌, ◌⊎◌, ◌-◌, ◌≤◌}
 use Rattle.vm_model.specs.Contents.Zeroing.{zeroed}
-use Rattle.page_store.specs.Flat.{content_of}
+use Rattle.page_store.specs.Flat.{flat_content}
 use Rattle.page_store.proofs.flat_store.FlatStore.release_pages.Given as goal
 
 -- the pages up to here are zero
@@ -8,7 +8,7 @@ abbrev pub invariant-loop-page : goal.invariant-loop-page
 invariant-loop-page l = record {
   first : l.first ≤ l.from;
   end : (l.from ≤ l.end) ⊎ (l.from ≡ l.first);
-  zero : content_of l.self ≡ zeroed (content_of l.initial.self) l.v.0 l.first l.from;
+  zero : flat_content l.self ≡ zeroed (flat_content l.initial.self) l.v.0 l.first l.from;
 }
 
 abbrev pub decreases-loop-page : goal.decreases-loop-page

@@ -1,6 +1,6 @@
 use Rattle.std.proofs.Common.{ℕ, ◌∙◌, ap, arith}
 use Rattle.std.proofs.lemmas.Bool.{cond-true}
-use Rattle.page_store.specs.Flat.{content_of, flat_of}
+use Rattle.page_store.specs.Flat.{flat_content, flat_of}
 use Rattle.page_store.proofs.FlatLaws.{no_frames, no_shares, IsFlat-filled, content-filled}
 use Rattle.page_store.proofs.flat_store.FlatStorePageStore.fill.Goals as goal
 
@@ -19,4 +19,4 @@ invariant_of-self-2 c =
 pub returns-clause-ok : goal.returns-clause-ok
 returns-clause-ok c =
     rw (← c.self.view_is) (content-filled (flat_of c.self.inside) _ (rw (← c.self.view_is) at c.requires.empty)
-    ∙ ap (λ (n : ℕ). record (content_of (flat_of c.self.inside)) { frames = n }) c.in-Ok-fill.ensures.frames)
+    ∙ ap (λ (n : ℕ). record (flat_content (flat_of c.self.inside)) { frames = n }) c.in-Ok-fill.ensures.frames)

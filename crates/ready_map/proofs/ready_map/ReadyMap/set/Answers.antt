@@ -1,6 +1,6 @@
 use Rattle.std.proofs.Common.{Bool, ap, ◌∙◌}
 use Rattle.ready_map.specs.declared.ready_map.ReadyPage.{ReadyPage}
-use Rattle.ready_map.specs.Notes.{Rows, rows_of, agrees, kept_rows, with_row}
+use Rattle.ready_map.specs.Notes.{ReadyRows, rows_of, agrees, kept_rows, with_ready_row}
 use Rattle.ready_map.proofs.RowLaws.{row-cleared}
 use Rattle.ready_map.proofs.ready_map.ReadyMap.set.Goals as goal
 
@@ -8,5 +8,5 @@ pub returns-clause-rows : goal.returns-clause-rows
 returns-clause-rows c =
     let stays : ReadyPage → Bool = agrees c.args.row.koid.0 c.args.row.page c.args.row.frame in
     c.note.ensures.rows
-    ∙ (ap (λ (rows : Rows). with_row (kept_rows stays rows) c.args.root.0 c.args.page c.args.row) c.clear.ensures.rows
+    ∙ (ap (λ (rows : ReadyRows). with_ready_row (kept_rows stays rows) c.args.root.0 c.args.page c.args.row) c.clear.ensures.rows
     ∙ row-cleared (rows_of c.args.self.now) c.args.root.0 c.args.page c.args.row stays)

@@ -1,5 +1,5 @@
 use Rattle.std.proofs.Common.{refl, inl, inr, ◌∙◌, arith}
-use Rattle.eager_pages.specs.Eager.{content_of}
+use Rattle.eager_pages.specs.Eager.{eager_content}
 use Rattle.ready_map.specs.Notes.{rows_of}
 use Rattle.ready_map.proofs.RowLaws.{settled-start, settled-next, settled-end}
 use Rattle.ready_map.proofs.ready_map.ReadyMap.settle.Goals as goal
@@ -8,7 +8,7 @@ pub loop-page-init : goal.loop-page-init
 loop-page-init c = record {
   first = omega arith;
   end = inr refl;
-  rows = settled-start (content_of c.args.pages.now) c.args.koid.0 c.args.first (rows_of c.args.self.now);
+  rows = settled-start (eager_content c.args.pages.now) c.args.koid.0 c.args.first (rows_of c.args.self.now);
   spare = refl;
 }
 
@@ -22,7 +22,7 @@ loop-page-preserved c =
     record {
       first = omega (arith, some.0, inv.first);
       end = inl (omega (arith, some.1));
-      rows = settled-next (content_of c.args.pages.now) c.args.koid.0 c.args.first c.loop-page.from c.args.end (rows_of c.args.self.now) (rows_of c.loop-page.self) inv.rows
+      rows = settled-next (eager_content c.args.pages.now) c.args.koid.0 c.args.first c.loop-page.from c.args.end (rows_of c.args.self.now) (rows_of c.loop-page.self) inv.rows
           (rows_of c.settle_page.new.self) c.in-Some.page inv.first some.0 some.2 c.settle_page.ensures.rows;
       spare = c.settle_page.ensures.spare ∙ inv.spare;
     }
@@ -30,4 +30,4 @@ loop-page-preserved c =
 pub returns-clause-rows : goal.returns-clause-rows
 returns-clause-rows c =
     let inv = c.loop-page.invariant in
-    settled-end (content_of c.args.pages.now) c.args.koid.0 c.args.first c.loop-page.from c.args.end (rows_of c.args.self.now) (rows_of c.loop-page.self) inv.rows inv.end c.in_default.ensures.none
+    settled-end (eager_content c.args.pages.now) c.args.koid.0 c.args.first c.loop-page.from c.args.end (rows_of c.args.self.now) (rows_of c.loop-page.self) inv.rows inv.end c.in_default.ensures.none

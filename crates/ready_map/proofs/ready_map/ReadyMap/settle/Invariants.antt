@@ -1,6 +1,6 @@
 use Rattle.std.proofs.Common.{◌≡◌, ◌⊎◌, ◌-◌, ◌≤◌}
-use Rattle.eager_pages.specs.Eager.{content_of}
-use Rattle.ready_map.specs.Notes.{rows_of, spare_of, kept_rows, is_current}
+use Rattle.eager_pages.specs.Eager.{eager_content}
+use Rattle.ready_map.specs.Notes.{rows_of, notes_spare, kept_rows, is_current}
 use Rattle.ready_map.proofs.ready_map.ReadyMap.settle.Given as goal
 
 -- the pages up to here are settled
@@ -8,8 +8,8 @@ abbrev pub invariant-loop-page : goal.invariant-loop-page
 invariant-loop-page l = record {
   first : l.first ≤ l.from;
   end : (l.from ≤ l.end) ⊎ (l.from ≡ l.first);
-  rows : rows_of l.self ≡ kept_rows (is_current (content_of l.pages) l.koid.0 l.first l.from) (rows_of l.initial.self);
-  spare : spare_of l.self ≡ spare_of l.initial.self;
+  rows : rows_of l.self ≡ kept_rows (is_current (eager_content l.pages) l.koid.0 l.first l.from) (rows_of l.initial.self);
+  spare : notes_spare l.self ≡ notes_spare l.initial.self;
 }
 
 abbrev pub decreases-loop-page : goal.decreases-loop-page

@@ -1,6 +1,6 @@
 use Rattle.ready_map.specs.Notes.{notes_of}
-use Rattle.ready_map.proofs.RowLaws.{IsShown-of}
+use Rattle.ready_map.proofs.RowLaws.{IsReadySomewhere-of}
 use Rattle.ready_map.proofs.ready_map.ReadyMap.stamps.Goals as goal
 
 pub returns-clause-shown : goal.returns-clause-shown
-returns-clause-shown c = rw (← c.self.view_is) (IsShown-of (notes_of c.self.inside) c.self.invariant.notes)
+returns-clause-shown c = rw (← c.self.view_is) (IsReadySomewhere-of (notes_of c.self.inside) c.self.invariant.notes)

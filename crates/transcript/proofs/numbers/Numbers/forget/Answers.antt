@@ -1,10 +1,10 @@
 use Rattle.std.proofs.Common.{sym, ◌∙◌}
-use Rattle.transcript.proofs.NumberLaws.{number_of-none, number_of-gone, inverse-less, inside}
+use Rattle.transcript.proofs.NumberLaws.{number_seen-none, number_seen-gone, inverse-less, inside}
 use Rattle.transcript.proofs.numbers.Numbers.forget.Goals as goal
 
 pub returns-in_default-clause-gone : goal.returns-in_default-clause-gone
 returns-in_default-clause-gone c =
-    rw (← c.self.view_is) (number_of-none c.self.inside.told.items c.args.frame (sym c.value_at.ensures ∙ c.in_default.is))
+    rw (← c.self.view_is) (number_seen-none c.self.inside.told.items c.args.frame (sym c.value_at.ensures ∙ c.in_default.is))
 
 pub put-requires : goal.put-requires
 put-requires c = inside c.self.inside.told.items c.args.frame c.in-Some.number (sym c.value_at.ensures ∙ c.in-Some.is)
@@ -22,4 +22,4 @@ invariant_of-self c =
 pub returns-clause-gone : goal.returns-clause-gone
 returns-clause-gone c =
     let h = inside c.self.inside.told.items c.args.frame c.in-Some.number (sym c.value_at.ensures ∙ c.in-Some.is) in
-    rw (c.put.ensures, ← c.self.view_is) (number_of-gone c.self.inside.told.items c.args.frame h)
+    rw (c.put.ensures, ← c.self.view_is) (number_seen-gone c.self.inside.told.items c.args.frame h)

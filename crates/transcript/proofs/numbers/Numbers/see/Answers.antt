@@ -1,5 +1,5 @@
 use Rattle.std.proofs.Common.{arith}
-use Rattle.transcript.proofs.NumberLaws.{is_for, may_of, inverse-more, number_of-seen}
+use Rattle.transcript.proofs.NumberLaws.{is_for, may_of, inverse-more, number_seen-seen}
 use Rattle.transcript.proofs.numbers.Numbers.see.Goals as goal
 
 pub put-requires-2 : goal.put-requires-2
@@ -17,4 +17,4 @@ invariant_of-self c =
 pub returns-clause-seen : goal.returns-clause-seen
 returns-clause-seen c =
     let h = rw (← c.self.view_is) at c.requires.inside in
-    rw (c.put.ensures, ← c.self.view_is) (number_of-seen c.self.inside.told.items c.args.frame c.args.number h)
+    rw (c.put.ensures, ← c.self.view_is) (number_seen-seen c.self.inside.told.items c.args.frame c.args.number h)

@@ -7,7 +7,7 @@ use Rattle.vmo_table.proofs.EntryLaws.{names_in-put, vmo_there, from_ok}
 use Rattle.vmo_table.proofs.CountLaws.{keepers-at, keepers-same}
 use Rattle.vmo_table.proofs.NamedLaws.{names_fit, AreNamed-more}
 use Rattle.vmo_table.proofs.SettledLaws.{may_get, lineages-got, AreChildren-got}
-use Rattle.vmo_table.proofs.TableLaws.{rooms, IsTable-is}
+use Rattle.vmo_table.proofs.TableLaws.{rooms, IsVmoTable-is}
 use Rattle.vmo_table.proofs.vmo_table.VmoTable.alias.Goals as goal
 
 pub index-vmo-requires : goal.index-vmo-requires
@@ -48,7 +48,7 @@ pub invariant_of-self : goal.invariant_of-self
 unfolding vmos_in
 invariant_of-self c =
     let more = c.add_name.ensures in
-    IsTable-is _ _ _ (named c) c.write_back.ensures
+    IsVmoTable-is _ _ _ (named c) c.write_back.ensures
     (AreNamed-more _ _ c.args.name.0 c.args.target c.self.invariant.named c.add_name.result (omega arith) (rw (← c.self.view_is) at c.requires.name)
     (Some c.index-vmo.result.now) c.index-vmo.ensures (ap (λ (x : Vmo). x.names) more) (ap (λ (x : Vmo). x.slices) more) (ap (λ (x : Vmo). x.references) more))
     (may c).forest (AreChildren-got _ _ _ (may c) _ c.self.invariant.rows)

@@ -7,7 +7,7 @@ use Rattle.vmo_table.proofs.EntryLaws.{names_in-taken}
 use Rattle.vmo_table.proofs.CountLaws.{keepers-at, keepers-same}
 use Rattle.vmo_table.proofs.NamedLaws.{named-there, fewer_named}
 use Rattle.vmo_table.proofs.SettledLaws.{keepers-settled, settles}
-use Rattle.vmo_table.proofs.TableLaws.{IsTable-settled, closing}
+use Rattle.vmo_table.proofs.TableLaws.{IsVmoTable-settled, closing}
 use Rattle.vmo_table.proofs.vmo_table.VmoTable.close.Goals as goal
 
 pub unreachable-requires : goal.unreachable-requires
@@ -35,7 +35,7 @@ settle-requires c =
 pub invariant_of-self : goal.invariant_of-self
 invariant_of-self c =
     let closed = closing c.self.inside c.args.name.0 c.in-Some.target c.index.result.now _ c.self.invariant (sym c.remove.ensures.value ∙ c.in-Some.is) c.index.ensures c.take_name-left.ensures in
-    IsTable-settled _ _ _ _ closed.0 _ (names_in-taken _ _ c.args.name.0 c.remove.ensures.updates.0) closed.1 c.settle.ensures.vmos c.settle.ensures.rows
+    IsVmoTable-settled _ _ _ _ closed.0 _ (names_in-taken _ _ c.args.name.0 c.remove.ensures.updates.0) closed.1 c.settle.ensures.vmos c.settle.ensures.rows
 
 pub returns : goal.returns
 unfolding names_in vmos_in

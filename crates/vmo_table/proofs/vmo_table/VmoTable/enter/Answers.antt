@@ -12,9 +12,9 @@ use Rattle.vmo_table.specs.inside.ChildRows.{AreChildren}
 use Rattle.vmo_table.proofs.EntryLaws.{names_in-put, vmos_in-put, vmo_count_le, from_ok}
 use Rattle.vmo_table.proofs.CountLaws.{keepers-at, keepers-same, keepers-adopted}
 use Rattle.vmo_table.proofs.VmosLaws.{lineages-none, lineages-adopted, lineages-with_key}
-use Rattle.vmo_table.proofs.ForestLaws.{entered_fits, IsForest-entered}
+use Rattle.vmo_table.proofs.ForestLaws.{entered_fits, IsVmoForest-entered}
 use Rattle.vmo_table.proofs.NamedLaws.{AreNamed-adopted, AreNamed-more}
-use Rattle.vmo_table.proofs.TableLaws.{rooms, parent_at, IsTable-is}
+use Rattle.vmo_table.proofs.TableLaws.{rooms, parent_at, IsVmoTable-is}
 use Rattle.vmo_table.proofs.MovedLaws.{AreChildren-entered, no_row_under}
 use Rattle.vmo_table.proofs.vmo_table.VmoTable.enter.Goals as goal
 
@@ -59,9 +59,9 @@ pub invariant_of-self : goal.invariant_of-self
 invariant_of-self c =
     let none = rw (← c.self.view_is) at c.requires.koid in
     let free = lineages-none _ c.args.koid.0 none in
-    IsTable-is _ _ _ (named c) (entered c)
+    IsVmoTable-is _ _ _ (named c) (entered c)
     (AreNamed-adopted _ _ _ 0 1 (AreNamed-more _ _ c.args.name.0 (target c) c.self.invariant.named (vmo c) (omega arith) (rw (← c.self.view_is) at c.requires.name) None free refl refl refl))
-    (IsForest-entered _ c.args.koid.0 (vmo c) c.self.invariant.forest free (parent_at _ c.args.parent (rw (← c.self.view_is) at c.requires.parent)) (omega arith) refl)
+    (IsVmoForest-entered _ c.args.koid.0 (vmo c) c.self.invariant.forest free (parent_at _ c.args.parent (rw (← c.self.view_is) at c.requires.parent)) (omega arith) refl)
     (subst (AreChildren c.add_child.new.rows) (sym (lineages-adopted _ _ 0 1 ∙ lineages-with_key _ _ (vmo c)))
     (AreChildren-entered c.self.inside.child_rows _ _ c.args.koid.0 (lineage_of_vmo (vmo c)) c.self.invariant.rows none c.add_child.ensures))
 

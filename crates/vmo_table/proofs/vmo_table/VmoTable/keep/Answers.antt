@@ -5,7 +5,7 @@ use Rattle.vmo_table.specs.Vmos.{vmos_in, lineages}
 use Rattle.vmo_table.proofs.EntryLaws.{vmo_there}
 use Rattle.vmo_table.proofs.CountLaws.{keepers-at, keepers-with_key}
 use Rattle.vmo_table.proofs.SettledLaws.{lineages-got, AreChildren-got}
-use Rattle.vmo_table.proofs.TableLaws.{IsTable-is, keeping}
+use Rattle.vmo_table.proofs.TableLaws.{IsVmoTable-is, keeping}
 use Rattle.vmo_table.proofs.vmo_table.VmoTable.keep.Goals as goal
 
 pub index-vmo-requires : goal.index-vmo-requires
@@ -24,7 +24,7 @@ write_back-requires c = (c.index-vmo.result.now, c.index-vmo.ensures)
 pub invariant_of-self : goal.invariant_of-self
 invariant_of-self c =
     let written = keeping c.self.inside c.args.koid.0 _ (c.index-vmo.result.now.keepers + c.from.result) c.self.invariant c.index-vmo.ensures in
-    IsTable-is _ _ _ refl c.write_back.ensures written.1 written.0.forest (AreChildren-got _ _ _ written.0 _ c.self.invariant.rows)
+    IsVmoTable-is _ _ _ refl c.write_back.ensures written.1 written.0.forest (AreChildren-got _ _ _ written.0 _ c.self.invariant.rows)
 
 pub returns-clause-lineage : goal.returns-clause-lineage
 returns-clause-lineage c =

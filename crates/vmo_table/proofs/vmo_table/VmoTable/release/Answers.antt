@@ -6,7 +6,7 @@ use Rattle.vmo_table.specs.declared.vmos.Vmo.{Vmo}
 use Rattle.vmo_table.specs.Vmos.{vmos_in}
 use Rattle.vmo_table.proofs.CountLaws.{keepers-at, keepers-with_key}
 use Rattle.vmo_table.proofs.SettledLaws.{keepers-settled, settles, settles_absent}
-use Rattle.vmo_table.proofs.TableLaws.{IsTable-settled, keeping}
+use Rattle.vmo_table.proofs.TableLaws.{IsVmoTable-settled, keeping}
 use Rattle.vmo_table.proofs.vmo_table.VmoTable.release.Goals as goal
 
 pub returns-in_default-clause-keepers : goal.returns-in_default-clause-keepers
@@ -35,7 +35,7 @@ settle-requires c =
 pub invariant_of-self : goal.invariant_of-self
 invariant_of-self c =
     let written = keeping c.self.inside c.args.koid.0 c.in-Some.vmo (c.in-Some.vmo.keepers - c.from.result) c.self.invariant (sym (c.copied.ensures ∙ c.get.ensures.value) ∙ c.in-Some.is) in
-    IsTable-settled _ _ _ _ written.0 _ refl written.1 c.settle.ensures.vmos c.settle.ensures.rows
+    IsVmoTable-settled _ _ _ _ written.0 _ refl written.1 c.settle.ensures.vmos c.settle.ensures.rows
 
 pub returns-clause-keepers : goal.returns-clause-keepers
 unfolding vmos_in

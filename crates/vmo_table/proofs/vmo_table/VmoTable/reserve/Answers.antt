@@ -2,12 +2,12 @@ use Rattle.std.proofs.Common.{refl, ap, ◌∙◌}
 use Rattle.vmo_table.specs.Vmos.{lineages, keepers_in}
 use Rattle.vmo_table.specs.Table.{names_of, lineage_in, keepers_of}
 use Rattle.vmo_table.proofs.EntryLaws.{names_in-same, vmos_in-same}
-use Rattle.vmo_table.proofs.TableLaws.{IsTable-same}
+use Rattle.vmo_table.proofs.TableLaws.{IsVmoTable-same}
 use Rattle.vmo_table.proofs.vmo_table.VmoTable.reserve.Goals as goal
 
 pub invariant_of-self-in_default-reserve : goal.invariant_of-self-in_default-reserve
 invariant_of-self-in_default-reserve c =
-    IsTable-same c.self.inside _ c.self.invariant (names_in-same _ _ c.reserve.ensures.entries.2)
+    IsVmoTable-same c.self.inside _ c.self.invariant (names_in-same _ _ c.reserve.ensures.entries.2)
     (vmos_in-same _ _ c.reserve-2.ensures.entries.2) refl
 
 pub returns-in_default-reserve-clause-names : goal.returns-in_default-reserve-clause-names
@@ -15,7 +15,7 @@ returns-in_default-reserve-clause-names c = names_in-same _ _ c.reserve.ensures.
 
 pub invariant_of-self-in_default-reserve-2 : goal.invariant_of-self-in_default-reserve-2
 invariant_of-self-in_default-reserve-2 c =
-    IsTable-same c.self.inside _ c.self.invariant (names_in-same _ _ c.reserve.ensures.entries.2)
+    IsVmoTable-same c.self.inside _ c.self.invariant (names_in-same _ _ c.reserve.ensures.entries.2)
     (vmos_in-same _ _ c.reserve-2.ensures.entries.2) c.reserve-3.ensures.rows
 
 pub returns-in_default-reserve-2-clause-names : goal.returns-in_default-reserve-2-clause-names
@@ -31,7 +31,7 @@ returns-in_default-reserve-2-clause-keepers c =
 
 pub invariant_of-self-2 : goal.invariant_of-self-2
 invariant_of-self-2 c =
-    IsTable-same c.self.inside _ c.self.invariant (names_in-same _ _ c.reserve.ensures.entries.2)
+    IsVmoTable-same c.self.inside _ c.self.invariant (names_in-same _ _ c.reserve.ensures.entries.2)
     (vmos_in-same _ _ c.reserve-2.ensures.entries.2) c.reserve-3.ensures.rows
 
 pub returns-clause-names : goal.returns-clause-names
