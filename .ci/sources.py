@@ -168,7 +168,7 @@ def brought_in(path):
 
 
 def definitions_file(module, top=TOP):
-    """Returns the file of a module of definitions of a crate, as `served.specs.Outcome`, or None where the repository has none."""
+    """Returns the file of a module of definitions of a crate, as `line_server.specs.Outcome`, or None where the repository has none."""
     crate, _, inner = module.partition(".specs.")
     path = top / "crates" / crate / "specs" / (inner.replace(".", "/") + ".antt")
     return path if path.is_file() else None

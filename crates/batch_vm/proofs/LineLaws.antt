@@ -7,8 +7,8 @@ use Rattle.vm_model.specs.Contents.Content.{Content, nothing, HasNoVmo}
 use Rattle.vm_model.proofs.MachineLaws.{IsGoodMachine-empty}
 use Rattle.vm_core.proofs.AgreeLaws.{agrees_good}
 use Rattle.vm_core.proofs.StartLaws.{filled_fresh}
-use Rattle.served.specs.Answering.{syntax_text}
-use Rattle.served.specs.Outcome.{SinkTakes, AnswersLine}
+use Rattle.line_server.specs.Answering.{syntax_text}
+use Rattle.line_server.specs.Outcome.{SinkTakes, AnswersLine}
 use Rattle.batch_model.specs.declared.command.BatchCommand.{BatchCommand}
 use Rattle.batch_model.specs.declared.command.BatchReply.{BatchReply}
 use Rattle.batch_model.specs.Batch.{BatchState, BatchStep, IsGoodBatch, empty_batch}

@@ -7,7 +7,7 @@ use Rattle.vm_model.specs.Language.Reading.{Outside as PlainOutside, reading, re
 use Rattle.batch_model.specs.declared.command.BatchReply.{BatchReply}
 use Rattle.batch_model.specs.Batch.{BatchState, BatchStep, IsGoodBatch, empty_batch}
 use Rattle.batch_model.specs.BatchLanguage.{BatchReading, Blank, Order, Outside, batch_reading, reading_beside, job_order, batch_text}
-use Rattle.served.specs.Answering.{Answering, syntax_text}
+use Rattle.line_server.specs.Answering.{Answering, syntax_text}
 
 -- what a line that is read so may give: a blank line no text, a line outside the grammar its refusal, an order one step and the
 -- text of its reply

@@ -2,7 +2,7 @@
 
 ghost use Rattle.std.specs.Prelude.{◌+◌, ◌≤◌, ◌<◌};
 ghost use Rattle.script_io.specs.Faults.{HasCause};
-ghost use Rattle.served.specs.Outcome.{AnswersLine};
+ghost use Rattle.line_server.specs.Outcome.{AnswersLine};
 ghost use Rattle.batch_model.specs.Batch.{IsGoodBatch};
 ghost use Rattle.batch_vm.specs.Batch.{batch_of, AgreesBatch};
 ghost use Rattle.batch_vm.specs.BatchAnswering.{batch_rules};
@@ -10,9 +10,9 @@ ghost use Rattle.batch_vm.specs.BatchAnswering.{batch_rules};
 use crate::batch::Batch;
 use crate::reading::read_batch_call;
 use crate::writing::push_batch_answer;
+use line_server::{Interpreter, push_syntax};
 use page_store::PageStore;
 use script_io::Sink;
-use served::{Interpreter, push_syntax};
 use std::alloc::Global;
 use vm_base::{DATA_BYTES, Failed, KOIDS, PIN_PAGES, TEXT_ROOM};
 

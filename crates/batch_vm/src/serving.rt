@@ -4,14 +4,14 @@ ghost use Rattle.std.specs.Prelude.{◌≡◌, ◌↔◌, None, IfSome, codes};
 ghost use Rattle.script_io.specs.Faults.{HasFailed};
 ghost use Rattle.vm_base.specs.declared.limits.TheConstants.{SCRIPT_BYTES};
 ghost use Rattle.vm_model.specs.Contents.Content.{nothing};
-ghost use Rattle.served.specs.Outcome.{EndsAs};
-ghost use Rattle.served.specs.Words.{frames_asked};
+ghost use Rattle.line_server.specs.Outcome.{EndsAs};
+ghost use Rattle.line_server.specs.Words.{frames_asked};
 ghost use Rattle.batch_vm.specs.BatchAnswering.{batch_rules};
 
 use crate::interpreter::BatchInterpreter;
+use line_server::serve_words;
 use page_store::PageStore;
 use script_io::{Sink, Source, Status};
-use served::serve_words;
 use std::alloc::Global;
 
 /// Runs the script that a source gives on a machine with jobs, and writes the replies to a sink, where `words`, those of the command

@@ -8,9 +8,9 @@ ghost use Rattle.batch_model.specs.BatchLanguage.{batch_reply_lines, batch_text,
 ghost use Rattle.batch_model.specs.BatchLent.{batch_reply_for};
 
 use batch_model::{BatchAnswer, BatchReply};
+use line_server::push_answer;
 use reply_text::{line_count, write_line};
 use script_io::{Sink, push_all};
-use served::push_answer;
 use vm_base::{Failed, TEXT_BYTES, TEXT_ROOM};
 use word_text::{put, put_field};
 

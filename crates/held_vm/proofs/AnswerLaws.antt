@@ -6,8 +6,8 @@ use Rattle.std.specs.Prelude.{nat_le}
 use Rattle.std.proofs.lemmas.List.{length-append}
 use Rattle.script_io.specs.Faults.{HasFailed, HasCause}
 use Rattle.script_io.specs.Memory.{Bounded, bounded_faults}
-use Rattle.served.specs.Answering.{Answering}
-use Rattle.served.specs.Outcome.{AnswersLine}
+use Rattle.line_server.specs.Answering.{Answering}
+use Rattle.line_server.specs.Outcome.{AnswersLine}
 use Rattle.held_vm.specs.Held.{FitsIn, IsLonger}
 
 -- a sink that has failed since it was emptied is full

@@ -3,7 +3,7 @@ use Rattle.std.specs.Prelude.{◌≡◌, ℕ, ◌<◌, ◌≤◌, List, ◌++◌
 use Rattle.vm_model.specs.Contents.Content.{Content}
 use Rattle.vm_model.specs.Machine.Machine.{Machine}
 use Rattle.vm_core.specs.Vm.{Parts, machine_of}
-use Rattle.served.specs.Answering.{Answering}
+use Rattle.line_server.specs.Answering.{Answering}
 use Rattle.held_vm.specs.declared.held.AnswerError.{AnswerError}
 use Rattle.held_vm.specs.declared.held.AnswerError.TheVariants.{OutOfRoom, OutOfMemory, OutOfKoids}
 

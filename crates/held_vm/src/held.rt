@@ -6,9 +6,9 @@ ghost use Rattle.vm_model.specs.Contents.Content.{nothing};
 ghost use Rattle.vm_model.specs.Machine.Machine.{empty_machine};
 ghost use Rattle.held_vm.specs.Held.{held_machine, state_held, Answers};
 
+use line_server::Interpreter;
 use page_store::PageStore;
 use script_io::BoundedSink;
-use served::Interpreter;
 use std::alloc::Global;
 use std::marker::Model;
 use vm_base::{HostMemory, KOIDS};

@@ -11,9 +11,9 @@ use Rattle.script_io.specs.Faults.{HasFailed}
 use Rattle.script_io.specs.Memory.{Bounded, bounded_faults}
 use Rattle.script_io.specs.declared.status.Status.{Status}
 use Rattle.script_io.specs.declared.status.Status.TheVariants.{Done, Usage, ReadFault, WriteFault, ScriptLimit}
-use Rattle.served.specs.Answering.{AnsweringRun}
-use Rattle.served.specs.Outcome.{AnswersPart, BreaksOff, EndsAs}
-use Rattle.served.proofs.RunLaws.{AnsweringRun-more}
+use Rattle.line_server.specs.Answering.{AnsweringRun}
+use Rattle.line_server.specs.Outcome.{AnswersPart, BreaksOff, EndsAs}
+use Rattle.line_server.proofs.RunLaws.{AnsweringRun-more}
 use Rattle.vm_session.specs.Plain.{plain}
 use Rattle.held_vm.proofs.AnswerLaws.{full_by}
 use Rattle.kept_vm.specs.Kept.{IsRun, IsLongRun}

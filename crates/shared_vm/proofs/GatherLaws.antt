@@ -10,11 +10,11 @@ use Rattle.script_io.specs.Reader.{Reader}
 use Rattle.script_io.specs.Fetching.{IsPending, IsFirstLine, Fetches}
 use Rattle.script_io.specs.declared.line_reader.Fetch.TheVariants.{Line, TooLong}
 use Rattle.vm_base.specs.declared.limits.TheConstants.{LINE_BYTES, INPUT_BYTES}
-use Rattle.served.specs.Answering.{AnsweringRun}
-use Rattle.served.specs.Serving.{IsReady, bytes_left}
-use Rattle.served.proofs.Served.{IsAnswered, IsServed-answered}
-use Rattle.served.proofs.Beginning.{fresh, IsPending-fresh}
-use Rattle.served.proofs.Answered.{IsReady-answered, bytes_left-answered}
+use Rattle.line_server.specs.Answering.{AnsweringRun}
+use Rattle.line_server.specs.Serving.{IsReady, bytes_left}
+use Rattle.line_server.proofs.Served.{IsAnswered, IsServed-answered}
+use Rattle.line_server.proofs.Beginning.{fresh, IsPending-fresh}
+use Rattle.line_server.proofs.Answered.{IsReady-answered, bytes_left-answered}
 use Rattle.vm_model.specs.Contents.Content.{nothing}
 use Rattle.shared_vm.specs.declared.task.Task.{Task}
 use Rattle.shared_vm.specs.Tasks.{Lists, no_tasks, task_count, with_task, with_line, with_lines}

@@ -6,7 +6,7 @@ use Rattle.std.specs.Io.KnownBytes.{Appends}
 use Rattle.std.proofs.KnownBytes.{Appends-nil, Appends-trans}
 use Rattle.std.proofs.lemmas.List.{take_all, length-append}
 use Rattle.script_io.specs.Faults.{IsCutOff}
-use Rattle.served.proofs.Writing.{concat_parts}
+use Rattle.line_server.proofs.Writing.{concat_parts}
 use Rattle.shared_vm.specs.inside.Pending.{PassesOn}
 
 -- nothing was added, and nothing pushed

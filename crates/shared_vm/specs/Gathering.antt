@@ -5,9 +5,9 @@ use Rattle.script_io.specs.declared.status.Status.{Status}
 use Rattle.script_io.specs.declared.status.Status.TheVariants.{Done, Usage, HostMemory, ReadFault, WriteFault, ScriptLimit}
 use Rattle.script_io.specs.Reader.{Reader}
 use Rattle.vm_model.specs.Contents.Content.{nothing}
-use Rattle.served.specs.Answering.{Answering}
-use Rattle.served.specs.Outcome.{Completes, StopsReading, ReachesLimit}
-use Rattle.served.specs.Serving.{IsServed}
+use Rattle.line_server.specs.Answering.{Answering}
+use Rattle.line_server.specs.Outcome.{Completes, StopsReading, ReachesLimit}
+use Rattle.line_server.specs.Serving.{IsServed}
 use Rattle.vm_base.specs.declared.limits.TheConstants.{INPUT_BYTES}
 use Rattle.shared_vm.specs.Tasks.{Lists, no_tasks, with_line, lists_of}
 

@@ -7,7 +7,7 @@ use Rattle.script_io.specs.declared.status.Status.TheVariants.{Done, Usage, Host
 use Rattle.script_io.specs.Faults.{IsCutOff}
 use Rattle.vm_model.specs.Contents.Content.{Content, nothing, HasNoVmo}
 use Rattle.vm_model.specs.Machine.Machine.{Machine}
-use Rattle.served.specs.Outcome.{Completes, StopsReading, ReachesLimit}
+use Rattle.line_server.specs.Outcome.{Completes, StopsReading, ReachesLimit}
 use Rattle.vm_base.specs.declared.limits.TheConstants.{INPUT_BYTES}
 use Rattle.shared_vm.specs.declared.task.Deed.{Deed}
 use Rattle.shared_vm.specs.Tasks.{lists_of}

@@ -9,7 +9,7 @@
 //! `Journal`: whole, or as notes with the data of all replies in one place.
 //!
 //! It stands on `vm_core` for the machine, on `page_store` for the store, on `script_io`, `script_text` and `reply_text` for
-//! lines and replies, and on `served` for the words of the command line. `Scripts` and `Room` know nothing of threads. The
+//! lines and replies, and on `line_server` for the words of the command line. `Scripts` and `Room` know nothing of threads. The
 //! program above calls `run_actors`.
 #![tactic(auto)]
 

@@ -2,7 +2,7 @@
 
 ghost use Rattle.std.specs.Prelude.{◌≡◌, ◌≢◌, ◌+◌, ◌^◌, ◌<◌, ◌≤◌, List, Option, ℕ, IfNone, MatchOption, MatchResult, Some, OnErr, IfOk, IfErr, Err};
 ghost use Rattle.script_io.specs.Faults.{HasFailed};
-ghost use Rattle.served.specs.Serving.{IsReady, bytes_left};
+ghost use Rattle.line_server.specs.Serving.{IsReady, bytes_left};
 ghost use Rattle.shared_vm.specs.Gathering.{EndsReading, Gathers, GathersAs, IsGathered, lists_or_status};
 ghost use Rattle.script_io.specs.Ending.{memory_failure};
 ghost use Rattle.shared_vm.specs.Tasks.{task_count};

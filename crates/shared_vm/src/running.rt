@@ -4,7 +4,7 @@ ghost use Rattle.std.specs.Prelude.{◌≡◌, ◌≢◌, ◌↔◌, ◌≤◌, 
 ghost use Rattle.script_io.specs.Faults.{HasFailed};
 ghost use Rattle.vm_base.specs.declared.limits.TheConstants.{FRAMES};
 ghost use Rattle.vm_model.specs.Contents.Content.{nothing};
-ghost use Rattle.served.specs.Words.{frames_asked};
+ghost use Rattle.line_server.specs.Words.{frames_asked};
 ghost use Rattle.shared_vm.specs.Outcome.{ActorsEndAs};
 ghost use Rattle.script_io.specs.Ending.{status_of_writing};
 
@@ -13,9 +13,9 @@ use crate::gate::Gate;
 use crate::reading::read_input;
 use crate::room::Room;
 use crate::writing::push_journal;
+use line_server::frames_asked;
 use page_store::PageStore;
 use script_io::{Sink, Source, Status};
-use served::frames_asked;
 use std::alloc::Global;
 use std::sync::Wait;
 use std::thread::Threads;

@@ -8,9 +8,9 @@ use Rattle.vm_model.specs.declared.reply.Reply.{Reply}
 use Rattle.vm_model.specs.Contents.Content.{Content, Page, nothing, IsGood}
 use Rattle.vm_model.specs.Language.Text.{text}
 use Rattle.vm_model.proofs.LeavingLaws.{page_none}
-use Rattle.served.specs.Answering.{syntax_text}
-use Rattle.served.specs.Outcome.{AnswersLine}
-use Rattle.served.proofs.Answered.{written_or_cut}
+use Rattle.line_server.specs.Answering.{syntax_text}
+use Rattle.line_server.specs.Outcome.{AnswersLine}
+use Rattle.line_server.proofs.Answered.{written_or_cut}
 use Rattle.source_model.specs.declared.backing.Backing.{Backing}
 use Rattle.source_model.specs.declared.command.SourceCommand.{SourceCommand}
 use Rattle.source_model.specs.Sources.{backing_text}

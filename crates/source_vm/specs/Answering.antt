@@ -6,7 +6,7 @@ use Rattle.vm_base.specs.declared.limits.TheConstants.{LINE_BYTES}
 use Rattle.vm_model.specs.declared.reply.Reply.{Reply}
 use Rattle.vm_model.specs.Language.Reading.{words}
 use Rattle.vm_model.specs.Language.Text.{text}
-use Rattle.served.specs.Answering.{Answering, syntax_text}
+use Rattle.line_server.specs.Answering.{Answering, syntax_text}
 use Rattle.source_model.specs.State.{SourceState, empty_sources}
 use Rattle.source_model.specs.Commands.{SourceStep}
 use Rattle.source_model.specs.Good.{IsGoodSources}

@@ -3,7 +3,7 @@
 ghost use Rattle.std.specs.Prelude.{◌≡◌, ◌+◌, ◌≤◌, ◌<◌, ℕ, [], ◌∷◌, map, None};
 ghost use Rattle.script_io.specs.Faults.{HasCause};
 ghost use Rattle.vm_model.specs.Contents.Content.{Content, IsGood};
-ghost use Rattle.served.specs.Outcome.{AnswersLine};
+ghost use Rattle.line_server.specs.Outcome.{AnswersLine};
 ghost use Rattle.source_vm.specs.Answering.{source_rules};
 ghost use Rattle.source_model.specs.State.{empty_sources};
 ghost use Rattle.source_vm.specs.Table.{SourcesAgree, source_state_of};
@@ -11,9 +11,9 @@ ghost use Rattle.source_vm.specs.Table.{SourcesAgree, source_state_of};
 use crate::reading::read_source_call;
 use crate::source_fn::SourceFn;
 use crate::vm::SourceVm;
+use line_server::{Interpreter, push_answer, push_syntax};
 use page_store::PageStore;
 use script_io::Sink;
-use served::{Interpreter, push_answer, push_syntax};
 use std::alloc::Global;
 use vm_base::{DATA_BYTES, Failed, KOIDS, TEXT_ROOM};
 

@@ -4,7 +4,7 @@
 //!
 //! `SourceVm` is the machine, over any store of pages: `step` does a `SourceCommand`, and `answer` a `SourceCall`. `read_source_line`
 //! reads a line of a script, and `run_sources` runs one. It stands on `source_model` for the commands and the definitions of the step,
-//! on `page_store` for the store, on `pair_map` for its tables, on `script_text` for the fields of a line, and on `served` for the loop
+//! on `page_store` for the store, on `pair_map` for its tables, on `script_text` for the fields of a line, and on `line_server` for the loop
 //! over lines. It keeps no text: reads walk up the links, from loose children to the page whose bytes they show (`walk`).
 #![tactic(auto)]
 

@@ -4,20 +4,20 @@ ghost use Rattle.std.specs.Prelude.{◌≡◌, ◌↔◌, [], ◌∷◌, map, No
 ghost use Rattle.script_io.specs.Faults.{HasFailed};
 ghost use Rattle.vm_base.specs.declared.limits.TheConstants.{SCRIPT_BYTES};
 ghost use Rattle.vm_model.specs.Contents.Content.{nothing};
-ghost use Rattle.served.specs.Outcome.{EndsAs};
-ghost use Rattle.served.specs.Words.{frames_asked};
+ghost use Rattle.line_server.specs.Outcome.{EndsAs};
+ghost use Rattle.line_server.specs.Words.{frames_asked};
 ghost use Rattle.source_vm.specs.Answering.{source_rules};
 
 use crate::interpreter::new_interpreter;
 use crate::source_fn::SourceFn;
+use line_server::serve_words;
 use page_store::PageStore;
 use script_io::{Sink, Source, Status};
-use served::serve_words;
 use std::alloc::Global;
 
 /// Runs the script that a source gives on a machine of page sources, and writes the replies to a sink, if `words`, those of the
 /// command line behind the program's name, are `sources`, or `sources --frames N`. The lines are served as by `serve_words` of
-/// `served`. The machine has `DEFAULT_FRAMES` page frames, or as many as N says, with one to five digits from 1 to `FRAMES`.
+/// `line_server`. The machine has `DEFAULT_FRAMES` page frames, or as many as N says, with one to five digits from 1 to `FRAMES`.
 /// Function i of the three gives the bytes of sources of kind i.
 ///
 /// `HostMemory` if the host has too little memory for the buffers and the frames. `ScriptLimit` if the source gives more than

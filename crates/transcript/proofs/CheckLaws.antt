@@ -16,10 +16,10 @@ use Rattle.vm_model.specs.Language.Text.{reply_lines, run_line}
 use Rattle.vm_model.specs.Machine.State.{empty_state}
 use Rattle.vm_model.specs.Machine.Machine.{Machine, empty_machine}
 use Rattle.vm_model.proofs.MachineLaws.{IsGoodMachine-empty}
-use Rattle.moving_machine.specs.Transcript.{Told, Asked, Answered, told, IsWhole, MayBegin, AllTold, AreWhole}
-use Rattle.moving_machine.specs.Following.{MayAnswer}
-use Rattle.moving_machine.proofs.FollowingLaws.{follows_begin, follows_blank, seen_begin, none_due}
-use Rattle.eager_machine.specs.Machine.{eager_machine_of}
+use Rattle.moving_model.specs.Transcript.{Told, Asked, Answered, told, IsWhole, MayBegin, AllTold, AreWhole}
+use Rattle.moving_model.specs.Following.{MayAnswer}
+use Rattle.moving_model.proofs.FollowingLaws.{follows_begin, follows_blank, seen_begin, none_due}
+use Rattle.checker_machine.specs.Machine.{checker_machine_of}
 use Rattle.transcript.specs.declared.answering.Own.{Own}
 use Rattle.transcript.specs.declared.answering.Heard.{Heard}
 use Rattle.transcript.specs.declared.answering.Heard.TheVariants.{Begins, Never}
@@ -188,14 +188,14 @@ at_from frames checker tells p some few are filled phase size told_in = record {
 }
 
 -- the frames were taken
-pub filled_at : (frames : ℕ) (old : Checker) (tells : List Told) (own : Own) → IsAt frames old tells → old.filled ≡ false → eager_machine_of own.machine ≡ empty_machine old.frames → own.numbers ≡ replicate old.frames None
+pub filled_at : (frames : ℕ) (old : Checker) (tells : List Told) (own : Own) → IsAt frames old tells → old.filled ≡ false → checker_machine_of own.machine ≡ empty_machine old.frames → own.numbers ≡ replicate old.frames None
     → IsAt frames (record old { filled = true; own = own }) tells
 filled_at frames old tells own is off machine numbers =
     let h : HasTold false frames old tells = subst (λ (b : Bool). HasTold b frames old tells) off is.has_told in
     let seen : number_seen own.numbers ≡ (λ t. None) = ap number_seen numbers ∙ (λ i t. number_seen-empty old.frames t i) in
-    let stands = fresh_stands frames (eager_machine_of own.machine) (number_seen own.numbers) (machine ∙ ap empty_machine is.frames_are) seen in
+    let stands = fresh_stands frames (checker_machine_of own.machine) (number_seen own.numbers) (machine ∙ ap empty_machine is.frames_are) seen in
     at_from frames (record old { filled = true; own = own }) tells Idle is.some is.few is.frames_are refl h.2 (ap (λ (xs : List (Option ℕ)). length xs) numbers ∙ (length-replicate old.frames None ∙ is.frames_are))
-    (subst (λ (ts : List Told). Stands frames (eager_machine_of own.machine) (number_seen own.numbers) ts) (sym h.0) stands)
+    (subst (λ (ts : List Told). Stands frames (checker_machine_of own.machine) (number_seen own.numbers) ts) (sym h.0) stands)
 
 -- a line that says nothing
 pub blank_at : (frames : ℕ) (old : Checker) (tells : List Told) (script : List ℕ) → IsAt frames old tells → old.filled ≡ true → old.phase ≡ Idle → reading script ≡ Blank
@@ -203,11 +203,11 @@ pub blank_at : (frames : ℕ) (old : Checker) (tells : List Told) (script : List
 blank_at frames old tells script is filled phase e =
     let h = in_phase frames old tells Idle is filled phase in
     at_from frames old (tells ++ Asked script ∷ []) Idle is.some is.few is.frames_are filled phase h.0
-    (blank_stands frames (eager_machine_of old.own.machine) (number_seen old.own.numbers) tells script h.1 e)
+    (blank_stands frames (checker_machine_of old.own.machine) (number_seen old.own.numbers) tells script h.1 e)
 
 -- the first line of runs
 pub begins_at : (frames : ℕ) (old : Own) (checker : Checker) (runs : List Run) (tells : List Told) (line : List ℕ) (heard : Heard) → heard ≡ Begins runs → 1 ≤ frames → frames ≤ FRAMES → checker.frames ≡ frames → checker.filled ≡ true
-    → (due : IsDue frames (eager_machine_of old.machine) (number_seen old.numbers) checker.pending.items tells) → IsHeard frames old checker.own checker.pending.items due.before line heard
+    → (due : IsDue frames (checker_machine_of old.machine) (number_seen old.numbers) checker.pending.items tells) → IsHeard frames old checker.own checker.pending.items due.before line heard
     → IsAt frames (record checker { phase = Listing; listed = Answer.Runs runs; count = 1 }) (tells ++ Answered line ∷ [])
 begins_at frames old checker runs tells line heard e some few are filled due heard_so =
     let h : IsHeard frames old checker.own checker.pending.items due.before line (Begins runs) = subst (IsHeard frames old checker.own checker.pending.items due.before line) e heard_so in
@@ -224,12 +224,12 @@ begins_at frames old checker runs tells line heard e some few are filled due hea
     })
 
 -- a line that never comes
-pub never_at : (frames : ℕ) (old new : Own) (pending : List ℕ) (tells : List Told) (line : List ℕ) (heard : Heard) → heard ≡ Never → (due : IsDue frames (eager_machine_of old.machine) (number_seen old.numbers) pending tells)
+pub never_at : (frames : ℕ) (old new : Own) (pending : List ℕ) (tells : List Told) (line : List ℕ) (heard : Heard) → heard ≡ Never → (due : IsDue frames (checker_machine_of old.machine) (number_seen old.numbers) pending tells)
     → IsHeard frames old new pending due.before line heard → MayBegin frames (tells ++ Answered line ∷ []) → ⊥
 never_at frames old new pending tells line heard e due heard_so begins =
     let h : IsHeard frames old new pending due.before line Never = subst (IsHeard frames old new pending due.before line) e heard_so in
-    let next = due_never frames (eager_machine_of old.machine) (number_seen old.numbers) pending tells (Answered line) due begins in
-    h (subst (λ (l : List ℕ). MayAnswer (eager_machine_of old.machine) (number_seen old.numbers) pending l) (sym (answered_same next.1)) next.2)
+    let next = due_never frames (checker_machine_of old.machine) (number_seen old.numbers) pending tells (Answered line) due begins in
+    h (subst (λ (l : List ℕ). MayAnswer (checker_machine_of old.machine) (number_seen old.numbers) pending l) (sym (answered_same next.1)) next.2)
 
 -- ---- a reply of which a part was told
 
@@ -273,7 +273,7 @@ listed_ends frames checker rooms tells line lines is filled phase at n last =
     let whole = take_end (reply_lines (reply_for checker.listed)) (checker.count + 1) (last ∙ n) in
     let told_all = told_next h.1.before checker.pending.items (reply_lines (reply_for checker.listed)) checker.count line tells h.1.is at in
     at_from frames (record checker { phase = Idle; count = checker.count + 1; rooms = rooms }) (tells ++ Answered line ∷ []) Idle is.some is.few is.frames_are filled refl h.0
-    (subst (λ (ts : List Told). Stands frames (eager_machine_of checker.own.machine) (number_seen checker.own.numbers) ts)
+    (subst (λ (ts : List Told). Stands frames (checker_machine_of checker.own.machine) (number_seen checker.own.numbers) ts)
     (sym (told_all ∙ ap (λ (ls : List (List ℕ)). h.1.before ++ Asked checker.pending.items ∷ map Answered ls) whole)) h.1.answered.ends)
 
 pub listed_goes : (frames : ℕ) (checker : Checker) (rooms : Rooms) (tells : List Told) (line : List ℕ) (lines : ℕ) → IsAt frames checker tells → checker.filled ≡ true → checker.phase ≡ Listing
@@ -299,7 +299,7 @@ idle_whole frames checker lines read phase = go checker.filled refl read.is_at.h
   go : (b : Bool) → checker.filled ≡ b → HasTold b frames checker read.tells → AreWhole frames lines
   go false e h = whole_from frames lines read.tells read.told_are (empty_machine frames) (subst (λ (ts : List Told). IsWhole frames ts (empty_machine frames)) (sym h.0) (empty_whole frames))
   go true e h =
-      let stands : Stands frames (eager_machine_of checker.own.machine) (number_seen checker.own.numbers) read.tells = subst (λ (q : Phase). IsIn q frames checker read.tells) phase h.1 in
+      let stands : Stands frames (checker_machine_of checker.own.machine) (number_seen checker.own.numbers) read.tells = subst (λ (q : Phase). IsIn q frames checker read.tells) phase h.1 in
       whole_from frames lines read.tells read.told_are stands.follows.some.0 (stands.follows.reach stands.follows.some.0 stands.follows.some.1)
 
 pub due_part : (frames : ℕ) (checker : Checker) (lines : List (List ℕ)) → HasRead frames checker lines → checker.phase ≡ Due → AreWhole frames lines → ⊥
@@ -307,7 +307,7 @@ due_part frames checker lines read phase whole = go checker.filled refl read.is_
   go : (b : Bool) → checker.filled ≡ b → HasTold b frames checker read.tells → ⊥
   go false e h = absurd (let both = sym phase ∙ h.2 in cc)
   go true e h =
-      let due : IsDue frames (eager_machine_of checker.own.machine) (number_seen checker.own.numbers) checker.pending.items read.tells = subst (λ (q : Phase). IsIn q frames checker read.tells) phase h.1 in
+      let due : IsDue frames (checker_machine_of checker.own.machine) (number_seen checker.own.numbers) checker.pending.items read.tells = subst (λ (q : Phase). IsIn q frames checker read.tells) phase h.1 in
       let all = is_whole frames lines read.tells read.told_are whole in
       let next = due_next frames _ _ due.before checker.pending.items [] all.0 due.stands.follows due.asks
       (subst (λ (ts : List Told). IsWhole frames ts all.0) (due.is ∙ sym (append-nil (due.before ++ Asked checker.pending.items ∷ []))) all.1) in
@@ -318,7 +318,7 @@ listing_part frames checker lines read phase whole = go checker.filled refl read
   go : (b : Bool) → checker.filled ≡ b → HasTold b frames checker read.tells → ⊥
   go false e h = absurd (let both = sym phase ∙ h.2 in cc)
   go true e h =
-      let listing : IsListing frames (eager_machine_of checker.own.machine) (number_seen checker.own.numbers) checker.pending.items (reply_for checker.listed) checker.count read.tells = subst (λ (q : Phase). IsIn q frames checker read.tells) phase h.1 in
+      let listing : IsListing frames (checker_machine_of checker.own.machine) (number_seen checker.own.numbers) checker.pending.items (reply_for checker.listed) checker.count read.tells = subst (λ (q : Phase). IsIn q frames checker read.tells) phase h.1 in
       let all = is_whole frames lines read.tells read.told_are whole in
       let next = listing_next frames _ _ checker.pending.items (reply_for checker.listed) checker.count read.tells listing [] all.0 (subst (λ (ts : List Told). IsWhole frames ts all.0) (sym (append-nil read.tells)) all.1) in
       absurd (let none = next.4 in cc)

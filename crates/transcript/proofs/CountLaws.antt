@@ -3,7 +3,7 @@ use Rattle.std.proofs.Common.{◌≡◌, ℕ, ◌+◌, ◌<◌, ◌≤◌, ◌^�
 use Rattle.std.proofs.lemmas.Bool.{cond-true, lt-ltb}
 use Rattle.std.proofs.lemmas.List.{length-append}
 use Rattle.vm_base.specs.declared.limits.TheConstants.{LINE_BYTES}
-use Rattle.moving_machine.specs.Transcript.{Told, Asked, Answered, told, told_by, AreWhole}
+use Rattle.moving_model.specs.Transcript.{Told, Asked, Answered, told, told_by, AreWhole}
 use Rattle.transcript.specs.declared.checker.Checker.{Checker}
 use Rattle.transcript.specs.declared.verdict.Verdict.{Verdict}
 use Rattle.transcript.specs.declared.verdict.Verdict.TheVariants.{Illegal as IllegalLine, Malformed as MalformedLine}

@@ -28,21 +28,21 @@ use Rattle.vm_model.specs.Machine.Refusals.{refusals, first_of}
 use Rattle.vm_model.specs.Machine.Machine.{Machine, IsGoodMachine}
 use Rattle.vm_model.specs.Machine.MachineStep.{MachineEffect, MachineStepAfter, MachineStep, may_want_memory}
 use Rattle.vm_model.proofs.MachineLaws.{MachineStep-keeps}
-use Rattle.moving_machine.specs.Moving.{MovingStep, TellsNoFrames, tells_place}
-use Rattle.moving_machine.specs.Transcript.{Told, Asked, Answered}
-use Rattle.moving_machine.specs.Standing.{AreLeft, with_seen, may_tell, Fits}
-use Rattle.moving_machine.specs.Following.{Follows, MayAnswer, first_line}
-use Rattle.moving_machine.proofs.ReadingLaws.{reading_gives}
-use Rattle.moving_machine.proofs.HostLaws.{lack_only, lack_may}
-use Rattle.moving_machine.proofs.PlaceLaws.{address_text}
-use Rattle.moving_machine.proofs.PinTextLaws.{pin_cases, pins_text}
-use Rattle.moving_machine.proofs.FitLaws.{fits_from, tell_from}
-use Rattle.moving_machine.proofs.ReplyTextLaws.{refused_text}
-use Rattle.moving_machine.proofs.StandingPinLaws.{pins_same, pins_seen}
-use Rattle.moving_machine.proofs.RowLaws.{all_map, all_over}
-use Rattle.moving_machine.proofs.NumberLaws.{to_below}
-use Rattle.moving_machine.proofs.FollowingLaws.{follows_outside, follows_refused, follows_pinned}
-use Rattle.eager_machine.specs.Machine.{eager_machine_of}
+use Rattle.moving_model.specs.Moving.{MovingStep, TellsNoFrames, tells_place}
+use Rattle.moving_model.specs.Transcript.{Told, Asked, Answered}
+use Rattle.moving_model.specs.Standing.{AreLeft, with_seen, may_tell, Fits}
+use Rattle.moving_model.specs.Following.{Follows, MayAnswer, first_line}
+use Rattle.moving_model.proofs.ReadingLaws.{reading_gives}
+use Rattle.moving_model.proofs.HostLaws.{lack_only, lack_may}
+use Rattle.moving_model.proofs.PlaceLaws.{address_text}
+use Rattle.moving_model.proofs.PinTextLaws.{pin_cases, pins_text}
+use Rattle.moving_model.proofs.FitLaws.{fits_from, tell_from}
+use Rattle.moving_model.proofs.ReplyTextLaws.{refused_text}
+use Rattle.moving_model.proofs.StandingPinLaws.{pins_same, pins_seen}
+use Rattle.moving_model.proofs.RowLaws.{all_map, all_over}
+use Rattle.moving_model.proofs.NumberLaws.{to_below}
+use Rattle.moving_model.proofs.FollowingLaws.{follows_outside, follows_refused, follows_pinned}
+use Rattle.checker_machine.specs.Machine.{checker_machine_of}
 use Rattle.transcript.specs.declared.answering.Heard.{Heard}
 use Rattle.transcript.specs.declared.answering.Heard.TheVariants.{Ends, Begins, Never}
 use Rattle.transcript.specs.declared.answering.Own.{Own}
@@ -324,71 +324,71 @@ step_for old new command answer other e step = subst (λ (a : Answer). MachineSt
 -- ---- what was heard
 
 pub pins_heard : (frames : ℕ) (old new : Own) (pending : List ℕ) (before : List Told) (line : List ℕ) (command : Command) (mine : List ℕ) (r : Bool) (heard : Heard) → OwnStands frames old before
-    → reading pending ≡ Order command → MachineStep (eager_machine_of old.machine) command (Pins mine) (eager_machine_of new.machine) → length mine ≤ PIN_PAGES → line ≢ first_line (Refused HostMemory)
+    → reading pending ≡ Order command → MachineStep (checker_machine_of old.machine) command (Pins mine) (checker_machine_of new.machine) → length mine ≤ PIN_PAGES → line ≢ first_line (Refused HostMemory)
     → AreHeard (length old.numbers) (number_seen old.numbers) (number_seen new.numbers) mine line r → length new.numbers ≡ length old.numbers → heard ≡ cond r Ends Never
     → IsHeard frames old new pending before line heard
 pins_heard frames old new pending before line command mine true heard stands e step short apart are len is =
     subst (IsHeard frames old new pending before line) (sym is) (record {
-      stands = subst (λ (numbers : ℕ → Option ℕ). Stands frames (eager_machine_of new.machine) numbers (before ++ Asked pending ∷ Answered line ∷ [])) (sym are.3)
-          (pins_stand frames (eager_machine_of old.machine) (number_seen old.numbers) before pending command stands.stands e (eager_machine_of new.machine) mine are.0 line stands.few step are.1
+      stands = subst (λ (numbers : ℕ → Option ℕ). Stands frames (checker_machine_of new.machine) numbers (before ++ Asked pending ∷ Answered line ∷ [])) (sym are.3)
+          (pins_stand frames (checker_machine_of old.machine) (number_seen old.numbers) before pending command stands.stands e (checker_machine_of new.machine) mine are.0 line stands.few step are.1
           (subst (λ (n : ℕ). may_tell n (number_seen old.numbers) mine are.0 ≡ true) stands.size are.2));
       size = len ∙ stands.size;
       few = stands.few;
     })
 pins_heard frames old new pending before line command mine false heard stands e step short apart are len is =
-    subst (IsHeard frames old new pending before line) (sym is) (pins_never frames (eager_machine_of old.machine) (number_seen old.numbers) before pending command stands.stands e (eager_machine_of new.machine) mine line stands.few short apart step
+    subst (IsHeard frames old new pending before line) (sym is) (pins_never frames (checker_machine_of old.machine) (number_seen old.numbers) before pending command stands.stands e (checker_machine_of new.machine) mine line stands.few short apart step
     (λ ks few wide f. subst (λ (n : ℕ). may_tell n (number_seen old.numbers) mine ks ≡ false) stands.size (are ks few wide f)))
 
-pub pins_bound : (frames : ℕ) (old : Own) (next : Machine) (before : List Told) (command : Command) (mine : List ℕ) → OwnStands frames old before → GivesName command → MachineStep (eager_machine_of old.machine) command (Pins mine) next
+pub pins_bound : (frames : ℕ) (old : Own) (next : Machine) (before : List Told) (command : Command) (mine : List ℕ) → OwnStands frames old before → GivesName command → MachineStep (checker_machine_of old.machine) command (Pins mine) next
     → AllByRecursion (λ t. t < length old.numbers) mine
 pins_bound frames old next before command mine stands gives step =
-    subst (λ (n : ℕ). AllByRecursion (λ t. t < n) mine) (stands.stands.frames_are ∙ sym stands.size) (pins_low (eager_machine_of old.machine) next command mine stands.stands.good gives step)
+    subst (λ (n : ℕ). AllByRecursion (λ t. t < n) mine) (stands.stands.frames_are ∙ sym stands.size) (pins_low (checker_machine_of old.machine) next command mine stands.stands.good gives step)
 
 pub reply_heard : (frames : ℕ) (old new : Own) (pending : List ℕ) (before : List Told) (line : List ℕ) (command : Command) (reply : Reply) (told : ℕ) (freed : List ℕ) (heard : Heard) → OwnStands frames old before
-    → reading pending ≡ Order command → TellsNoFrames reply → reply ≢ Refused HostMemory → MachineStep (eager_machine_of old.machine) command reply (eager_machine_of new.machine) → line ≢ first_line (Refused HostMemory)
+    → reading pending ≡ Order command → TellsNoFrames reply → reply ≢ Refused HostMemory → MachineStep (checker_machine_of old.machine) command reply (checker_machine_of new.machine) → line ≢ first_line (Refused HostMemory)
     → ((a : ℕ) → a < 2 ^ 64 → first_line (Address a) ≡ line → told ≡ a) → (tells_place command ≡ true → (a : ℕ) → reply ≡ Address a → a ≡ told)
-    → Frees (eager_machine_of old.machine) command freed → IsCleared (eager_machine_of new.machine) (number_seen old.numbers) (number_seen new.numbers) freed → length new.numbers ≡ length old.numbers
+    → Frees (checker_machine_of old.machine) command freed → IsCleared (checker_machine_of new.machine) (number_seen old.numbers) (number_seen new.numbers) freed → length new.numbers ≡ length old.numbers
     → Hears reply line heard → IsHeard frames old new pending before line heard
 reply_heard frames old new pending before line command reply told freed Ends stands e none host step apart is_told there frees cleared len hears = record {
-  stands = reply_stands frames (eager_machine_of old.machine) (number_seen old.numbers) before pending command stands.stands e (eager_machine_of new.machine) (number_seen new.numbers) reply line none host step
-      (left_cleared (eager_machine_of old.machine) (eager_machine_of new.machine) command reply (number_seen old.numbers) (number_seen new.numbers) freed stands.stands.good none step stands.stands.seen frees cleared) hears;
+  stands = reply_stands frames (checker_machine_of old.machine) (number_seen old.numbers) before pending command stands.stands e (checker_machine_of new.machine) (number_seen new.numbers) reply line none host step
+      (left_cleared (checker_machine_of old.machine) (checker_machine_of new.machine) command reply (number_seen old.numbers) (number_seen new.numbers) freed stands.stands.good none step stands.stands.seen frees cleared) hears;
   size = len ∙ stands.size;
   few = stands.few;
 }
 reply_heard frames old new pending before line command reply told freed (Begins runs) stands e none host step apart is_told there frees cleared len hears = (
-  runs_stand frames (eager_machine_of old.machine) (number_seen old.numbers) before pending command stands.stands e (eager_machine_of new.machine) (number_seen new.numbers) reply runs hears.0 step
-      (left_cleared (eager_machine_of old.machine) (eager_machine_of new.machine) command reply (number_seen old.numbers) (number_seen new.numbers) freed stands.stands.good none step stands.stands.seen frees cleared),
+  runs_stand frames (checker_machine_of old.machine) (number_seen old.numbers) before pending command stands.stands e (checker_machine_of new.machine) (number_seen new.numbers) reply runs hears.0 step
+      (left_cleared (checker_machine_of old.machine) (checker_machine_of new.machine) command reply (number_seen old.numbers) (number_seen new.numbers) freed stands.stands.good none step stands.stands.seen frees cleared),
   ap first_line (sym hears.0) ∙ hears.1,
   hears.2,
   len ∙ stands.size,
 )
 reply_heard frames old new pending before line command reply told freed Never stands e none host step apart is_told there frees cleared len hears =
-    reply_never frames (eager_machine_of old.machine) (number_seen old.numbers) before pending command stands.stands e (eager_machine_of new.machine) reply line told apart none host step is_told there hears
+    reply_never frames (checker_machine_of old.machine) (number_seen old.numbers) before pending command stands.stands e (checker_machine_of new.machine) reply line told apart none host step is_told there hears
 
 pub host_heard : (frames : ℕ) (old : Own) (pending : List ℕ) (before : List Told) (line : List ℕ) (command : Command) (r : Bool) (heard : Heard) → OwnStands frames old before → reading pending ≡ Order command
-    → line ≡ codes "HOST_MEMORY" → r ≡ (not (is_some (first_of (refusals (eager_machine_of old.machine).state command))) && may_want_memory (eager_machine_of old.machine) command) → heard ≡ cond r Ends Never
+    → line ≡ codes "HOST_MEMORY" → r ≡ (not (is_some (first_of (refusals (checker_machine_of old.machine).state command))) && may_want_memory (checker_machine_of old.machine) command) → heard ≡ cond r Ends Never
     → IsHeard frames old old pending before (line ++ codes "\n") heard
 host_heard frames old pending before line command true heard stands e text may is =
-    let parts = and_parts (not (is_some (first_of (refusals (eager_machine_of old.machine).state command)))) (may_want_memory (eager_machine_of old.machine) command) (sym may) in
-    let none = none_is (first_of (refusals (eager_machine_of old.machine).state command)) (not-true _ parts.0) in
+    let parts = and_parts (not (is_some (first_of (refusals (checker_machine_of old.machine).state command)))) (may_want_memory (checker_machine_of old.machine) command) (sym may) in
+    let none = none_is (first_of (refusals (checker_machine_of old.machine).state command)) (not-true _ parts.0) in
     subst (IsHeard frames old old pending before (line ++ codes "\n")) (sym is) (subst (λ (l : List ℕ). OwnStands frames old (before ++ Asked pending ∷ Answered (l ++ codes "\n") ∷ [])) (sym text) (record {
-      stands = host_stands frames (eager_machine_of old.machine) (number_seen old.numbers) before pending command stands.stands e none parts.1;
+      stands = host_stands frames (checker_machine_of old.machine) (number_seen old.numbers) before pending command stands.stands e none parts.1;
       size = stands.size;
       few = stands.few;
     }))
 host_heard frames old pending before line command false heard stands e text may is =
-    subst (IsHeard frames old old pending before (line ++ codes "\n")) (sym is) (λ answers. host_never frames (eager_machine_of old.machine) (number_seen old.numbers) before pending command stands.stands e false may refl
-    (subst (λ (l : List ℕ). MayAnswer (eager_machine_of old.machine) (number_seen old.numbers) pending (l ++ codes "\n")) text answers))
+    subst (IsHeard frames old old pending before (line ++ codes "\n")) (sym is) (λ answers. host_never frames (checker_machine_of old.machine) (number_seen old.numbers) before pending command stands.stands e false may refl
+    (subst (λ (l : List ℕ). MayAnswer (checker_machine_of old.machine) (number_seen old.numbers) pending (l ++ codes "\n")) text answers))
 
 pub outside_heard : (frames : ℕ) (old : Own) (pending : List ℕ) (before : List Told) (line : List ℕ) (r : Bool) (heard : Heard) → OwnStands frames old before → reading pending ≡ Outside
     → r ≡ pointwise eqb line (codes "SYNTAX") → heard ≡ cond r Ends Never → IsHeard frames old old pending before (line ++ codes "\n") heard
 outside_heard frames old pending before line true heard stands e eq is =
     let text = (same_text line (codes "SYNTAX") true eq).0 refl in
     subst (IsHeard frames old old pending before (line ++ codes "\n")) (sym is) (subst (λ (l : List ℕ). OwnStands frames old (before ++ Asked pending ∷ Answered (l ++ codes "\n") ∷ [])) (sym text) (record {
-      stands = outside_stands frames (eager_machine_of old.machine) (number_seen old.numbers) before pending stands.stands e;
+      stands = outside_stands frames (checker_machine_of old.machine) (number_seen old.numbers) before pending stands.stands e;
       size = stands.size;
       few = stands.few;
     }))
 outside_heard frames old pending before line false heard stands e eq is =
     let apart : line ≢ codes "SYNTAX" = λ same. absurd (let on = (same_text line (codes "SYNTAX") false eq).1 same in cc) in
-    subst (IsHeard frames old old pending before (line ++ codes "\n")) (sym is) (outside_never (eager_machine_of old.machine) (number_seen old.numbers) pending line e apart)
+    subst (IsHeard frames old old pending before (line ++ codes "\n")) (sym is) (outside_never (checker_machine_of old.machine) (number_seen old.numbers) pending line e apart)

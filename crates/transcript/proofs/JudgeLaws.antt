@@ -19,23 +19,23 @@ use Rattle.vm_model.specs.Machine.Refusals.{refusals, first_of}
 use Rattle.vm_model.specs.Machine.Machine.{Machine, IsGoodMachine}
 use Rattle.vm_model.specs.Machine.MachineStep.{MachineStepAfter, MachineStep}
 use Rattle.vm_model.proofs.MachineLaws.{MachineStep-keeps}
-use Rattle.moving_machine.specs.Renaming.{KeepsFrom, machine_renamed, reply_renamed}
-use Rattle.moving_machine.specs.Moving.{MovingStep, MovingGivesAs, TellsNoFrames, tells_choice, tells_place}
-use Rattle.moving_machine.specs.Transcript.{Told, Asked, Answered}
-use Rattle.moving_machine.specs.Standing.{StandsFor, AreLeft, Fits}
-use Rattle.moving_machine.specs.Following.{Follows, MayAnswer, first_line}
-use Rattle.moving_machine.proofs.NumberLaws.{back_keeps}
-use Rattle.moving_machine.proofs.GoodLaws.{IsGoodMachine-renamed}
-use Rattle.moving_machine.proofs.StepLaws.{MachineStep-renamed}
-use Rattle.moving_machine.proofs.RunLaws.{undone, machine-undone, told_alike}
-use Rattle.moving_machine.proofs.OutcomeLaws.{one_reply, not_refused}
-use Rattle.moving_machine.proofs.ReadingLaws.{reading_gives}
-use Rattle.moving_machine.proofs.ReplyTextLaws.{refused_text}
-use Rattle.moving_machine.proofs.PinTextLaws.{pin_cases}
-use Rattle.moving_machine.proofs.PlaceLaws.{place_cases, moving_address}
-use Rattle.moving_machine.proofs.StandingLaws.{other_step, seen_left}
-use Rattle.moving_machine.proofs.StandingPinLaws.{pins_forth}
-use Rattle.moving_machine.proofs.FollowingLaws.{follows_plain, follows_refused, follows_placed, follows_left}
+use Rattle.moving_model.specs.Renaming.{KeepsFrom, machine_renamed, reply_renamed}
+use Rattle.moving_model.specs.Moving.{MovingStep, MovingGivesAs, TellsNoFrames, tells_choice, tells_place}
+use Rattle.moving_model.specs.Transcript.{Told, Asked, Answered}
+use Rattle.moving_model.specs.Standing.{StandsFor, AreLeft, Fits}
+use Rattle.moving_model.specs.Following.{Follows, MayAnswer, first_line}
+use Rattle.moving_model.proofs.NumberLaws.{back_keeps}
+use Rattle.moving_model.proofs.GoodLaws.{IsGoodMachine-renamed}
+use Rattle.moving_model.proofs.StepLaws.{MachineStep-renamed}
+use Rattle.moving_model.proofs.RunLaws.{undone, machine-undone, told_alike}
+use Rattle.moving_model.proofs.OutcomeLaws.{one_reply, not_refused}
+use Rattle.moving_model.proofs.ReadingLaws.{reading_gives}
+use Rattle.moving_model.proofs.ReplyTextLaws.{refused_text}
+use Rattle.moving_model.proofs.PinTextLaws.{pin_cases}
+use Rattle.moving_model.proofs.PlaceLaws.{place_cases, moving_address}
+use Rattle.moving_model.proofs.StandingLaws.{other_step, seen_left}
+use Rattle.moving_model.proofs.StandingPinLaws.{pins_forth}
+use Rattle.moving_model.proofs.FollowingLaws.{follows_plain, follows_refused, follows_placed, follows_left}
 use Rattle.transcript.specs.Checking.{Stands, HasAnswered}
 use Rattle.transcript.proofs.TurnLaws.{reply_first}
 

@@ -6,7 +6,7 @@ use Rattle.vm_base.proofs.EntryLaws.{some_same}
 use Rattle.vm_model.specs.declared.command.Command.{Command}
 use Rattle.vm_model.specs.Language.Reading.{Blank, Outside, order_or_outside, command, is_comment, reading_of_words, words, reading}
 use Rattle.vm_model.specs.Machine.Machine.{Machine}
-use Rattle.moving_machine.specs.Transcript.{Told, told, IsWhole, MayBegin, AllTold, ArePossible, AreWhole}
+use Rattle.moving_model.specs.Transcript.{Told, told, IsWhole, MayBegin, AllTold, ArePossible, AreWhole}
 
 -- one line more
 pub all_told-more : (lines : List (List ℕ)) (line : List ℕ) (tells : List Told) (one : Told) → AllTold lines tells → told line ≡ Some one → AllTold (lines ++ line ∷ []) (tells ++ one ∷ [])

@@ -7,7 +7,7 @@ use Rattle.std.proofs.lemmas.List.{get_or-set_same, get_or_read, length-set}
 use Rattle.vm_base.specs.Entries.{with_key, without_key, passes}
 use Rattle.vm_base.proofs.EntryLaws.{some_same, passes_found, passes-some}
 use Rattle.vm_base.proofs.SearchLaws.{any_below_found, any_below_at, eqb_is, eqb_same, eqb_apart}
-use Rattle.moving_machine.specs.Standing.{is_number_taken, may_have, may_tell, with_seen}
+use Rattle.moving_model.specs.Standing.{is_number_taken, may_have, may_tell, with_seen}
 use Rattle.transcript.specs.Seen.{number_seen, AreInverse}
 
 -- ---- one list

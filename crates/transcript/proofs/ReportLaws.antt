@@ -12,11 +12,11 @@ use Rattle.script_io.specs.Fetching.{IsPending, IsFirstLine, Fetches}
 use Rattle.script_io.specs.declared.line_reader.Fetch.TheVariants.{Line, TooLong}
 use Rattle.vm_base.specs.declared.limits.TheConstants.{SCRIPT_BYTES}
 use Rattle.vm_model.specs.Contents.Content.{nothing}
-use Rattle.served.specs.Answering.{AnsweringRun}
-use Rattle.served.specs.Serving.{IsReady, bytes_left}
-use Rattle.served.proofs.Served.{IsAnswered, IsServed-answered}
-use Rattle.served.proofs.Beginning.{fresh, IsPending-fresh, IsServed-fresh}
-use Rattle.served.proofs.Answered.{IsReady-answered, bytes_left-answered}
+use Rattle.line_server.specs.Answering.{AnsweringRun}
+use Rattle.line_server.specs.Serving.{IsReady, bytes_left}
+use Rattle.line_server.proofs.Served.{IsAnswered, IsServed-answered}
+use Rattle.line_server.proofs.Beginning.{fresh, IsPending-fresh, IsServed-fresh}
+use Rattle.line_server.proofs.Answered.{IsReady-answered, bytes_left-answered}
 use Rattle.transcript.specs.declared.reports.Check.{Check}
 use Rattle.transcript.specs.declared.reports.Report.{Report}
 use Rattle.transcript.specs.Reports.{collecting, IsBeingChecked, IsChecked, IsReport, report_text, StopsAs, CheckEndsAs}

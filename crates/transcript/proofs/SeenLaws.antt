@@ -21,11 +21,11 @@ use Rattle.vm_model.specs.Machine.Machine.{Machine, IsGoodMachine}
 use Rattle.vm_model.specs.Machine.MachineStep.{MachineEffect, MachineStepAfter, MachineStep}
 use Rattle.vm_model.proofs.ContentLaws.{sole_held}
 use Rattle.vm_model.proofs.PinLaws.{covers_parts}
-use Rattle.moving_machine.specs.Moving.{TellsNoFrames}
-use Rattle.moving_machine.specs.Standing.{AreSeen, AreLeft}
-use Rattle.moving_machine.proofs.PinnedLaws.{pinned_stays}
-use Rattle.moving_machine.proofs.PinsLaws.{effect_pins}
-use Rattle.eager_machine.specs.Machine.{HasPinnedFrame, pinned_frame}
+use Rattle.moving_model.specs.Moving.{TellsNoFrames}
+use Rattle.moving_model.specs.Standing.{AreSeen, AreLeft}
+use Rattle.moving_model.proofs.PinnedLaws.{pinned_stays}
+use Rattle.moving_model.proofs.PinsLaws.{effect_pins}
+use Rattle.checker_machine.specs.Machine.{HasPinnedFrame, pinned_frame}
 use Rattle.transcript.specs.Seen.{HasFrames, Frees, IsCleared}
 
 -- ---- the frames of a pin

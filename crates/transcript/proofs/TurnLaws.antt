@@ -7,13 +7,13 @@ use Rattle.vm_model.specs.declared.reply.Reply.TheVariants.{Refused, Runs as Run
 use Rattle.vm_model.specs.Language.Reading.{Reading, Blank, Order, Outside, reading}
 use Rattle.vm_model.specs.Language.Text.{reply_lines}
 use Rattle.vm_model.specs.Machine.Machine.{Machine, empty_machine, IsGoodMachine}
-use Rattle.moving_machine.specs.Moving.{MovingGivesAs, MovingGives}
-use Rattle.moving_machine.specs.Transcript.{Told, Asked, Answered, Turn, turns_told, Turns, IsWhole, MayBegin}
-use Rattle.moving_machine.specs.Standing.{StandsFor}
-use Rattle.moving_machine.specs.Following.{Follows, MayAnswer, first_line}
-use Rattle.moving_machine.proofs.RunLaws.{MovingStep-from}
-use Rattle.moving_machine.proofs.TranscriptLaws.{turns-append, told-append, turns_keep}
-use Rattle.moving_machine.proofs.AnswerLaws.{has_reply}
+use Rattle.moving_model.specs.Moving.{MovingGivesAs, MovingGives}
+use Rattle.moving_model.specs.Transcript.{Told, Asked, Answered, Turn, turns_told, Turns, IsWhole, MayBegin}
+use Rattle.moving_model.specs.Standing.{StandsFor}
+use Rattle.moving_model.specs.Following.{Follows, MayAnswer, first_line}
+use Rattle.moving_model.proofs.RunLaws.{MovingStep-from}
+use Rattle.moving_model.proofs.TranscriptLaws.{turns-append, told-append, turns_keep}
+use Rattle.moving_model.proofs.AnswerLaws.{has_reply}
 use Rattle.vm_model.proofs.MachineLaws.{IsGoodMachine-empty}
 use Rattle.transcript.specs.Checking.{Stands, IsListing}
 

@@ -5,10 +5,10 @@ use Rattle.vm_model.specs.declared.reply.Reply.{Reply}
 use Rattle.vm_model.specs.Language.Reading.{reading, Blank}
 use Rattle.vm_model.specs.Language.Text.{reply_lines}
 use Rattle.vm_model.specs.Machine.Machine.{Machine, IsGoodMachine}
-use Rattle.moving_machine.specs.Moving.{MovingGives}
-use Rattle.moving_machine.specs.Transcript.{Told, Asked, Answered}
-use Rattle.moving_machine.specs.Standing.{StandsFor, AreSeen}
-use Rattle.moving_machine.specs.Following.{Follows, first_line}
+use Rattle.moving_model.specs.Moving.{MovingGives}
+use Rattle.moving_model.specs.Transcript.{Told, Asked, Answered}
+use Rattle.moving_model.specs.Standing.{StandsFor, AreSeen}
+use Rattle.moving_model.specs.Following.{Follows, first_line}
 
 -- The lines so far are whole turns, and the own machine, with the numbers that were seen, stands for all that they may have led to.
 pub record Stands (frames : ℕ) (own : Machine) (numbers : ℕ → Option ℕ) (tells : List Told) : Type 0 where

@@ -4,10 +4,10 @@ use Rattle.std.specs.List.{AllByRecursion}
 use Rattle.vm_base.specs.declared.limits.TheConstants.{FRAMES, PIN_PAGES}
 use Rattle.vm_model.specs.declared.reply.Reply.{Reply}
 use Rattle.vm_model.specs.Language.Text.{reply_lines}
-use Rattle.moving_machine.specs.Transcript.{Told, Asked, Answered}
-use Rattle.moving_machine.specs.Standing.{may_tell, with_seen}
-use Rattle.moving_machine.specs.Following.{MayAnswer, first_line}
-use Rattle.eager_machine.specs.Machine.{eager_machine_of}
+use Rattle.moving_model.specs.Transcript.{Told, Asked, Answered}
+use Rattle.moving_model.specs.Standing.{may_tell, with_seen}
+use Rattle.moving_model.specs.Following.{MayAnswer, first_line}
+use Rattle.checker_machine.specs.Machine.{checker_machine_of}
 use Rattle.transcript.specs.Checking.{Stands, HasAnswered}
 use Rattle.transcript.specs.Seen.{number_seen}
 use Rattle.transcript.specs.declared.answering.Heard.{Heard}
@@ -22,14 +22,14 @@ Hears reply line Never = first_line reply ≢ line
 
 -- nothing changed
 pub record IsSame (old new : Own) : Type 0 where
-  pub machine : eager_machine_of new.machine ≡ eager_machine_of old.machine
+  pub machine : checker_machine_of new.machine ≡ checker_machine_of old.machine
   pub numbers : new.numbers ≡ old.numbers
 
 -- ---- a reply line that is due
 
 -- the own machine and its numbers, behind whole turns
 pub record OwnStands (frames : ℕ) (own : Own) (tells : List Told) : Type 0 where
-  pub stands : Stands frames (eager_machine_of own.machine) (number_seen own.numbers) tells
+  pub stands : Stands frames (checker_machine_of own.machine) (number_seen own.numbers) tells
   pub size : length own.numbers ≡ frames
   pub few : frames ≤ FRAMES
 
@@ -38,9 +38,9 @@ pub record OwnStands (frames : ℕ) (own : Own) (tells : List Told) : Type 0 whe
 abbrev pub IsHeard : (frames : ℕ) (old new : Own) (pending : List ℕ) (before : List Told) (line : List ℕ) → Heard → Type 0
 IsHeard frames old new pending before line Ends = OwnStands frames new (before ++ Asked pending ∷ Answered line ∷ [])
 IsHeard frames old new pending before line (Begins runs) =
-    HasAnswered frames (eager_machine_of new.machine) (number_seen new.numbers) pending (Reply.Runs runs) before
+    HasAnswered frames (checker_machine_of new.machine) (number_seen new.numbers) pending (Reply.Runs runs) before
     × (first_line (Reply.Runs runs) ≡ line) × (1 ≤ length runs) × (length new.numbers ≡ frames)
-IsHeard frames old new pending before line Never = MayAnswer (eager_machine_of old.machine) (number_seen old.numbers) pending line → ⊥
+IsHeard frames old new pending before line Never = MayAnswer (checker_machine_of old.machine) (number_seen old.numbers) pending line → ⊥
 
 -- Whether a line tells numbers that these frames of a pin may have, after the numbers `was`. If so, they are seen then.
 abbrev pub AreHeard : (bound : ℕ) (was later : ℕ → Option ℕ) (frames line : List ℕ) → Bool → Type 0

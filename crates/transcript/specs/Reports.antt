@@ -7,10 +7,10 @@ use Rattle.script_io.specs.Faults.{IsCutOff}
 use Rattle.script_io.specs.Reader.{Reader}
 use Rattle.vm_base.specs.declared.limits.TheConstants.{SCRIPT_BYTES}
 use Rattle.vm_model.specs.Contents.Content.{nothing}
-use Rattle.served.specs.Answering.{Answering}
-use Rattle.served.specs.Outcome.{Completes, StopsReading, ReachesLimit}
-use Rattle.served.specs.Serving.{IsServed}
-use Rattle.moving_machine.specs.Transcript.{Told, Asked, Answered, told, ArePossible, AreWhole}
+use Rattle.line_server.specs.Answering.{Answering}
+use Rattle.line_server.specs.Outcome.{Completes, StopsReading, ReachesLimit}
+use Rattle.line_server.specs.Serving.{IsServed}
+use Rattle.moving_model.specs.Transcript.{Told, Asked, Answered, told, ArePossible, AreWhole}
 use Rattle.transcript.specs.declared.verdict.Verdict.{Verdict}
 use Rattle.transcript.specs.declared.verdict.Verdict.TheVariants.{Illegal as IllegalLine, Malformed as MalformedLine}
 use Rattle.transcript.specs.declared.reports.Report.{Report}

@@ -4,7 +4,7 @@ use Rattle.std.specs.List.{AllByRecursion, list_any}
 use Rattle.vm_model.specs.declared.command.Command.{Command}
 use Rattle.vm_model.specs.declared.command.Command.TheVariants.{VmoUnpin}
 use Rattle.vm_model.specs.Machine.Machine.{Machine}
-use Rattle.eager_machine.specs.Machine.{HasPinnedFrame, pinned_frame}
+use Rattle.checker_machine.specs.Machine.{HasPinnedFrame, pinned_frame}
 
 -- the numbers that were seen, as a map from own frames
 abbrev pub number_seen : List (Option ℕ) → ℕ → Option ℕ

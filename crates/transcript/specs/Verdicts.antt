@@ -3,8 +3,8 @@ use Rattle.std.specs.Prelude.{◌≡◌, ◌≢◌, ℕ, ◌≤◌, true, false,
 use Rattle.vm_base.specs.declared.limits.TheConstants.{FRAMES}
 use Rattle.vm_model.specs.Machine.Lent.{reply_for}
 use Rattle.vm_model.specs.Machine.Machine.{empty_machine}
-use Rattle.moving_machine.specs.Transcript.{Told, told, MayBegin, AllTold, ArePossible}
-use Rattle.eager_machine.specs.Machine.{eager_machine_of}
+use Rattle.moving_model.specs.Transcript.{Told, told, MayBegin, AllTold, ArePossible}
+use Rattle.checker_machine.specs.Machine.{checker_machine_of}
 use Rattle.transcript.specs.declared.checker.Phase.{Phase}
 use Rattle.transcript.specs.declared.checker.Phase.TheVariants.{Idle, Due, Listing}
 use Rattle.transcript.specs.declared.checker.Checker.{Checker}
@@ -15,15 +15,15 @@ use Rattle.transcript.specs.Seen.{number_seen}
 
 -- the lines so far tell this, by the phase of a checker
 abbrev pub IsIn : Phase → ℕ → Checker → List Told → Type 0
-IsIn Idle frames checker tells = Stands frames (eager_machine_of checker.own.machine) (number_seen checker.own.numbers) tells
-IsIn Due frames checker tells = IsDue frames (eager_machine_of checker.own.machine) (number_seen checker.own.numbers) checker.pending.items tells
+IsIn Idle frames checker tells = Stands frames (checker_machine_of checker.own.machine) (number_seen checker.own.numbers) tells
+IsIn Due frames checker tells = IsDue frames (checker_machine_of checker.own.machine) (number_seen checker.own.numbers) checker.pending.items tells
 IsIn Listing frames checker tells =
-    IsListing frames (eager_machine_of checker.own.machine) (number_seen checker.own.numbers) checker.pending.items (reply_for checker.listed) checker.count tells
+    IsListing frames (checker_machine_of checker.own.machine) (number_seen checker.own.numbers) checker.pending.items (reply_for checker.listed) checker.count tells
 
 -- the same, by whether the checker has its frames. It takes them at the first line
 abbrev pub HasTold : Bool → ℕ → Checker → List Told → Type 0
 HasTold true frames checker tells = (length checker.own.numbers ≡ frames) × IsIn checker.phase frames checker tells
-HasTold false frames checker tells = (tells ≡ []) × (eager_machine_of checker.own.machine ≡ empty_machine 0) × (checker.phase ≡ Idle)
+HasTold false frames checker tells = (tells ≡ []) × (checker_machine_of checker.own.machine ≡ empty_machine 0) × (checker.phase ≡ Idle)
 
 -- The checker is of a machine with this many frames, and the lines so far tell this.
 pub record IsAt (frames : ℕ) (checker : Checker) (tells : List Told) : Type 0 where

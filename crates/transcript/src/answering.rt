@@ -10,9 +10,9 @@ ghost use Rattle.vm_model.specs.Language.Text.{reply_lines};
 ghost use Rattle.vm_model.specs.Machine.Lent.{command_of, reply_for};
 ghost use Rattle.vm_model.specs.Machine.Given.{GivesName};
 ghost use Rattle.vm_model.specs.Machine.Machine.{IsGoodMachine};
-ghost use Rattle.moving_machine.specs.Moving.{TellsNoFrames};
-ghost use Rattle.moving_machine.specs.Transcript.{Told};
-ghost use Rattle.eager_machine.specs.Machine.{eager_machine_of};
+ghost use Rattle.moving_model.specs.Moving.{TellsNoFrames};
+ghost use Rattle.moving_model.specs.Transcript.{Told};
+ghost use Rattle.checker_machine.specs.Machine.{checker_machine_of};
 ghost use Rattle.transcript.specs.Seen.{number_seen, Frees, HasFrames, IsCleared};
 ghost use Rattle.transcript.specs.Hearing.{OwnStands, IsHeard, Hears, AreHeard, IsSame};
 
@@ -20,7 +20,7 @@ use crate::lines::{address_in, is_line};
 use crate::numbers::Numbers;
 use crate::rooms::Rooms;
 use arrayvec::ArrayVec;
-use eager_machine::EagerMachine;
+use checker_machine::CheckerMachine;
 use reply_text::{answer_line_count, read_pins};
 use script_text::read_call;
 use vm_base::{HostMemory, PIN_PAGES, PinName, Tag};
@@ -29,7 +29,7 @@ use vm_model::{Answer, Call, Runs};
 /// The checker's machine, and the numbers that were seen of the frames of its pinned pages.
 #[derive(Drop)]
 pub(crate) struct Own {
-    pub(crate) machine: EagerMachine,
+    pub(crate) machine: CheckerMachine,
     pub(crate) numbers: Numbers,
 }
 
@@ -45,8 +45,8 @@ pub(crate) enum Heard {
 }
 
 /// Returns the frames of the pages of a pin, in ascending order of the pages.
-fn frames_of(machine: &EagerMachine, pin: PinName) -> ArrayVec<u32, PIN_PAGES>
-    ensures { IsGoodMachine (eager_machine_of machine.now) → HasFrames (eager_machine_of machine.now) pin.0 result.items }
+fn frames_of(machine: &CheckerMachine, pin: PinName) -> ArrayVec<u32, PIN_PAGES>
+    ensures { IsGoodMachine (checker_machine_of machine.now) → HasFrames (checker_machine_of machine.now) pin.0 result.items }
 {
     let mut frames: ArrayVec<u32, PIN_PAGES> = ArrayVec::new();
     for at in 0..PIN_PAGES as u64 {
@@ -59,8 +59,8 @@ fn frames_of(machine: &EagerMachine, pin: PinName) -> ArrayVec<u32, PIN_PAGES>
 }
 
 /// Forgets the numbers of those of these frames that no pinned page has.
-fn forget(machine: &EagerMachine, numbers: &mut Numbers, freed: &[u32])
-    ensures cleared { IsCleared (eager_machine_of machine.now) (number_seen numbers.old) (number_seen numbers.new) freed.now }
+fn forget(machine: &CheckerMachine, numbers: &mut Numbers, freed: &[u32])
+    ensures cleared { IsCleared (checker_machine_of machine.now) (number_seen numbers.old) (number_seen numbers.new) freed.now }
     ensures len { length numbers.new ≡ length numbers.old }
 {
     let Some((frame, freed)) = freed.split_first() else {
@@ -71,8 +71,8 @@ fn forget(machine: &EagerMachine, numbers: &mut Numbers, freed: &[u32])
 }
 
 /// Forgets the number of a frame if no pinned page has it.
-fn forget_one(machine: &EagerMachine, numbers: &mut Numbers, frame: u32)
-    ensures cleared { IsCleared (eager_machine_of machine.now) (number_seen numbers.old) (number_seen numbers.new) (frame ∷ []) }
+fn forget_one(machine: &CheckerMachine, numbers: &mut Numbers, frame: u32)
+    ensures cleared { IsCleared (checker_machine_of machine.now) (number_seen numbers.old) (number_seen numbers.new) (frame ∷ []) }
     ensures len { length numbers.new ≡ length numbers.old }
 {
     if !machine.is_pinned_frame(Tag(frame)) {
@@ -129,7 +129,7 @@ fn hear_call(
     line: &[u8],
     rooms: &mut Rooms,
 ) -> Result<Heard, HostMemory>
-    requires stands { (frames : ℕ) × (before : List Told) × OwnStands frames own.old before × ((eager_machine_of own.old.machine).state.content.next < KOIDS) }
+    requires stands { (frames : ℕ) × (before : List Told) × OwnStands frames own.old before × ((checker_machine_of own.old.machine).state.content.next < KOIDS) }
     requires gives { GivesName (command_of call.now) }
     requires other { line.now ≢ codes "HOST_MEMORY" }
     ensures heard { (frames : ℕ) (before : List Told) (pending : List ℕ) → OwnStands frames own.old before → reading pending ≡ Order (command_of call.now)
@@ -151,7 +151,7 @@ fn hear_unpin(
     line: &[u8],
     rooms: &mut Rooms,
 ) -> Result<Heard, HostMemory>
-    requires stands { (frames : ℕ) × (before : List Told) × OwnStands frames own.old before × ((eager_machine_of own.old.machine).state.content.next < KOIDS) }
+    requires stands { (frames : ℕ) × (before : List Told) × OwnStands frames own.old before × ((checker_machine_of own.old.machine).state.content.next < KOIDS) }
     requires unpins { call.now ≡ Call.VmoUnpin pin }
     requires gives { GivesName (command_of call.now) }
     requires other { line.now ≢ codes "HOST_MEMORY" }
@@ -170,9 +170,9 @@ fn hear_reply(
     line: &[u8],
     rooms: &mut Rooms,
 ) -> Result<Heard, HostMemory>
-    requires stands { (frames : ℕ) × (before : List Told) × OwnStands frames own.old before × ((eager_machine_of own.old.machine).state.content.next < KOIDS) }
+    requires stands { (frames : ℕ) × (before : List Told) × OwnStands frames own.old before × ((checker_machine_of own.old.machine).state.content.next < KOIDS) }
     requires gives { GivesName (command_of call.now) }
-    requires freed { IsGoodMachine (eager_machine_of own.old.machine) → Frees (eager_machine_of own.old.machine) (command_of call.now) freed.now }
+    requires freed { IsGoodMachine (checker_machine_of own.old.machine) → Frees (checker_machine_of own.old.machine) (command_of call.now) freed.now }
     requires other { line.now ≢ codes "HOST_MEMORY" }
     ensures heard { (frames : ℕ) (before : List Told) (pending : List ℕ) → OwnStands frames own.old before → reading pending ≡ Order (command_of call.now)
         → MatchResult result (λ heard. IsHeard frames own.old own.new pending before (line.now ++ codes "\n") heard) (λ lack. IsSame own.old own.new) }
@@ -208,7 +208,7 @@ fn hear_order(
     rooms: &mut Rooms,
 ) -> Result<Heard, HostMemory>
     requires gives { GivesName (command_of call.now) }
-    requires stands { (frames : ℕ) × (before : List Told) × OwnStands frames own.old before × ((eager_machine_of own.old.machine).state.content.next < KOIDS) }
+    requires stands { (frames : ℕ) × (before : List Told) × OwnStands frames own.old before × ((checker_machine_of own.old.machine).state.content.next < KOIDS) }
     ensures { (frames : ℕ) (before : List Told) (pending : List ℕ) → OwnStands frames own.old before → reading pending ≡ Order (command_of call.now)
         → MatchResult result (λ heard. IsHeard frames own.old own.new pending before (line.now ++ codes "\n") heard) (λ lack. IsSame own.old own.new) }
 {
@@ -227,7 +227,7 @@ pub(crate) fn hear(
     written: &mut [u8],
     rooms: &mut Rooms,
 ) -> Result<Heard, HostMemory>
-    requires stands { (frames : ℕ) × (before : List Told) × OwnStands frames own.old before × ((eager_machine_of own.old.machine).state.content.next < KOIDS) }
+    requires stands { (frames : ℕ) × (before : List Told) × OwnStands frames own.old before × ((checker_machine_of own.old.machine).state.content.next < KOIDS) }
     requires asks { reading pending.now ≢ Blank }
     requires room { DATA_BYTES ≤ length written.old }
     ensures heard { (frames : ℕ) (before : List Told) → OwnStands frames own.old before

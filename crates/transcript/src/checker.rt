@@ -2,8 +2,8 @@
 
 ghost use Rattle.std.specs.Prelude.{◌≡◌, ◌↔◌, ◌^◌, ◌<◌, ◌≤◌, ◌++◌, ◌∷◌, [], ℕ, List, true, codes, length, IsTrue, MatchResult};
 ghost use Rattle.vm_base.specs.declared.limits.TheConstants.{FRAMES, LINE_BYTES};
-ghost use Rattle.eager_machine.specs.Machine.{eager_machine_of};
-ghost use Rattle.moving_machine.specs.Transcript.{Told, Asked, Answered, AreWhole};
+ghost use Rattle.checker_machine.specs.Machine.{checker_machine_of};
+ghost use Rattle.moving_model.specs.Transcript.{Told, Asked, Answered, AreWhole};
 ghost use Rattle.transcript.specs.Checking.{IsDue};
 ghost use Rattle.transcript.specs.Seen.{number_seen};
 ghost use Rattle.transcript.specs.Hearing.{IsHeard};
@@ -16,7 +16,7 @@ use crate::numbers::Numbers;
 use crate::rooms::Rooms;
 use crate::verdict::Verdict;
 use arrayvec::ArrayVec;
-use eager_machine::EagerMachine;
+use checker_machine::CheckerMachine;
 use reply_text::answer_line_count;
 use std::alloc::Global;
 use vm_base::{DATA_BYTES, HostMemory, LINE_BYTES};
@@ -67,7 +67,7 @@ impl Checker {
             frames,
             filled: false,
             own: Own {
-                machine: EagerMachine::new(alloc),
+                machine: CheckerMachine::new(alloc),
                 numbers: Numbers::none(alloc),
             },
             phase: Phase::Idle,
@@ -192,7 +192,7 @@ impl Checker {
     /// Goes on behind a first line of a reply.
     fn settle(&mut self, heard: Heard) -> Verdict
         ensures { (frames : ℕ) (tells : List Told) (line : List ℕ) (old : Own) → 1 ≤ frames → frames ≤ FRAMES → self.old.frames ≡ frames → self.old.filled ≡ true
-            → (due : IsDue frames (eager_machine_of old.machine) (number_seen old.numbers) self.old.pending.items tells)
+            → (due : IsDue frames (checker_machine_of old.machine) (number_seen old.numbers) self.old.pending.items tells)
             → IsHeard frames old self.old.own self.old.pending.items due.before line heard → IsJudged frames self.new tells (Answered line) result }
     {
         match heard {

@@ -4,14 +4,14 @@ ghost use Rattle.std.specs.Prelude.{◌≡◌, ◌≢◌, ◌↔◌, ◌⊎◌, 
 ghost use Rattle.std.specs.Io.KnownBytes.{Appends};
 ghost use Rattle.script_io.specs.Faults.{HasFailed, IsCutOff};
 ghost use Rattle.vm_base.specs.declared.limits.TheConstants.{FRAMES, SCRIPT_BYTES};
-ghost use Rattle.served.specs.Words.{frames_asked};
-ghost use Rattle.served.specs.Serving.{IsReady, bytes_left};
+ghost use Rattle.line_server.specs.Words.{frames_asked};
+ghost use Rattle.line_server.specs.Serving.{IsReady, bytes_left};
 ghost use Rattle.transcript.specs.Reports.{CheckEndsAs, IsBeingChecked, StopsAs, IsChecked, Reports};
 ghost use Rattle.script_io.specs.Ending.{memory_failure, status_of_writing};
 
 use crate::reports::{Check, REPORT_BYTES, write_report};
+use line_server::frames_asked;
 use script_io::{Fetch, Lines, Sink, Source, Status, push_all};
-use served::frames_asked;
 use std::alloc::Global;
 use vm_base::{Failed, HostMemory, SCRIPT_BYTES};
 

@@ -1,7 +1,7 @@
 //! Whether a transcript is legal: a script, and behind each of its lines the lines of its replies.
 //!
 //! `Checker` reads a transcript line by line, and says of each line whether a machine may have answered it, where pages move
-//! (`moving_machine`). It keeps a machine of its own, which does each command as the reply says (`eager_machine`), and the
+//! (`moving_model`). It keeps a machine of its own, which does each command as the reply says (`checker_machine`), and the
 //! numbers that were given of the frames of pinned pages (`numbers`). `answering` compares a reply line with what the
 //! checker's machine may answer. `run_check` is the program: it reads a source to its end and writes one line. The layer
 //! above may use `run_check`.

@@ -6,15 +6,15 @@ ghost use Rattle.vm_model.specs.declared.reply.Reply.{Reply};
 ghost use Rattle.vm_model.specs.Language.Reading.{reading, is_comment, Blank};
 ghost use Rattle.vm_model.specs.Language.Text.{reply_lines};
 ghost use Rattle.vm_model.specs.Machine.Lent.{reply_for};
-ghost use Rattle.moving_machine.specs.Transcript.{told, Asked, Answered};
-ghost use Rattle.moving_machine.specs.Following.{first_line};
+ghost use Rattle.moving_model.specs.Transcript.{told, Asked, Answered};
+ghost use Rattle.moving_model.specs.Following.{first_line};
 
 use reply_text::{read_address, write_answer_line};
 use script_text::next_word;
 use vm_model::Answer;
 
 /// Returns the line of a script that a line of a transcript has, behind `> `.
-#[tactic(auto, unfolding(moving_machine::specs::Transcript::told))]
+#[tactic(auto, unfolding(moving_model::specs::Transcript::told))]
 pub(crate) fn script_in(line: &[u8]) -> Option<&[u8]>
     requires { length line.now ≤ LINE_BYTES }
     ensures told { MatchOption result ((script : List ℕ) → told line.now ≢ Some (Asked script))
@@ -25,7 +25,7 @@ pub(crate) fn script_in(line: &[u8]) -> Option<&[u8]>
 }
 
 /// Returns the reply line that a line of a transcript has, behind `< `.
-#[tactic(auto, unfolding(moving_machine::specs::Transcript::told))]
+#[tactic(auto, unfolding(moving_model::specs::Transcript::told))]
 pub(crate) fn reply_in(line: &[u8]) -> Option<&[u8]>
     requires { length line.now ≤ LINE_BYTES }
     ensures { MatchOption result ((reply : List ℕ) → told line.now ≢ Some (Answered reply))

@@ -3,7 +3,7 @@
 ghost use Rattle.std.specs.Prelude.{◌≡◌, ◌<◌, ◌≤◌, ℕ, List, Option, None, [], true, length, replicate, slice_set, IsTrue, IfOk};
 ghost use Rattle.std.specs.List.{AllByRecursion};
 ghost use Rattle.vm_base.specs.Entries.{with_key, without_key};
-ghost use Rattle.moving_machine.specs.Standing.{may_have, may_tell, with_seen};
+ghost use Rattle.moving_model.specs.Standing.{may_have, may_tell, with_seen};
 ghost use Rattle.transcript.specs.Seen.{number_seen};
 
 use std::alloc::Global;

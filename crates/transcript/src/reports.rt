@@ -2,7 +2,7 @@
 
 ghost use Rattle.std.specs.Prelude.{◌≡◌, ◌+◌, ◌<◌, ◌≤◌, ◌^◌, ◌++◌, ◌∷◌, [], ℕ, List, codes, decimal, length, take, MatchResult};
 ghost use Rattle.vm_base.specs.declared.limits.TheConstants.{FRAMES, LINE_BYTES};
-ghost use Rattle.moving_machine.specs.Transcript.{told};
+ghost use Rattle.moving_model.specs.Transcript.{told};
 ghost use Rattle.transcript.specs.Reports.{IsChecked, IsReport, is_asked, report_text};
 
 use crate::checker::Checker;

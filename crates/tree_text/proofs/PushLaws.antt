@@ -4,8 +4,8 @@ use Rattle.std.specs.Io.KnownBytes.{Appends}
 use Rattle.std.proofs.KnownBytes.{Appends-nil, Appends-trans}
 use Rattle.std.proofs.lemmas.List.{length-append}
 use Rattle.script_io.specs.Faults.{HasCause, IsCutOff}
-use Rattle.served.specs.Outcome.{SinkTakes}
-use Rattle.served.proofs.Beginning.{HasFailed-earlier}
+use Rattle.line_server.specs.Outcome.{SinkTakes}
+use Rattle.line_server.proofs.Beginning.{HasFailed-earlier}
 use Rattle.tree_text.specs.inside.Pushing.{IsPushed}
 
 pub pushed-none : (sink : Option (List ℕ)) (text left : List ℕ) → text ≡ left → IsPushed sink sink text left

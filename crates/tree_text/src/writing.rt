@@ -2,7 +2,7 @@
 
 ghost use Rattle.std.specs.Prelude.{◌≡◌, ◌^◌, IsSome, None};
 ghost use Rattle.script_io.specs.Faults.{HasCause};
-ghost use Rattle.served.specs.Outcome.{SinkTakes};
+ghost use Rattle.line_server.specs.Outcome.{SinkTakes};
 ghost use Rattle.page_list.specs.Lists.{slots_of};
 ghost use Rattle.cow_arena.specs.Nodes.{nodes_of, link_to};
 ghost use Rattle.cow_arena.specs.Forest.{IsForest};

@@ -11,8 +11,8 @@ use Rattle.vm_model.specs.Machine.MachineStep.{MachineStep}
 use Rattle.vm_model.specs.Language.Reading.{Reading, Order, Outside, reading}
 use Rattle.vm_model.specs.Language.Text.{text, texts}
 use Rattle.vm_model.specs.Scripts.Run.{GivesAs, Run, Legal}
-use Rattle.served.specs.Answering.{AnsweringRun as Answered, syntax_text}
-use Rattle.served.specs.Outcome.{SinkTakes, AnswersLine}
+use Rattle.line_server.specs.Answering.{AnsweringRun as Answered, syntax_text}
+use Rattle.line_server.specs.Outcome.{SinkTakes, AnswersLine}
 use Rattle.vm_session.specs.Plain.{plain, GivesText}
 use Rattle.vm_session.specs.inside.Outside.{GivesText-outside}
 

@@ -13,8 +13,8 @@ use Rattle.vm_model.specs.Contents.Content.{Content}
 use Rattle.vm_model.specs.Machine.Machine.{Machine, IsGoodMachine}
 use Rattle.vm_model.specs.Language.Reading.{◌>>=◌}
 use Rattle.vm_model.specs.Scripts.Workload.{IsWorked}
-use Rattle.served.specs.Words.{is_text, decimal_of_word, frames_in}
-use Rattle.served.specs.Outcome.{NothingDone, EndsAs}
+use Rattle.line_server.specs.Words.{is_text, decimal_of_word, frames_in}
+use Rattle.line_server.specs.Outcome.{NothingDone, EndsAs}
 use Rattle.vm_session.specs.Plain.{plain}
 use Rattle.vm_session.specs.declared.words.Task.{Task}
 

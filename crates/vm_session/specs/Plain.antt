@@ -4,7 +4,7 @@ use Rattle.vm_model.specs.declared.reply.Reply.{Reply}
 use Rattle.vm_model.specs.Machine.Machine.{Machine, IsGoodMachine, empty_machine}
 use Rattle.vm_model.specs.Language.Text.{texts}
 use Rattle.vm_model.specs.Scripts.Run.{Gives}
-use Rattle.served.specs.Answering.{Answering}
+use Rattle.line_server.specs.Answering.{Answering}
 
 -- from old, the line may give replies of this text and lead to new
 pub record GivesText (line : List ℕ) (old : Machine) (out : List ℕ) (new : Machine) : Type 0 where

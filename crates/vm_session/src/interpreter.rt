@@ -4,14 +4,14 @@ ghost use Rattle.std.specs.Prelude.{◌≡◌, ◌+◌, ◌≤◌, ◌<◌};
 ghost use Rattle.script_io.specs.Faults.{HasCause};
 ghost use Rattle.vm_model.specs.Machine.Machine.{IsGoodMachine};
 ghost use Rattle.vm_core.specs.Vm.{Agrees, machine_of};
-ghost use Rattle.served.specs.Outcome.{AnswersLine};
+ghost use Rattle.line_server.specs.Outcome.{AnswersLine};
 ghost use Rattle.vm_session.specs.Plain.{plain};
 
 use crate::rooms::Rooms;
+use line_server::{Interpreter, push_answer, push_syntax};
 use page_store::PageStore;
 use script_io::Sink;
 use script_text::read_call;
-use served::{Interpreter, push_answer, push_syntax};
 use std::alloc::Global;
 use std::marker::Model;
 use vm_base::{Failed, KOIDS};

@@ -3,7 +3,7 @@
 ghost use Rattle.std.specs.Prelude.{◌↔◌, ℕ, List};
 ghost use Rattle.vm_model.specs.Machine.Machine.{Machine};
 ghost use Rattle.vm_model.specs.Scripts.Run.{Legal};
-ghost use Rattle.served.specs.Answering.{AnsweringRun};
+ghost use Rattle.line_server.specs.Answering.{AnsweringRun};
 ghost use Rattle.vm_session.specs.Plain.{plain};
 
 /// States that lines are answered by a text on the plain machine, one after another, if and only if the text is that of

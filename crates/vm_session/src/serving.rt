@@ -3,7 +3,7 @@
 ghost use Rattle.std.specs.Prelude.{◌≡◌, ◌^◌, ◌<◌, ◌≤◌};
 ghost use Rattle.script_io.specs.Faults.{HasFailed};
 ghost use Rattle.vm_model.specs.Contents.Content.{nothing};
-ghost use Rattle.served.specs.Outcome.{EndsAs};
+ghost use Rattle.line_server.specs.Outcome.{EndsAs};
 ghost use Rattle.vm_session.specs.Plain.{plain};
 
 use crate::interpreter::VmInterpreter;
@@ -37,7 +37,7 @@ pub fn serve<P: PageStore, S: Source, K: Sink>(
     ensures host_memory { result ≡ Status.HostMemory → (source.new ≡ source.old) × (sink.new ≡ sink.old) }
 {
     let mut interpreter = VmInterpreter::new(alloc);
-    let status = served::serve(alloc, frames, limit, store, &mut interpreter, source, sink);
+    let status = line_server::serve(alloc, frames, limit, store, &mut interpreter, source, sink);
     // By one call: at the end of the body its tables would be let go, and that proved, one by one.
     drop(interpreter);
     status

@@ -2,11 +2,11 @@
 
 ghost use Rattle.std.specs.Prelude.{◌≡◌, map, option_map, IfSome};
 ghost use Rattle.std.specs.String.{string_bytes};
-ghost use Rattle.served.specs.Words.{frames_in};
+ghost use Rattle.line_server.specs.Words.{frames_in};
 ghost use Rattle.vm_session.specs.Outcome.{task_asked, work_in};
 ghost use Rattle.vm_session.specs.inside.Tasks.{HasBounds};
 
-use served::{decimal_of_word, frames_in};
+use line_server::{decimal_of_word, frames_in};
 use vm_base::WORK_COUNT;
 
 /// The task that the words ask for.

@@ -6,7 +6,7 @@ use Rattle.std.specs.declared.string.String.{String}
 use Rattle.std.proofs.lemmas.Slice.Eq.{bytes_eq-Decides}
 use Rattle.script_io.specs.declared.status.Status.{Status}
 use Rattle.script_io.specs.declared.status.Status.TheVariants.{Usage, HostMemory}
-use Rattle.served.specs.Words.{is_text, frames_in, frames_behind, frames_asked}
+use Rattle.line_server.specs.Words.{is_text, frames_in, frames_behind, frames_asked}
 use Rattle.vm_session.specs.Outcome.{task_in, task_asked, AskForWork}
 use Rattle.vmosim.specs.Verbs.{is_first, has_verb}
 

@@ -3,7 +3,7 @@ use Rattle.std.specs.Prelude.{ℕ, Bool, false, List, [], ◌∷◌, map}
 use Rattle.std.specs.String.{string_bytes}
 use Rattle.std.specs.declared.string.String.{String}
 use Rattle.std.specs.declared.alloc.Global.{Global}
-use Rattle.served.specs.Words.{is_text}
+use Rattle.line_server.specs.Words.{is_text}
 
 -- the first word is this one
 abbrev pub is_first : List ℕ → List (List ℕ) → Bool

@@ -12,9 +12,9 @@ use Rattle.vm_model.specs.Machine.Machine.{Machine}
 use Rattle.vm_model.specs.Language.Reading.{Reading, Blank, Order, Outside, reading}
 use Rattle.vm_model.specs.Language.Text.{texts}
 use Rattle.vm_model.specs.Scripts.Run.{GivesAs}
-use Rattle.served.specs.Answering.{syntax_text}
-use Rattle.served.specs.Outcome.{AnswersLine, SinkTakes}
-use Rattle.served.proofs.Answered.{written_or_cut}
+use Rattle.line_server.specs.Answering.{syntax_text}
+use Rattle.line_server.specs.Outcome.{AnswersLine, SinkTakes}
+use Rattle.line_server.proofs.Answered.{written_or_cut}
 use Rattle.vm_session.specs.Plain.{plain, GivesText}
 use Rattle.cow_forest.specs.Store.{Forest, IsStore, forest_content}
 use Rattle.tree_text.specs.Text.{forest_text}

@@ -10,7 +10,7 @@ use Rattle.vm_model.specs.Machine.Machine.{Machine, IsGoodMachine, empty_machine
 use Rattle.vm_model.specs.Language.Reading.{Reading, Blank, Order, Outside, reading, reading_of_words, words}
 use Rattle.vm_model.specs.Language.Text.{texts}
 use Rattle.vm_model.specs.Scripts.Run.{GivesAs, Gives}
-use Rattle.served.specs.Answering.{Answering, syntax_text}
+use Rattle.line_server.specs.Answering.{Answering, syntax_text}
 use Rattle.cow_forest.specs.Store.{Forest, IsStore, forest_content}
 use Rattle.tree_text.specs.Order.{all_nodes, HasEachNodeOnce}
 use Rattle.tree_text.specs.Text.{forest_text}

@@ -6,7 +6,7 @@ use Rattle.script_io.specs.declared.status.Status.{Status}
 use Rattle.script_io.specs.declared.status.Status.TheVariants.{Done, Usage, HostMemory, ReadFault, WriteFault, ScriptLimit}
 use Rattle.script_io.specs.Faults.{IsCutOff}
 use Rattle.cow_forest.specs.Store.{Forest, forest_content}
-use Rattle.served.specs.Outcome.{EndsAs}
+use Rattle.line_server.specs.Outcome.{EndsAs}
 use Rattle.tree_text.specs.Text.{forest_text}
 use Rattle.vmotree.specs.declared.request.Request.{Request}
 use Rattle.vmotree.specs.Drawing.{drawing_rules}

@@ -5,7 +5,7 @@ use Rattle.std.specs.declared.string.String.{String}
 use Rattle.std.specs.declared.alloc.Global.{Global}
 use Rattle.vm_base.specs.declared.limits.TheConstants.{DEFAULT_FRAMES}
 use Rattle.vm_model.specs.Language.Reading.{◌>>=◌}
-use Rattle.served.specs.Words.{is_text, frames_of_word}
+use Rattle.line_server.specs.Words.{is_text, frames_of_word}
 use Rattle.tree_text.specs.declared.lines.Form.TheVariants as form
 use Rattle.vmotree.specs.declared.request.Request.{Request}
 use Rattle.vmotree.specs.declared.request.Wanted.{Wanted}

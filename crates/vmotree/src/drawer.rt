@@ -5,16 +5,16 @@ ghost use Rattle.script_io.specs.Faults.{HasCause};
 ghost use Rattle.vm_base.specs.declared.limits.TheConstants.{KOIDS};
 ghost use Rattle.vm_model.specs.Machine.Machine.{IsGoodMachine};
 ghost use Rattle.vm_core.specs.Vm.{Agrees, machine_of};
-ghost use Rattle.served.specs.Outcome.{AnswersLine};
+ghost use Rattle.line_server.specs.Outcome.{AnswersLine};
 ghost use Rattle.cow_forest.specs.Store.{forest_content};
 ghost use Rattle.vm_model.specs.Language.Reading.{reading};
 ghost use Rattle.vmotree.specs.Drawing.{drawing_rules, form_of};
 ghost use Rattle.vmotree.specs.inside.Lines.{kind_of, TellsLine};
 
 use cow_forest::CowForest;
+use line_server::{Interpreter, push_syntax};
 use script_io::{CountSink, Sink};
 use script_text::read_call;
-use served::{Interpreter, push_syntax};
 use tree_text::{Form, write_forest};
 use vm_base::{DATA_BYTES, Failed, KOIDS};
 use vm_session::VmInterpreter;

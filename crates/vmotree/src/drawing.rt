@@ -4,7 +4,7 @@ ghost use Rattle.std.specs.Prelude.{◌≡◌, ◌≢◌, ◌↔◌, ◌⊎◌, 
 ghost use Rattle.script_io.specs.Faults.{HasFailed};
 ghost use Rattle.vm_base.specs.declared.limits.TheConstants.{FRAMES, SCRIPT_BYTES};
 ghost use Rattle.vm_model.specs.Contents.Content.{nothing};
-ghost use Rattle.served.specs.Outcome.{EndsAs};
+ghost use Rattle.line_server.specs.Outcome.{EndsAs};
 ghost use Rattle.cow_forest.specs.Store.{forest_content};
 ghost use Rattle.tree_text.specs.Order.{all_nodes, HasEachNodeOnce};
 ghost use Rattle.vmotree.specs.Words.{request_in};
@@ -14,8 +14,8 @@ ghost use Rattle.vmotree.specs.Outcome.{DrawsAs};
 use crate::drawer::Drawer;
 use crate::request::{Request, request_in};
 use cow_forest::CowForest;
+use line_server::serve;
 use script_io::{Sink, Source, Status};
-use served::serve;
 use std::alloc::Global;
 use tree_text::{Form, write_forest};
 use vm_base::{FRAMES, SCRIPT_BYTES};

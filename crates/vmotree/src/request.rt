@@ -4,7 +4,7 @@ ghost use Rattle.std.specs.Prelude.{◌≡◌, ◌≤◌, IfSome};
 ghost use Rattle.vm_base.specs.declared.limits.TheConstants.{FRAMES};
 ghost use Rattle.vmotree.specs.Words.{first_request, with_flag, with_time, with_word, complete, request_in};
 
-use served::decimal_of_word;
+use line_server::decimal_of_word;
 use tree_text::Form;
 use vm_base::{DEFAULT_FRAMES, FRAMES};
 

@@ -9,7 +9,7 @@ use Rattle.vm_model.specs.Machine.Machine.{Machine}
 use Rattle.vm_model.specs.Language.Reading.{Reading, Outside, reading, reading_of_words, words}
 use Rattle.vm_model.specs.Language.Text.{reply_lines, text, texts}
 use Rattle.vm_model.specs.Scripts.Run.{GivesAs}
-use Rattle.served.specs.Answering.{syntax_text}
+use Rattle.line_server.specs.Answering.{syntax_text}
 use Rattle.vm_session.specs.Plain.{GivesText}
 
 -- the refusal of a line outside the grammar

@@ -2,7 +2,7 @@
 use Rattle.std.specs.Prelude.{ℕ, Bool, List, [], if◌then◌else◌, Option, Result}
 use Rattle.vm_model.specs.Machine.Machine.{Machine}
 use Rattle.vm_model.specs.Language.Reading.{Reading, Blank, Order, Outside}
-use Rattle.served.specs.Outcome.{SinkTakes}
+use Rattle.line_server.specs.Outcome.{SinkTakes}
 use Rattle.vm_session.specs.Plain.{GivesText}
 use Rattle.vmotree.specs.declared.drawer.Kind.{Kind}
 use Rattle.vmotree.specs.declared.drawer.Kind.TheVariants as kind

@@ -1,7 +1,7 @@
 use Rattle.std.proofs.Common.{◌≡◌, List, ℕ, [], Some, refl, sym, ◌∙◌, arith}
 use Rattle.script_io.specs.declared.status.Status.TheVariants.{Done, ReadFault, ScriptLimit}
-use Rattle.served.proofs.Served.{Completes-end, StopsReading-there, ReachesLimit-there}
-use Rattle.served.proofs.Answered.{other_status}
+use Rattle.line_server.proofs.Served.{Completes-end, StopsReading-there, ReachesLimit-there}
+use Rattle.line_server.proofs.Answered.{other_status}
 use Rattle.vm_base.specs.declared.limits.TheConstants.{INPUT_BYTES}
 use Rattle.shared_vm.specs.Tasks.{no_tasks, lists_of}
 use Rattle.shared_vm.specs.Gathering.{gathering}

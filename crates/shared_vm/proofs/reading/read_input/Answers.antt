@@ -1,6 +1,6 @@
 use Rattle.std.proofs.Common.{[], Some, ap, ◌∙◌, sym, arith}
 use Rattle.std.proofs.KnownBytes.{Consumes-nil}
-use Rattle.served.proofs.Beginning.{HasFailed-earlier, IsServed-fresh}
+use Rattle.line_server.proofs.Beginning.{HasFailed-earlier, IsServed-fresh}
 use Rattle.vm_base.specs.declared.limits.TheConstants.{INPUT_BYTES}
 use Rattle.shared_vm.specs.Gathering.{gathering}
 use Rattle.shared_vm.proofs.GatherLaws.{IsReady-none, lists_or_status-gathers, lists_or_status-few, lists_or_status-fault}

@@ -1,5 +1,5 @@
 use Rattle.std.proofs.Common.{◌≡◌, ◌+◌, ◌≤◌}
-use Rattle.served.specs.Serving.{IsReady, bytes_left}
+use Rattle.line_server.specs.Serving.{IsReady, bytes_left}
 use Rattle.vm_base.specs.declared.limits.TheConstants.{INPUT_BYTES}
 use Rattle.shared_vm.specs.Gathering.{IsGathered}
 use Rattle.shared_vm.specs.Tasks.{task_count}

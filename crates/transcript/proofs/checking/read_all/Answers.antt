@@ -1,6 +1,6 @@
 use Rattle.std.proofs.Common.{Some, ap, ◌∙◌, arith}
 use Rattle.script_io.specs.declared.status.Status.{Status}
-use Rattle.served.proofs.Beginning.{HasFailed-earlier}
+use Rattle.line_server.proofs.Beginning.{HasFailed-earlier}
 use Rattle.transcript.proofs.checking.read_all.Goals as goal
 
 pub loop-status-init : goal.loop-status-init

@@ -1,6 +1,6 @@
 use Rattle.std.proofs.Common.{◌≡◌, ℕ, ◌+◌, ◌≤◌}
 use Rattle.vm_base.specs.declared.limits.TheConstants.{SCRIPT_BYTES}
-use Rattle.served.specs.Serving.{IsReady, bytes_left}
+use Rattle.line_server.specs.Serving.{IsReady, bytes_left}
 use Rattle.transcript.specs.Reports.{IsBeingChecked}
 use Rattle.transcript.proofs.checking.read_all.Given as goal
 

@@ -1,7 +1,7 @@
 use Rattle.std.proofs.Common.{List, ℕ, sym, refl, ◌∙◌}
 use Rattle.script_io.specs.declared.status.Status.TheVariants.{Done, ReadFault, ScriptLimit}
-use Rattle.served.proofs.Served.{Completes-end, StopsReading-there, ReachesLimit-there}
-use Rattle.served.proofs.Answered.{other_status}
+use Rattle.line_server.proofs.Served.{Completes-end, StopsReading-there, ReachesLimit-there}
+use Rattle.line_server.proofs.Answered.{other_status}
 use Rattle.vm_base.specs.declared.limits.TheConstants.{SCRIPT_BYTES}
 use Rattle.transcript.specs.Reports.{collecting, IsChecked}
 use Rattle.std.proofs.Common.{Some, []}

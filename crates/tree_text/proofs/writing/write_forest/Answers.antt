@@ -1,5 +1,5 @@
 use Rattle.std.proofs.Common.{refl}
-use Rattle.served.proofs.Answered.{written_or_cut}
+use Rattle.line_server.proofs.Answered.{written_or_cut}
 use Rattle.tree_text.proofs.LineLaws.{forest-parts}
 use Rattle.tree_text.proofs.OnceLaws.{each_once}
 use Rattle.tree_text.proofs.PushLaws.{pushed-none, pushed-more, pushed-cut, pushed-last}

@@ -1,6 +1,6 @@
 use Rattle.std.proofs.Common.{arith}
 use Rattle.vm_core.proofs.StartLaws.{filled_fresh, machine_of-filled}
-use Rattle.served.proofs.Beginning.{NothingDone-yet}
+use Rattle.line_server.proofs.Beginning.{NothingDone-yet}
 use Rattle.vm_session.proofs.Beginning.{first_koid}
 use Rattle.vm_session.proofs.WorkLaws.{Works-told}
 use Rattle.vm_session.proofs.working.work.Goals as goal

@@ -1,7 +1,7 @@
 use Rattle.std.proofs.Common.{◌++◌}
 use Rattle.std.proofs.Math.Nat.{le_trans}
 use Rattle.std.specs.Prelude.{codes}
-use Rattle.moving_machine.specs.Transcript.{Asked, Answered}
+use Rattle.moving_model.specs.Transcript.{Asked, Answered}
 use Rattle.transcript.proofs.CheckLaws.{judged_verdict, judged_result, none_told, read_length, match_ok, malformed_not_fine}
 use Rattle.transcript.proofs.checker.Checker.feed.Goals as goal
 

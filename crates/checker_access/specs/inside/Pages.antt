@@ -1,0 +1,94 @@
+-- The pages that an access touches, one by one.
+use Rattle.std.specs.Prelude.{◌≡◌, ℕ, ◌<◌, ◌≤◌, Bool, not, is_some, if◌then◌else◌, List, [], ◌∷◌, take, drop, Option, Some}
+use Rattle.vm_model.specs.declared.space.Entry.{Entry}
+use Rattle.vm_model.specs.declared.space.Readiness.{Readiness}
+use Rattle.vm_model.specs.declared.space.Readiness.TheVariants.{Read, Write}
+use Rattle.vm_model.specs.Contents.Content.{Content, pages_of, shown, hold}
+use Rattle.vm_model.specs.Contents.Owning.{VmoPage, need_each}
+use Rattle.vm_model.specs.Contents.Writing.{part_at, part_bytes, WritesPiece}
+use Rattle.vm_model.specs.Space.Readiness.{Ready, is_writable, with_ready, frame_at, frame_number}
+use Rattle.vm_model.specs.Machine.Access.{Memory, WritesPage}
+use Rattle.pages.specs.Needs.{MayOwn}
+use Rattle.checker_ready.specs.declared.ready_map.ReadyPage.{ReadyPage}
+use Rattle.checker_ready.specs.Notes.{ReadyRows, ready_in, with_ready_row, kept_rows, agrees, NotesAreTrue}
+
+-- page p of an address space has this entry, and what it shows lies in its VMO
+pub record IsMappedInside (c : Content) (table : ℕ → ℕ → Option Entry) (root p : ℕ) (entry : Entry) : Type 0 where
+  pub is : table root p ≡ Some entry
+  pub below : entry.page < pages_of c entry.koid.0
+
+-- Page p of an address space shows a page that lies in its VMO.
+pub record ShowsPage (c : Content) (table : ℕ → ℕ → Option Entry) (root p : ℕ) : Type 0 where
+  pub entry : Entry
+  pub shows : IsMappedInside c table root p entry
+
+-- Page p of an address space shows a page that may be owned.
+pub record MayWrite (c : Content) (table : ℕ → ℕ → Option Entry) (root p : ℕ) : Type 0 where
+  pub entry : Entry
+  pub shows : IsMappedInside c table root p entry
+  pub own : MayOwn c entry.koid.0 entry.page
+
+-- a page is not ready for this
+abbrev pub is_unready : (wanted : Readiness) → Option Readiness → Bool
+is_unready Read readiness = not (is_some readiness)
+is_unready Write readiness = not (is_writable readiness)
+
+-- the page of a VMO that an entry shows lies in the VMO
+abbrev pub LiesInVmo : Content → Entry → Type 0
+LiesInVmo c entry = entry.page < pages_of c entry.koid.0
+
+-- how many frames it takes to own a page, once another was owned that is not sole
+unfoldable pub need_after : Content → (first second : VmoPage) → ℕ
+need_after c first second =
+    need_each (hold c first.koid first.page (record { tag = c.frames; bytes = shown c first.koid first.page })) (second ∷ [])
+
+-- Two pages are held, with one frame.
+pub record HaveOneFrame (c : Content) (first second : VmoPage) : Type 0 where
+  pub tag : ℕ
+  pub first_is : frame_at c first.koid first.page ≡ Some tag
+  pub second_is : frame_at c second.koid second.page ≡ Some tag
+
+-- how many page faults it takes to read a page
+abbrev pub read_fault : Option Readiness → ℕ
+read_fault readiness = if is_some readiness then 0 else 1
+
+-- what is ready once page p was read
+abbrev pub after_one : (root p : ℕ) → Ready → Ready
+after_one root p ready = if is_some (ready root p) then ready else with_ready ready root p Read
+
+-- a page that shows this entry was noted as ready for this, with the frame that the entry's page has in c
+pub record IsNotedReady (readiness : Readiness) (c : Content) (root p : ℕ) (entry : Entry) (old new : ReadyRows) : Type 0 where
+  pub row : ReadyPage
+  pub koid : row.koid.0 ≡ entry.koid.0
+  pub page : row.page ≡ entry.page
+  pub frame : frame_number row.frame ≡ frame_at c entry.koid.0 entry.page
+  pub readiness_is : row.readiness ≡ readiness
+  pub rows : new ≡ with_ready_row (kept_rows (agrees row.koid.0 row.page row.frame) old) root p row
+
+-- Page p, which has this entry, was read: it is ready for reading at least, and nothing else is ready for anything else.
+pub record Touches (c : Content) (table : ℕ → ℕ → Option Entry) (root p : ℕ) (entry : Entry) (old new : ReadyRows) : Type 0 where
+  pub ready : IsMappedInside c table root p entry → NotesAreTrue c table old → ready_in new ≡ after_one root p (ready_in old)
+  pub are_true : IsMappedInside c table root p entry → NotesAreTrue c table old → NotesAreTrue c table new
+
+-- So many bytes of page p were read, from `at` bytes into the page on, with so many page faults.
+pub record ReadsBytesOfPage (c : Content) (table : ℕ → ℕ → Option Entry) (root p at len : ℕ) (old : ReadyRows) (faults : ℕ) (bytes : List ℕ) (new : ReadyRows) : Type 0 where
+  pub entry : Entry
+  pub shown_is : IsMappedInside c table root p entry
+  pub faults_are : faults ≡ read_fault (ready_in old root p)
+  pub few : faults ≤ 1
+  pub bytes_are : bytes ≡ take len (drop at (shown c entry.koid.0 entry.page))
+  pub ready : ready_in new ≡ after_one root p (ready_in old)
+  pub are_true : NotesAreTrue c table new
+
+-- the content and what is ready, as an access changes them
+abbrev pub memory_with : Content → ReadyRows → Memory
+memory_with c rows = record { content = c; ready = ready_in rows }
+
+-- The bytes were written to page p, from `at` bytes into the page on: they are the part of a write from an address that
+-- falls into it.
+pub record WritesPart (table : ℕ → ℕ → Option Entry) (root p at : ℕ) (part : List ℕ) (old : Content) (rows : ReadyRows) (new : Content) (later : ReadyRows) : Type 0 where
+  pub writes : (addr : ℕ) (bytes : List ℕ) → at ≡ part_at addr p → part ≡ part_bytes addr bytes p
+      → WritesPage table root addr bytes p (memory_with old rows) (memory_with new later)
+  pub piece : (entry : Entry) → table root p ≡ Some entry
+      → WritesPiece old (record { koid = entry.koid.0; page = entry.page; at = at; bytes = part }) new
+  pub are_true : NotesAreTrue new table later

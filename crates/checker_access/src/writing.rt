@@ -1,0 +1,188 @@
+//! Writing through mappings.
+
+ghost use Rattle.std.specs.Prelude.{◌≡◌, ℕ, ◌+◌, ◌%◌, ◌/◌, ◌<◌, ◌≤◌, true, length, Option, Some, MatchResult, OnOk};
+ghost use Rattle.vm_base.specs.declared.limits.TheConstants.{DATA_BYTES, PAGE};
+ghost use Rattle.vm_model.specs.declared.command.Command.{Command};
+ghost use Rattle.vm_model.specs.declared.reply.Reply.{Reply};
+ghost use Rattle.vm_model.specs.declared.space.Entry.{Entry};
+ghost use Rattle.vm_model.specs.declared.space.Readiness.TheVariants as Readiness;
+ghost use Rattle.vm_model.specs.Contents.Content.{IsGood};
+ghost use Rattle.vm_model.specs.Machine.Access.{write_fault};
+ghost use Rattle.mapping_set.specs.Tables.{table_of};
+ghost use Rattle.mapping_set.specs.Backed.{AreBacked};
+ghost use Rattle.checker_pages.specs.Eager.{eager_content, eager_spare as rows_spare};
+ghost use Rattle.checker_ready.specs.Notes.{rows_of, ready_in, notes_spare, NotesAreTrue};
+ghost use Rattle.checker_access.specs.Accesses.{IsAllowed, HasAccessEffect};
+ghost use Rattle.checker_access.specs.inside.Pages.{MayWrite, WritesPart, IsNotedReady};
+
+use crate::asking::lacks;
+use crate::needing::entry_of;
+use checker_pages::CheckerPages;
+use checker_ready::{ReadyMap, ReadyPage};
+use mapping_set::MappingSet;
+use vm_base::{HostMemory, PAGE, PageNo, RegionName, in_page, page_of};
+use vm_model::{Entry, Readiness};
+
+/// Writes bytes, at most `DATA_BYTES`, from an address of the address space of a root region on. Nothing refuses it
+/// (`refusal_to_write`). Page by page, in the order of the addresses, the page that is shown is owned (copy on write), what
+/// showed it in another frame is ready for nothing, and its bytes are replaced. Answers how many page faults that took: one
+/// for each page that was not ready for writing, which is ready for that then. `HostMemory` if the host has too little
+/// memory. Then nothing is changed of the content, nor of what is ready.
+pub fn write(
+    pages: &mut CheckerPages,
+    maps: &MappingSet,
+    ready: &mut ReadyMap,
+    region: RegionName,
+    addr: u64,
+    bytes: &[u8],
+) -> Result<u64, HostMemory>
+    requires backed { AreBacked (eager_content pages.old) (table_of maps.now) }
+    requires true_rows { NotesAreTrue (eager_content pages.old) (table_of maps.now) (rows_of ready.old) }
+    requires len { length bytes.now ≤ DATA_BYTES }
+    requires may { IsAllowed (eager_content pages.old) (table_of maps.now) (Command.MemWrite region addr bytes.now) }
+    ensures wrote { MatchResult result
+        (λ faults. HasAccessEffect (table_of maps.now) (eager_content pages.old) (rows_of ready.old)
+        (Command.MemWrite region addr bytes.now) (Reply.Faults faults) (eager_content pages.new) (rows_of ready.new))
+        (λ lack. (eager_content pages.new ≡ eager_content pages.old) × (rows_of ready.new ≡ rows_of ready.old)) }
+    ensures true_rows { NotesAreTrue (eager_content pages.new) (table_of maps.now) (rows_of ready.new) }
+{
+    if bytes.is_empty() {
+        return Ok(0);
+    }
+    let Ok(()) = make_room(pages, ready) else {
+        return Err(HostMemory);
+    };
+    if in_page(addr) + bytes.len() as u64 <= PAGE {
+        Ok(write_page(
+            pages,
+            maps,
+            ready,
+            region,
+            page_of(addr),
+            in_page(addr),
+            bytes,
+        ))
+    } else {
+        Ok(write_in_two(pages, maps, ready, region, addr, bytes))
+    }
+}
+
+// Makes room for two pages that are owned, and for two notes. `HostMemory` if the host has too little memory.
+fn make_room(pages: &mut CheckerPages, ready: &mut ReadyMap) -> Result<(), HostMemory>
+    ensures rows { OnOk result (2 ≤ rows_spare pages.new) }
+    ensures notes { OnOk result (2 ≤ notes_spare ready.new) }
+    ensures content { eager_content pages.new ≡ eager_content pages.old }
+    ensures same { rows_of ready.new ≡ rows_of ready.old }
+{
+    let Ok(()) = pages.reserve(2) else {
+        return Err(HostMemory);
+    };
+    let Ok(()) = ready.reserve(2) else {
+        return Err(HostMemory);
+    };
+    Ok(())
+}
+
+// Writes bytes that fall into two pages, one behind the other. There is room for both.
+fn write_in_two(
+    pages: &mut CheckerPages,
+    maps: &MappingSet,
+    ready: &mut ReadyMap,
+    region: RegionName,
+    addr: u64,
+    bytes: &[u8],
+) -> u64
+    requires backed { AreBacked (eager_content pages.old) (table_of maps.now) }
+    requires true_rows { NotesAreTrue (eager_content pages.old) (table_of maps.now) (rows_of ready.old) }
+    requires two { PAGE < addr % PAGE + length bytes.now }
+    requires len { length bytes.now ≤ DATA_BYTES }
+    requires may { IsAllowed (eager_content pages.old) (table_of maps.now) (Command.MemWrite region addr bytes.now) }
+    requires room { 2 ≤ rows_spare pages.old }
+    requires notes { 2 ≤ notes_spare ready.old }
+    ensures wrote { HasAccessEffect (table_of maps.now) (eager_content pages.old) (rows_of ready.old)
+        (Command.MemWrite region addr bytes.now) (Reply.Faults result) (eager_content pages.new) (rows_of ready.new) }
+    ensures true_rows { NotesAreTrue (eager_content pages.new) (table_of maps.now) (rows_of ready.new) }
+{
+    let page = page_of(addr);
+    let at = in_page(addr);
+    let (here, behind) = bytes.split_at((PAGE - at) as usize);
+    let faults = write_page(pages, maps, ready, region, page, at, here);
+    faults + write_page(pages, maps, ready, region, page + 1, 0, behind)
+}
+
+// Writes bytes to one page, from `at` bytes into the page on, and answers how many page faults that took. There is room for
+// it.
+fn write_page(
+    pages: &mut CheckerPages,
+    maps: &MappingSet,
+    ready: &mut ReadyMap,
+    root: RegionName,
+    page: PageNo,
+    at: u64,
+    bytes: &[u8],
+) -> u64
+    requires good { IsGood (eager_content pages.old) }
+    requires true_rows { NotesAreTrue (eager_content pages.old) (table_of maps.now) (rows_of ready.old) }
+    requires may { MayWrite (eager_content pages.old) (table_of maps.now) root.0 page }
+    requires range { at + length bytes.now ≤ PAGE }
+    requires room { 1 ≤ rows_spare pages.old }
+    requires notes { 1 ≤ notes_spare ready.old }
+    ensures faults { result ≡ write_fault (ready_in (rows_of ready.old) root.0 page) }
+    ensures few { result ≤ 1 }
+    ensures writes { WritesPart (table_of maps.now) root.0 page at bytes.now (eager_content pages.old) (rows_of ready.old)
+        (eager_content pages.new) (rows_of ready.new) }
+    ensures room { rows_spare pages.old ≤ rows_spare pages.new + 1 }
+    ensures notes { notes_spare ready.old ≤ notes_spare ready.new + 1 }
+{
+    let entry = entry_of(maps, root, page);
+    let faults = faults_to_write(ready, root, page);
+    pages.write(entry.koid, entry.page, at, bytes);
+    note_written(pages, ready, root, page, entry);
+    faults
+}
+
+// How many page faults it takes to write a page: one, if it is not ready for writing.
+fn faults_to_write(ready: &ReadyMap, root: RegionName, page: PageNo) -> u64
+    ensures faults { result ≡ write_fault (ready_in (rows_of ready.now) root.0 page) }
+    ensures few { result ≤ 1 }
+{
+    if lacks(ready, root, page, Readiness::Write) {
+        1
+    } else {
+        0
+    }
+}
+
+// Notes that a page that was written is ready for writing. What showed its page of a VMO in another frame is ready for
+// nothing. There is room for a note. If the page was ready for writing and has kept its frame, all is noted already.
+fn note_written(
+    pages: &CheckerPages,
+    ready: &mut ReadyMap,
+    root: RegionName,
+    page: PageNo,
+    entry: Entry,
+)
+    requires { 1 ≤ notes_spare ready.old }
+    ensures notes { IsNotedReady Readiness.Write (eager_content pages.now) root.0 page entry (rows_of ready.old) (rows_of ready.new) }
+    ensures room { notes_spare ready.old ≤ notes_spare ready.new + 1 }
+{
+    let row = ReadyPage {
+        koid: entry.koid,
+        page: entry.page,
+        frame: pages.frame(entry.koid, entry.page),
+        readiness: Readiness::Write,
+    };
+    if !is_noted(ready, root, page, row) {
+        ready.set(root, page, row);
+    }
+}
+
+// Whether this is noted of a page.
+fn is_noted(ready: &ReadyMap, root: RegionName, page: PageNo, row: ReadyPage) -> bool
+    ensures { result ≡ true → rows_of ready.now root.0 page ≡ Some row }
+{
+    match ready.at(root, page) {
+        Some(noted) => noted == row,
+        None => false,
+    }
+}

@@ -1,0 +1,178 @@
+//! The machine of a checker.
+
+ghost use Rattle.std.specs.Prelude.{◌≡◌, ◌≢◌, ◌+◌, ◌<◌, ◌≤◌, ◌&&◌, ◌↔◌, ℕ, not, true, length, is_some, ⊤, IsTrue, None, MatchResult, MatchOption};
+ghost use Rattle.std.specs.Option.{option_map};
+ghost use Rattle.vm_base.specs.declared.limits.TheConstants.{DATA_BYTES, FRAMES, KOIDS, PIN_PAGES};
+ghost use Rattle.vm_base.specs.declared.names.Tag.{Tag};
+ghost use Rattle.vm_base.specs.declared.refusal.Refusal.{Refusal};
+ghost use Rattle.vm_model.specs.declared.reply.Reply.{Reply};
+ghost use Rattle.vm_model.specs.Machine.Lent.{command_of, reply_for};
+ghost use Rattle.vm_model.specs.Machine.Refusals.{refusals, first_of};
+ghost use Rattle.moving_model.specs.Moving.{tells_place};
+
+use crate::asking::refusal_to;
+use crate::dispatching::perform;
+use crate::groups::know_given;
+use crate::reaching::named_in;
+use crate::wanting::wants_memory;
+use checker_ready::ReadyMap;
+use checker_vmos::CheckerVmos;
+use mapping_set::MappingSet;
+use region_tree::Regions;
+use std::alloc::Global;
+use std::marker::Model;
+use vm_base::{HostMemory, PinName, Tag};
+use vm_model::{Answer, Call};
+
+/// The names, VMOs, pins, pages, regions and mappings of a machine, and which pages are ready for an access. Each `answer` is
+/// one command. Contracts see the machine that it stands for (`checker_machine_of`).
+#[derive(Drop)]
+pub struct CheckerMachine {
+    /// The allocator that gives room for a list of mappings.
+    alloc: Global,
+    vmos: CheckerVmos,
+    /// The regions of all address spaces.
+    regions: Regions,
+    /// The mappings: what each page of each address space shows.
+    maps: MappingSet,
+    /// The pages that are ready for an access.
+    ready: ReadyMap,
+}
+
+impl Model for CheckerMachine {
+    ghost use Rattle.checker_machine.specs.Machine.{CheckerParts};
+
+    ghost Value = { CheckerParts };
+
+    ghost use Rattle.checker_machine.specs.inside.Fields.{checker_parts_of, AreSoundFields};
+
+    ghost view = { checker_parts_of };
+
+    ghost invariant = { AreSoundFields };
+}
+
+impl CheckerMachine {
+    ghost use Rattle.vm_model.specs.Machine.Machine.{Machine, IsGoodMachine, empty_machine};
+    ghost use Rattle.vm_model.specs.Machine.MachineStep.{MachineStep, may_want_memory};
+    ghost use Rattle.checker_machine.specs.Machine.{checker_machine_of, HasPinnedFrame, pinned_frame};
+
+    /// Makes a machine with nothing, and no page frames yet, which `fill` gives.
+    pub fn new(alloc: Global) -> CheckerMachine
+        ensures empty { checker_machine_of result ≡ empty_machine 0 }
+        ensures good { IsGoodMachine (checker_machine_of result) }
+    {
+        CheckerMachine {
+            alloc,
+            vmos: CheckerVmos::new(alloc),
+            regions: Regions::new(alloc),
+            maps: MappingSet::new(alloc),
+            ready: ReadyMap::new(alloc),
+        }
+    }
+
+    /// Gives a machine that has nothing its page frames, from 1 to `FRAMES` of them. `HostMemory` if the host has too little
+    /// memory.
+    pub fn fill(&mut self, frames: u32) -> Result<(), HostMemory>
+        requires empty { checker_machine_of self.old ≡ empty_machine 0 }
+        requires some { 1 ≤ frames }
+        requires most { frames ≤ FRAMES }
+        ensures filled { MatchResult result (λ _. checker_machine_of self.new ≡ empty_machine frames)
+            (λ lack. checker_machine_of self.new ≡ checker_machine_of self.old) }
+        ensures good { IsGoodMachine (checker_machine_of self.new) }
+    {
+        self.vmos.pages.fill(frames)
+    }
+
+    /// Returns whether want of memory may be the reply to a call (`HostMemory`): nothing refuses it, and it may want
+    /// memory.
+    pub fn may_want_memory(&self, call: &Call<'_>) -> bool
+        ensures { result ≡ (not (is_some (first_of (refusals (checker_machine_of self.now).state (command_of call.now))))
+            && may_want_memory (checker_machine_of self.now) (command_of call.now)) }
+    {
+        let target = named_in(&self.vmos, call);
+        match refusal_to(&self.vmos, &self.regions, &self.maps, call, target) {
+            Some(_) => false,
+            None => wants_memory(
+                &self.vmos,
+                &self.regions,
+                &self.maps,
+                &self.ready,
+                call,
+                target,
+            ),
+        }
+    }
+
+    /// Does one command as a whole, and answers its reply. A command that is refused changes nothing. A region or a mapping for
+    /// which the command leaves the place open is put at the address `told`. The answer is `None`, with nothing changed, if
+    /// nothing refuses the command, but it can't be at that address. Of other commands `told` says nothing. Bytes that are read
+    /// are written to `bytes`, and the frames of pinned pages to `numbers`, and lent from there. `HostMemory`, with nothing
+    /// changed, if the host has too little memory.
+    pub fn answer<'a>(
+        &mut self,
+        call: &Call<'_>,
+        told: u64,
+        bytes: &'a mut [u8],
+        numbers: &'a mut [u64],
+    ) -> Result<Option<Answer<'a>>, HostMemory>
+        requires next { (checker_machine_of self.old).state.content.next < KOIDS }
+        requires bytes { DATA_BYTES ≤ length bytes.old }
+        requires numbers { PIN_PAGES ≤ length numbers.old }
+        ensures step { MatchResult result (λ given. MatchOption given
+            ((checker_machine_of self.new ≡ checker_machine_of self.old) × (tells_place (command_of call.now) ≡ true)
+            × (first_of (refusals (checker_machine_of self.old).state (command_of call.now)) ≡ None)
+            × ((new : Machine) → MachineStep (checker_machine_of self.old) (command_of call.now) (Reply.Address told) new → ⊥))
+            (λ answer. MachineStep (checker_machine_of self.old) (command_of call.now) (reply_for answer) (checker_machine_of self.new)))
+            (λ lack. checker_machine_of self.new ≡ checker_machine_of self.old) }
+        ensures own { MatchResult result (λ given. MatchOption given ⊤
+            (λ answer. reply_for answer ≢ Reply.Refused Refusal.HostMemory)) (λ lack. ⊤) }
+        ensures place { MatchResult result (λ given. MatchOption given ⊤ (λ answer. tells_place (command_of call.now) ≡ true
+            → (address : ℕ) → reply_for answer ≡ Reply.Address address → address ≡ told)) (λ lack. ⊤) }
+        ensures good { IsGoodMachine (checker_machine_of self.new) }
+        ensures next { (checker_machine_of self.new).state.content.next ≤ (checker_machine_of self.old).state.content.next + 1 }
+        ensures frames { (checker_machine_of self.new).state.content.frames ≡ (checker_machine_of self.old).state.content.frames }
+    {
+        know_given(call);
+        let target = named_in(&self.vmos, call);
+        if let Some(refusal) = refusal_to(&self.vmos, &self.regions, &self.maps, call, target) {
+            return Ok(Some(Answer::Refused(refusal)));
+        }
+        perform(
+            self.alloc,
+            &mut self.vmos,
+            &mut self.regions,
+            &mut self.maps,
+            &mut self.ready,
+            call,
+            target,
+            told,
+            bytes,
+            numbers,
+        )
+    }
+
+    /// Returns the frame of page `at` of a pin, counted from the pin's first. `None` if there is no such pin, or if it
+    /// has no such page.
+    pub fn pinned_frame(&self, pin: PinName, at: u64) -> Option<Tag>
+        ensures { option_map (λ (tag : Tag). tag.0) result
+            ≡ pinned_frame (checker_machine_of self.now).state ((checker_machine_of self.now).state.pins pin.0) at }
+    {
+        let Some((koid, first, count)) = self.vmos.pins.get(pin) else {
+            return None;
+        };
+        if at >= count {
+            return None;
+        }
+        self.vmos.pages.frame(koid, first + at)
+    }
+
+    /// Returns whether a page that is pinned has the frame.
+    pub fn is_pinned_frame(&self, tag: Tag) -> bool
+        ensures { IsTrue result ↔ HasPinnedFrame (checker_machine_of self.now) tag.0 }
+    {
+        match self.vmos.pages.viewer(tag) {
+            Some((koid, page)) => self.vmos.pins.pinned(koid, page, 1),
+            None => false,
+        }
+    }
+}

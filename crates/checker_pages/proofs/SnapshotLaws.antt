@@ -1,0 +1,181 @@
+-- Held pages that are counted, released and shown by a snapshot, one after another.
+use Rattle.std.proofs.Common.{◌≡◌, ◌≢◌, ℕ, zero, suc, ◌+◌, ◌-◌, ◌<◌, ◌≤◌, Option, None, Some, IsSome, refl, sym, ap, subst, ◌∙◌, arith}
+use Rattle.std.proofs.lemmas.Bool.Decides.{nat_tests}
+use Rattle.vm_base.specs.declared.limits.TheConstants.{VMO_PAGES}
+use Rattle.vm_base.specs.Entries.{with_key}
+use Rattle.vm_base.proofs.SearchLaws.{bit_le, bit-true, bit-false}
+use Rattle.vm_model.specs.Contents.Content.{Content, Page, is_held, hold, created, IsGood, IsNextBelow, HasNoneBelow}
+use Rattle.vm_model.specs.Contents.Sharing.{page_seen, snapshotted}
+use Rattle.vm_model.specs.Contents.Zeroing.{zeroed}
+use Rattle.vm_model.proofs.ContentLaws.{same_content, is_held-zero}
+use Rattle.vm_model.proofs.SharingLaws.{koid_held, page_seen-out, page-snapshotted_new, page-snapshotted_other, IsGood-snapshotted}
+use Rattle.vm_model.proofs.ZeroingLaws.{zeroed-none}
+use Rattle.checker_pages.proofs.VmoLaws.{koid_apart}
+use Rattle.checker_pages.specs.inside.Rows.{held_in}
+
+-- ---- how many are held
+
+pub held_in_le : (c : Content) (v from n : ℕ) → held_in c v from n ≤ n
+unfolding held_in
+held_in_le c v from zero = omega arith
+held_in_le c v from (suc n) = omega (arith, bit_le (is_held c v from), held_in_le c v (from + 1) n)
+
+-- zero pages are passed
+held_in-skip : (c : Content) (v from k n : ℕ) → ((q : ℕ) → from ≤ q → q < from + k → c.page v q ≡ None) → held_in c v from (k + n) ≡ held_in c v (from + k) n
+unfolding held_in
+held_in-skip c v from zero n none =
+    let place : from ≡ from + 0 = omega arith in
+    let long : 0 + n ≡ n = omega arith in
+    λ i. held_in c v (place i) (long i)
+held_in-skip c v from (suc k) n none =
+    let miss = bit-false (is_held c v from) (is_held-zero c v from (none from (omega arith) (omega arith))) in
+    let rest = held_in-skip c v (from + 1) k n (λ q low high. none q (omega arith) (omega arith)) in
+    let far : (from + 1) + k ≡ from + suc k = omega arith in
+    let long : suc k + n ≡ suc (k + n) = omega arith in
+    ap {B = ℕ} (λ (m : ℕ). held_in c v from m) long ∙ omega (arith, miss, rest, ap {B = ℕ} (λ (a : ℕ). held_in c v a n) far)
+
+module _ (c : Content) (v from end : ℕ) where
+  -- the next page that is held is one, and those behind it are left
+  pub held_in-next : (p : ℕ) → IsNextBelow c v from end p → held_in c v from (end - from) ≡ 1 + held_in c v (p + 1) (end - (p + 1))
+  unfolding held_in
+  held_in-next p next =
+      let order = next.order in
+      let below = next.below in
+      let long : end - from ≡ (p - from) + suc (end - (p + 1)) = omega arith in
+      let place : from + (p - from) ≡ p = omega arith in
+      let skip = held_in-skip c v from (p - from) (suc (end - (p + 1))) (λ q low high. next.gap q low (omega arith)) in
+      let hit = bit-true (is_held c v p) next.held in
+      ap {B = ℕ} (λ (n : ℕ). held_in c v from n) long ∙ (skip ∙ (ap {B = ℕ} (λ (a : ℕ). held_in c v a (suc (end - (p + 1)))) place ∙ omega (arith, hit)))
+
+  -- no page is left
+  pub held_in-end : HasNoneBelow c v from end → held_in c v from (end - from) ≡ 0
+  unfolding held_in
+  held_in-end none =
+      let long : end - from ≡ (end - from) + 0 = omega arith in
+      ap {B = ℕ} (λ (n : ℕ). held_in c v from n) long
+      ∙ held_in-skip c v from (end - from) 0 (λ q low high. none q low (omega arith))
+
+-- ---- pages that become zero
+
+-- one page of a range, and then the range
+pub zeroed-after : (c d : Content) (v first end p : ℕ) → IsNextBelow c v first end p → d ≡ zeroed c v p (p + 1) → zeroed d v first end ≡ zeroed c v first end
+unfolding zeroed
+zeroed-after c d v first end p next made = ap (λ (s : Content). zeroed s v first end) made ∙ same_content _ _ refl refl (λ w. refl) (λ w q.
+    let low = next.order in let high = next.below in grind (arith, nat_tests))
+
+-- none is left
+pub zeroed-done : (c : Content) (v first end : ℕ) → HasNoneBelow c v first end → c ≡ zeroed c v first end
+zeroed-done c v first end none = sym (zeroed-none c v first end none)
+
+-- ---- pages that a snapshot shows
+
+module _ (c : Content) (of first n : ℕ) (good : IsGood c) where
+  -- a new VMO shows none yet
+  snapshot-start : (d : Content) → d ≡ created c n → d ≡ snapshotted c of first (first - first) n
+  unfolding created snapshotted page_seen with_key
+  snapshot-start d made = made ∙ same_content _ _ refl refl (λ w. refl) (λ w q.
+      let bare : w ≡ c.next → c.page w q ≡ None = λ same. new_zero w q same in
+      let none : first - first ≡ 0 = omega arith in
+      grind (arith, nat_tests))
+    where
+      new_zero : (w q : ℕ) → w ≡ c.next → c.page w q ≡ None
+      new_zero w q same = go (c.page w q) refl where
+        go : (o : Option Page) → c.page w q ≡ o → o ≡ None
+        go None e = refl
+        go (Some held) e = let low = koid_held c w q held good e in absurd (omega arith)
+
+  -- d is the content where the snapshot shows the pages up to `from`
+  module _ (d : Content) (from end : ℕ) (apart : of ≢ c.next) (is : d ≡ snapshotted c of first (from - first) n) (order : first ≤ from) where
+    page-seen : (q : ℕ) → d.page of q ≡ c.page of q
+    page-seen q = ap (λ (s : Content). s.page of q) is ∙ page-snapshotted_other c of first (from - first) n of q apart
+
+    next-seen : (p : ℕ) → IsNextBelow d of from end p → IsNextBelow c of from end p
+    next-seen p next = record {
+      order = next.order;
+      below = next.below;
+      held = subst IsSome (page-seen p) next.held;
+      gap = λ q l h. sym (page-seen q) ∙ next.gap q l h;
+    }
+
+    none-seen : HasNoneBelow d of from end → HasNoneBelow c of from end
+    none-seen none = λ q l h. sym (page-seen q) ∙ none q l h
+
+    snapshot-zero : (p : ℕ) → from ≤ p → d.page c.next (p - first) ≡ None
+    snapshot-zero p low = ap (λ (s : Content). s.page c.next (p - first)) is
+        ∙ (page-snapshotted_new c of first (from - first) n (p - first) ∙ page_seen-out c of first (from - first) (p - first) (omega arith))
+
+    -- one page more
+    snapshot-next : (p : ℕ) (held : Page) → IsNextBelow d of from end p → d.page of p ≡ Some held
+        → hold d c.next (p - first) held ≡ snapshotted c of first (p + 1 - first) n
+    unfolding snapshotted page_seen hold
+    snapshot-next p held next found = ap (λ (s : Content). hold s c.next (p - first) held) is ∙ same_content _ _ refl refl (λ w. refl) (λ w x.
+        let low = next.order in
+        let there : c.page of p ≡ Some held = sym (page-seen p) ∙ found in
+        let place : x ≡ p - first → first + x ≡ p = λ same. omega arith in
+        let gap : from ≤ first + x → first + x < p → c.page of (first + x) ≡ None = λ l h. sym (page-seen (first + x)) ∙ next.gap (first + x) l h in
+        grind (arith, nat_tests))
+
+    snapshot-good : (p : ℕ) (held : Page) → IsNextBelow d of from end p → d.page of p ≡ Some held → end - first ≤ n → n ≤ VMO_PAGES
+        → IsGood (hold d c.next (p - first) held)
+    snapshot-good p held next found few many =
+        let high = next.below in
+        subst IsGood (sym (snapshot-next p held next found)) (IsGood-snapshotted c of first (p + 1 - first) n good (omega arith) many)
+
+    -- no page more
+    snapshot-end : from ≤ end → HasNoneBelow d of from end → d ≡ snapshotted c of first (end - first) n
+    unfolding snapshotted page_seen
+    snapshot-end high none = is ∙ same_content _ _ refl refl (λ w. refl) (λ w x.
+        let gap : from ≤ first + x → first + x < end → c.page of (first + x) ≡ None = λ l h. sym (page-seen (first + x)) ∙ none (first + x) l h in
+        grind (arith, nat_tests))
+
+-- ---- a snapshot that is made
+
+-- d is the content c with a snapshot of n pages of the VMO `of`, of which those are shown that lie below `from`
+pub record IsShowing (c d : Content) (of first from end n koid : ℕ) : Type 0 where
+  pub good : IsGood c
+  pub apart : of ≢ c.next
+  pub new : koid ≡ c.next
+  pub is : d ≡ snapshotted c of first (from - first) n
+  pub order : first ≤ from
+  pub few : end - first ≤ n
+  pub many : n ≤ VMO_PAGES
+
+pub showing-start : (c d : Content) (of first end n koid : ℕ) → IsGood c → IsSome (c.count of) → koid ≡ c.next → d ≡ created c n → end - first ≤ n → n ≤ VMO_PAGES
+    → IsShowing c d of first first end n koid
+showing-start c d of first end n koid good some new made few many = record {
+  good = good;
+  apart = koid_apart c of good some;
+  new = new;
+  is = snapshot-start c of first n good d made;
+  order = omega arith;
+  few = few;
+  many = many;
+}
+
+module _ (c d : Content) (of first from end n koid : ℕ) (s : IsShowing c d of first from end n koid) where
+  pub showing-seen : (p : ℕ) → IsNextBelow d of from end p → IsNextBelow c of from end p
+  showing-seen p next = next-seen c of first n s.good d from end s.apart s.is s.order p next
+
+  pub showing-zero : (p : ℕ) → IsNextBelow d of from end p → d.page koid (p - first) ≡ None
+  showing-zero p next = ap (λ (k : ℕ). d.page k (p - first)) s.new ∙ snapshot-zero c of first n s.good d from end s.apart s.is s.order p next.order
+
+  pub showing-good : (p : ℕ) (held : Page) → IsNextBelow d of from end p → d.page of p ≡ Some held → IsGood (hold d koid (p - first) held)
+  showing-good p held next found =
+      subst (λ (k : ℕ). IsGood (hold d k (p - first) held)) (sym s.new) (snapshot-good c of first n s.good d from end s.apart s.is s.order p held next found s.few s.many)
+
+  pub showing-next : (e : Content) (p : ℕ) (held : Page) → IsNextBelow d of from end p → d.page of p ≡ Some held → e ≡ hold d koid (p - first) held
+      → IsShowing c e of first (p + 1) end n koid
+  showing-next e p held next found made = record {
+    good = s.good;
+    apart = s.apart;
+    new = s.new;
+    is = made ∙ (ap (λ (k : ℕ). hold d k (p - first) held) s.new ∙ snapshot-next c of first n s.good d from end s.apart s.is s.order p held next found);
+    order = let low = next.order in let begins = s.order in omega arith;
+    few = s.few;
+    many = s.many;
+  }
+
+  pub showing-end : (seen : ℕ) → end ≡ first + seen → from ≤ end → HasNoneBelow d of from end → d ≡ snapshotted c of first seen n
+  showing-end seen far high none =
+      let long : end - first ≡ seen = omega arith in
+      snapshot-end c of first n s.good d from end s.apart s.is s.order high none ∙ ap (λ (k : ℕ). snapshotted c of first k n) long

@@ -1,0 +1,28 @@
+use Rattle.std.proofs.Common.{◌-◌, arith}
+use Rattle.checker_pages.specs.Eager.{eager_content}
+use Rattle.checker_pages.proofs.SnapshotLaws.{held_in_le, held_in-next, held_in-end}
+use Rattle.checker_pages.proofs.checker_pages.CheckerPages.count_held.Goals as goal
+
+pub overflow_add-held : goal.overflow_add-held
+overflow_add-held c =
+    let inv = c.loop-page.invariant in
+    let next = held_in-next (eager_content c.args.self.now) c.args.v.0 c.loop-page.from c.args.end _ c.in-Some.ensures.some in
+    omega (arith, inv.held, next, held_in_le (eager_content c.args.self.now) c.args.v.0 c.args.first (c.args.end - c.args.first))
+
+pub loop-page-smaller : goal.loop-page-smaller
+loop-page-smaller c = let next = c.in-Some.ensures.some in omega (arith, next.order, next.below)
+
+pub loop-page-preserved : goal.loop-page-preserved
+loop-page-preserved c =
+    let next = c.in-Some.ensures.some in
+    let inv = c.loop-page.invariant in
+    record {
+      first = omega (arith, next.order, inv.first);
+      end = omega (arith, next.below);
+      held = omega (arith, inv.held, held_in-next (eager_content c.args.self.now) c.args.v.0 c.loop-page.from c.args.end _ next);
+    }
+
+pub returns : goal.returns
+returns c =
+    let inv = c.loop-page.invariant in
+    omega (arith, inv.held, held_in-end (eager_content c.args.self.now) c.args.v.0 c.loop-page.from c.args.end c.in_default.ensures.none)

@@ -1,0 +1,16 @@
+use Rattle.std.proofs.Common.{arith}
+use Rattle.checker_pages.specs.Eager.{eager_of}
+use Rattle.checker_pages.proofs.ChangeLaws.{content-released, IsEager-released}
+use Rattle.checker_pages.proofs.checker_pages.CheckerPages.release_page.Goals as goal
+
+pub invariant_of-self : goal.invariant_of-self
+invariant_of-self c = record {
+  eager = IsEager-released (eager_of c.self.inside) c.args.v.0 c.args.page c.remove-tag.result c.give_back_unshown.new.pool c.remove-tag.new.self c.remove.new.self c.self.invariant.eager
+      c.remove-tag.ensures.value c.give_back_unshown.ensures.frames c.remove-tag.ensures.values c.remove.ensures.values c.give_back_unshown.ensures.taken
+      (omega (arith, c.self.invariant.eager.rows_room, c.remove-tag.ensures.spare)) (omega (arith, c.self.invariant.eager.viewers_room, c.remove.ensures.spare));
+}
+
+pub returns-clause-content : goal.returns-clause-content
+returns-clause-content c =
+    rw (← c.self.view_is) (content-released (eager_of c.self.inside) c.args.v.0 c.args.page c.remove-tag.result c.give_back_unshown.new.pool c.remove-tag.new.self c.remove.new.self c.self.invariant.eager
+    c.remove-tag.ensures.value c.give_back_unshown.ensures.frames c.remove-tag.ensures.values c.remove.ensures.values c.give_back_unshown.ensures.taken)

@@ -1,0 +1,26 @@
+use Rattle.std.proofs.Common.{◌≡◌, Some}
+use Rattle.vm_model.specs.Contents.Zeroing.{zeroed}
+use Rattle.checker_pages.specs.Eager.{eager_of, eager_content}
+use Rattle.checker_pages.proofs.VmoLaws.{content-resized, IsEager-resized, count_is, count_stays}
+use Rattle.checker_pages.proofs.checker_pages.CheckerPages.set_count.Goals as goal
+
+pub replace-requires : goal.replace-requires
+replace-requires c =
+    count_stays (eager_content (eager_of c.self.inside)) (eager_content (eager_of c.self-2.inside)) c.args.v.0 _ _
+    (rw (← c.self.view_is, ← c.self-2.view_is) at c.release_pages.ensures.content) (rw (← c.self.view_is) at c.requires.vmo)
+
+was : (c : goal.After-replace) → (eager_content (eager_of c.self.inside)).count c.args.v.0 ≡ Some c.unwrap_or-old.result
+was c = count_is _ c.unwrap_or-old.result (rw (← c.self.view_is) at c.requires.vmo) (rw c.find.ensures at c.unwrap_or-old.ensures)
+
+zero : (c : goal.After-replace) → eager_content (eager_of c.self-2.inside) ≡ zeroed (eager_content (eager_of c.self.inside)) c.args.v.0 c.args.count c.unwrap_or-old.result
+zero c = rw (← c.self.view_is, ← c.self-2.view_is) at c.release_pages.ensures.content
+
+pub invariant_of-self : goal.invariant_of-self
+invariant_of-self c = record {
+  eager = IsEager-resized (eager_content (eager_of c.self.inside)) (eager_of c.self-2.inside) c.replace.new.self c.args.v.0 c.args.count _ (zero c) (was c) c.replace.ensures.values
+      c.self.invariant.eager.good c.self-2.invariant.eager c.requires.count c.replace.ensures.count;
+}
+
+pub returns-clause-content : goal.returns-clause-content
+returns-clause-content c =
+    rw (← c.self.view_is) (content-resized (eager_content (eager_of c.self.inside)) (eager_of c.self-2.inside) c.replace.new.self c.args.v.0 c.args.count _ (zero c) (was c) c.replace.ensures.values)

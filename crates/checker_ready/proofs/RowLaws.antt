@@ -1,0 +1,671 @@
+-- What the calls leave of the rows.
+use Rattle.std.proofs.Common.{◌≡◌, ◌⊎◌, ℕ, ◌+◌, ◌<◌, ◌≤◌, Bool, true, false, not, cond, ◌&&◌, ◌||◌, ◌==◌, Option, None, Some, refl, sym, ap, subst, ◌∙◌, inl, inr, arith}
+use Rattle.std.specs.Prelude.{nat_lt, IsSome}
+use Rattle.std.specs.Option.{option_map}
+use Rattle.std.proofs.lemmas.Bool.{and_parts, and_from, eq-eqb, lt-ltb, le-ltb, ltb-false, not-true}
+use Rattle.std.proofs.lemmas.Bool.Decides.{nat_tests}
+use Rattle.vm_base.specs.declared.names.Tag.{Tag}
+use Rattle.vm_base.specs.Entries.{passes}
+use Rattle.vm_base.proofs.EntryLaws.{some_same}
+use Rattle.vm_base.specs.Search.{any_from}
+use Rattle.vm_base.proofs.SearchLaws.{eqb_is, any_from_found, any_from_at}
+use Rattle.std.specs.Cmp.{both_ways}
+use Rattle.vm_model.specs.declared.space.Readiness.TheVariants.{Read}
+use Rattle.vm_model.specs.Naming.Pins.{Pin, is_pinned, any_pinned}
+use Rattle.vm_model.specs.Contents.Content.{Content}
+use Rattle.vm_model.specs.Contents.Zeroing.{is_within}
+use Rattle.vm_model.specs.Space.Readiness.{is_same_frame, frame_number}
+use Rattle.vm_model.proofs.ContentLaws.{same_page}
+use Rattle.vm_model.proofs.ReadinessLaws.{is_same_frame-same}
+use Rattle.pair_map.specs.declared.pair_map.PairMap.{PairMap}
+use Rattle.pair_map.specs.Maps.{values_of, with_pair}
+use Rattle.checker_pages.proofs.LinkLaws.{pair-here, pair-other, pair-cases}
+use Rattle.checker_ready.specs.declared.ready_map.ReadyPage.{ReadyPage}
+use Rattle.checker_ready.specs.declared.stamps.Kept.{Kept}
+use Rattle.checker_ready.specs.declared.stamps.Stamp.{Stamp}
+use Rattle.checker_ready.specs.Notes.{Notes, ReadyRows, ready_page, noted_under, rows_of, stamp_for, has_frame, row_if, with_ready_row, kept_rows, without_range, limited_rows, limited, agrees, is_current, HasNoRow, IsReadySomewhere, AreNotes, lowered, counts, counting, without_place, HasCount}
+use Rattle.checker_ready.proofs.CountLaws.{count-same, count-more, count-less, count-none, count-some, without-none, counts-is, counts-apart, counts-old, counts-not, counting-at, counting-dropped, counting-here, counting-other}
+use Rattle.checker_ready.proofs.StampLaws.{row_of, page-stamped, page-noted, page-limited, page-unlimited, page-current, page-settled, page-lowered, lowered-some}
+
+-- ---- nothing is noted
+
+pub rows-none : (m : Notes) → values_of m.places ≡ (λ a b. None) → rows_of m ≡ (λ root p. None)
+rows-none m none = λ i root p. noted_under (values_of m.stamps) (none i root p)
+
+pub AreNotes-new : (m : Notes) → values_of m.places ≡ (λ a b. None) → values_of m.stamps ≡ (λ a b. None) → m.time ≡ 0 → m.room ≡ 0 → AreNotes m
+AreNotes-new m no_place no_stamp time room = record {
+  made = λ r q k e. let none = ap (λ (map : ℕ → ℕ → Option Kept). map r q) no_place in absurd cc;
+  stamped = λ v p s e. let none = ap (λ (map : ℕ → ℕ → Option Stamp). map v p) no_stamp in absurd cc;
+  counted = λ v p s e. let none = ap (λ (map : ℕ → ℕ → Option Stamp). map v p) no_stamp in absurd cc;
+  noted = λ v p s e. let none = ap (λ (map : ℕ → ℕ → Option Stamp). map v p) no_stamp in absurd cc;
+  places_room = omega arith;
+  stamps_room = omega arith;
+  times = omega arith;
+}
+
+-- ---- one stamp changes
+
+-- the page of a note that is page p of the VMO v has the stamp of that page
+stamp_at : (stamps : ℕ → ℕ → Option Stamp) (v p : ℕ) (k : Kept) → ((k.koid.0 == v) && (k.page == p)) ≡ true → stamps k.koid.0 k.page ≡ stamps v p
+stamp_at stamps v p k hit =
+    let both = and_parts (k.koid.0 == v) (k.page == p) hit in
+    let koid = eqb_is k.koid.0 v both.0 in
+    let page = eqb_is k.page p both.1 in
+    λ i. stamps (koid i) (page i)
+
+-- what a change of that stamp makes of each note, it makes of each row
+module _ (places : ℕ → ℕ → Option Kept) (old new : ℕ → ℕ → Option Stamp) (v p : ℕ) (o : Option Stamp) (values : new ≡ with_pair old v p o) where
+  by_note : (change : Option ReadyPage → Option ReadyPage) → change None ≡ None
+      → ((k : Kept) (r q : ℕ) → places r q ≡ Some k → ready_page k (cond ((k.koid.0 == v) && (k.page == p)) o (old k.koid.0 k.page)) ≡ change (ready_page k (old k.koid.0 k.page)))
+      → (r q : ℕ) → noted_under new (places r q) ≡ change (noted_under old (places r q))
+  unfolding with_pair
+  by_note change empty each r q = go (places r q) refl where
+    go : (n : Option Kept) → places r q ≡ n → noted_under new n ≡ change (noted_under old n)
+    go None e = sym empty
+    go (Some k) e = ap (λ (map : ℕ → ℕ → Option Stamp). ready_page k (map k.koid.0 k.page)) values ∙ each k r q e
+
+module _ (m : Notes) (v p : ℕ) (stamps : PairMap Stamp) where
+  -- the stamp goes, or there was none
+  pub rows-settled : values_of stamps ≡ with_pair (values_of m.stamps) v p None → (c : Content)
+      → ((s : Stamp) → values_of m.stamps v p ≡ Some s → has_frame c v p s.frame ≡ false)
+      → rows_of (record m { stamps = stamps }) ≡ kept_rows (is_current c v p (p + 1)) (rows_of m)
+  unfolding kept_rows passes
+  rows-settled values c other = λ i r q. by_note (values_of m.places) (values_of m.stamps) (values_of stamps) v p None values (row_if (is_current c v p (p + 1))) refl
+      (λ k r q e. page-settled c k v p (values_of m.stamps k.koid.0 k.page) (λ hit s is. other s (sym (stamp_at (values_of m.stamps) v p k hit) ∙ is))) r q i
+
+  -- the page is for reading alone from now on
+  pub rows-limited : AreNotes m → (s : Stamp) → values_of m.stamps v p ≡ Some s → values_of stamps ≡ with_pair (values_of m.stamps) v p (Some (record s { shared = m.time }))
+      → rows_of (record m { stamps = stamps }) ≡ limited_rows (λ q. false) v p (p + 1) (rows_of m)
+  unfolding limited_rows
+  rows-limited notes s found values = λ i r q. by_note (values_of m.places) (values_of m.stamps) (values_of stamps) v p (Some (record s { shared = m.time })) values
+      (option_map (limited (λ q. false) v p (p + 1))) refl
+      (λ k r q e. page-limited k v p m.time (values_of m.stamps k.koid.0 k.page) s (notes.made r q k e) (λ hit. stamp_at (values_of m.stamps) v p k hit ∙ found)) r q i
+
+-- there is no stamp, or the page stays
+pub rows-unlimited : (m : Notes) (v p : ℕ) (stays : Bool) → (values_of m.stamps v p ≡ None) ⊎ (stays ≡ true) → rows_of m ≡ limited_rows (λ q. stays) v p (p + 1) (rows_of m)
+unfolding limited_rows
+rows-unlimited m v p stays none = λ i r q. go (values_of m.places r q) i where
+  go : (n : Option Kept) → noted_under (values_of m.stamps) n ≡ option_map (limited (λ q. stays) v p (p + 1)) (noted_under (values_of m.stamps) n)
+  go None = refl
+  go (Some k) = page-unlimited k v p stays (values_of m.stamps k.koid.0 k.page) (λ hit. elim none [
+    | inl bare ↦ inl (stamp_at (values_of m.stamps) v p k hit ∙ bare)
+    | inr is ↦ inr is
+  ])
+
+-- the stamp has the frame
+pub rows-current : (m : Notes) (v p : ℕ) (c : Content) (s : Stamp) → values_of m.stamps v p ≡ Some s → has_frame c v p s.frame ≡ true
+    → rows_of m ≡ kept_rows (is_current c v p (p + 1)) (rows_of m)
+unfolding kept_rows passes
+rows-current m v p c s found same = λ i r q. go (values_of m.places r q) i where
+  go : (n : Option Kept) → noted_under (values_of m.stamps) n ≡ row_if (is_current c v p (p + 1)) (noted_under (values_of m.stamps) n)
+  go None = refl
+  go (Some k) = page-current c k v p (values_of m.stamps k.koid.0 k.page) (λ hit st is.
+      let one : s ≡ st = some_same (sym found ∙ (sym (stamp_at (values_of m.stamps) v p k hit) ∙ is)) in
+      ap (λ (x : Stamp). has_frame c v p x.frame) (sym one) ∙ same)
+
+-- the notes stay so
+pub AreNotes-unstamped : (m : Notes) (v p : ℕ) (stamps : PairMap Stamp) → AreNotes m → values_of stamps ≡ with_pair (values_of m.stamps) v p None → m.room ≤ stamps.spare
+    → AreNotes (record m { stamps = stamps })
+AreNotes-unstamped m v p stamps notes values room = record {
+  made = notes.made;
+  stamped = λ w q s e. notes.stamped w q s (was w q s e);
+  counted = λ w q s e. notes.counted w q s (was w q s e);
+  noted = λ w q s e. notes.noted w q s (was w q s e);
+  places_room = notes.places_room;
+  stamps_room = room;
+  times = notes.times;
+}
+  where
+    was : (w q : ℕ) (s : Stamp) → values_of stamps w q ≡ Some s → values_of m.stamps w q ≡ Some s
+    was w q s e = elim (pair-cases (values_of m.stamps) v p None w q s (ap (λ (map : ℕ → ℕ → Option Stamp). map w q) (sym values) ∙ e)) [
+      | inl here ↦ absurd (let none = here.2 in cc)
+      | inr other ↦ other.1
+    ]
+
+pub AreNotes-stamped : (m : Notes) (v p : ℕ) (stamps : PairMap Stamp) (s : Stamp) → AreNotes m → values_of stamps ≡ with_pair (values_of m.stamps) v p (Some s)
+    → s.since ≤ m.time → s.shared ≤ m.time → HasCount (counting (values_of m.places) v p s.since) s.notes → (1 ≤ s.notes) × (s.notes ≤ m.time)
+    → m.room ≤ stamps.spare → AreNotes (record m { stamps = stamps })
+AreNotes-stamped m v p stamps s notes values since shared count noted room = record {
+  made = notes.made;
+  stamped = λ w q st e. elim (pair-cases (values_of m.stamps) v p (Some s) w q st (ap (λ (map : ℕ → ℕ → Option Stamp). map w q) (sym values) ∙ e)) [
+    | inl here ↦
+        let same : s ≡ st = some_same here.2 in
+        let first = ap (λ (x : Stamp). x.since) same in
+        let second = ap (λ (x : Stamp). x.shared) same in
+        (omega arith, omega arith)
+    | inr other ↦ notes.stamped w q st other.1
+  ];
+  counted = λ w q st e. elim (pair-cases (values_of m.stamps) v p (Some s) w q st (ap (λ (map : ℕ → ℕ → Option Stamp). map w q) (sym values) ∙ e)) [
+    | inl here ↦
+        let same : s ≡ st = some_same here.2 in
+        subst (λ (x : Stamp). HasCount (counting (values_of m.places) w q x.since) x.notes) same
+        (subst (λ (u : ℕ). HasCount (counting (values_of m.places) w u s.since) s.notes) (sym here.1)
+        (subst (λ (u : ℕ). HasCount (counting (values_of m.places) u p s.since) s.notes) (sym here.0) count))
+    | inr other ↦ notes.counted w q st other.1
+  ];
+  noted = λ w q st e. elim (pair-cases (values_of m.stamps) v p (Some s) w q st (ap (λ (map : ℕ → ℕ → Option Stamp). map w q) (sym values) ∙ e)) [
+    | inl here ↦
+        let same = ap (λ (x : Stamp). x.notes) (some_same here.2) in
+        (omega (arith, noted.0), omega (arith, noted.1))
+    | inr other ↦ notes.noted w q st other.1
+  ];
+  places_room = notes.places_room;
+  stamps_room = room;
+  times = notes.times;
+}
+
+-- ---- one note more
+
+module _ (m : Notes) (root page : ℕ) (k : Kept) (frame : Option Tag) (notes : AreNotes m) (places : PairMap Kept) (stamps : PairMap Stamp) (room : ℕ)
+    (now : k.made ≡ m.time) (put : values_of places ≡ with_pair (values_of m.places) root page (Some k))
+    (values : values_of stamps ≡ with_pair (values_of m.stamps) k.koid.0 k.page (Some (stamp_for (values_of m.stamps k.koid.0 k.page) frame m.time))) where
+  abbrev after : Notes
+  after = record m { places = places; stamps = stamps; time = m.time + 1; room = room }
+
+  pub rows-set : rows_of after ≡ with_ready_row (kept_rows (agrees k.koid.0 k.page frame) (rows_of m)) root page (record { koid = k.koid; page = k.page; frame = frame; readiness = k.readiness })
+  unfolding with_ready_row kept_rows passes
+  rows-set = λ i r q. each r q i where
+    old_row : (r q : ℕ) → noted_under (values_of stamps) (values_of m.places r q) ≡ row_if (agrees k.koid.0 k.page frame) (rows_of m r q)
+    old_row = by_note (values_of m.places) (values_of m.stamps) (values_of stamps) k.koid.0 k.page (Some (stamp_for (values_of m.stamps k.koid.0 k.page) frame m.time)) values
+        (row_if (agrees k.koid.0 k.page frame)) refl
+        (λ j r q e. page-stamped j k.koid.0 k.page frame m.time (values_of m.stamps j.koid.0 j.page) (values_of m.stamps k.koid.0 k.page) (notes.made r q j e)
+        (λ hit. sym (stamp_at (values_of m.stamps) k.koid.0 k.page j hit)))
+
+    new_row : noted_under (values_of stamps) (Some k) ≡ Some (record { koid = k.koid; page = k.page; frame = frame; readiness = k.readiness })
+    new_row =
+        ap (λ (map : ℕ → ℕ → Option Stamp). ready_page k (map k.koid.0 k.page)) values
+        ∙ (ap (ready_page k) (pair-here (values_of m.stamps) k.koid.0 k.page (Some (stamp_for (values_of m.stamps k.koid.0 k.page) frame m.time)))
+        ∙ (ap (λ (t : ℕ). ready_page k (Some (stamp_for (values_of m.stamps k.koid.0 k.page) frame t))) (sym now)
+        ∙ page-noted k frame (values_of m.stamps k.koid.0 k.page) (λ s e. let low = notes.stamped k.koid.0 k.page s e in (omega (arith, low.0), omega (arith, low.1)))))
+
+    each : (r q : ℕ) → rows_of after r q
+        ≡ cond ((r == root) && (q == page)) (Some (record { koid = k.koid; page = k.page; frame = frame; readiness = k.readiness })) (row_if (agrees k.koid.0 k.page frame) (rows_of m r q))
+    each r q = elim (same_page root page r q) [
+      | inl here ↦
+          let hit : ((r == root) && (q == page)) ≡ true = and_from (r == root) (q == page) (eq-eqb r root here.0) (eq-eqb q page here.1) in
+          (λ i. noted_under (values_of stamps) (put i (here.0 i) (here.1 i)))
+          ∙ (ap (noted_under (values_of stamps)) (pair-here (values_of m.places) root page (Some k)) ∙ (new_row ∙ rw hit refl))
+      | inr apart ↦
+          let miss : ((r == root) && (q == page)) ≡ false = grind (arith, nat_tests) in
+          ap (λ (map : ℕ → ℕ → Option Kept). noted_under (values_of stamps) (map r q)) put
+          ∙ (ap (noted_under (values_of stamps)) (pair-other (values_of m.places) root page (Some k) r q apart) ∙ (old_row r q ∙ rw miss refl))
+    ]
+
+  -- the page had no note
+  module _ (none : values_of m.places root page ≡ None) where
+    -- what counts under the stamp of the page has this one too
+    fresh : HasCount (counting (values_of places) k.koid.0 k.page m.time) 1
+    unfolding passes
+    fresh = count-more (λ a b. false) (counting (values_of places) k.koid.0 k.page m.time) root page 0 refl here other (λ a b. refl) where
+      here : counting (values_of places) k.koid.0 k.page m.time root page ≡ true
+      here = counting-here (values_of m.places) (values_of places) root page k put k.koid.0 k.page m.time
+          ∙ counts-is k k.koid.0 k.page m.time refl refl (le-ltb k.made m.time (omega arith))
+
+      old : (o : Option Kept) → ((j : Kept) → o ≡ Some j → j.made < m.time) → passes (counts k.koid.0 k.page m.time) o ≡ false
+      old None before = refl
+      old (Some j) before = counts-old j k.koid.0 k.page m.time (lt-ltb j.made m.time (before j refl))
+
+      other : (a b : ℕ) → (a ≡ root → b ≡ page → ⊥) → counting (values_of places) k.koid.0 k.page m.time a b ≡ false
+      other a b apart = counting-other (values_of m.places) (values_of places) root page k put k.koid.0 k.page m.time a b apart
+          ∙ old (values_of m.places a b) (notes.made a b)
+
+    none_before : (v p since : ℕ) → counting (values_of m.places) v p since root page ≡ false
+    unfolding passes
+    none_before v p since = counting-at (values_of m.places) v p since root page None none
+
+    added : (since n : ℕ) → since ≤ m.time → HasCount (counting (values_of m.places) k.koid.0 k.page since) n → HasCount (counting (values_of places) k.koid.0 k.page since) (n + 1)
+    added since n low count = count-more (counting (values_of m.places) k.koid.0 k.page since) (counting (values_of places) k.koid.0 k.page since) root page n
+        (none_before k.koid.0 k.page since)
+        (counting-here (values_of m.places) (values_of places) root page k put k.koid.0 k.page since ∙ counts-is k k.koid.0 k.page since refl refl (le-ltb k.made since (omega arith)))
+        (counting-other (values_of m.places) (values_of places) root page k put k.koid.0 k.page since) count
+
+    stamp_counts : (at : Option Stamp) → values_of m.stamps k.koid.0 k.page ≡ at
+        → HasCount (counting (values_of places) k.koid.0 k.page (stamp_for at frame m.time).since) (stamp_for at frame m.time).notes
+    stamp_counts None e = fresh
+    stamp_counts (Some s) e = go (is_same_frame (frame_number s.frame) (frame_number frame)) where
+      go : (alike : Bool) → HasCount (counting (values_of places) k.koid.0 k.page (cond alike (record s { notes = s.notes + 1 }) (record { frame = frame; since = m.time; shared = m.time; notes = 1 })).since)
+          (cond alike (record s { notes = s.notes + 1 }) (record { frame = frame; since = m.time; shared = m.time; notes = 1 })).notes
+      go true = added s.since s.notes (notes.stamped k.koid.0 k.page s e).0 (notes.counted k.koid.0 k.page s e)
+      go false = fresh
+
+    stamp_low : (at : Option Stamp) → ((s : Stamp) → at ≡ Some s → (s.since ≤ m.time) × (s.shared ≤ m.time)) → ((s : Stamp) → at ≡ Some s → s.notes ≤ m.time)
+        → ((stamp_for at frame m.time).since ≤ m.time) × ((stamp_for at frame m.time).shared ≤ m.time) × (1 ≤ (stamp_for at frame m.time).notes) × ((stamp_for at frame m.time).notes ≤ m.time + 1)
+    stamp_low None times few = (omega arith, omega arith, omega arith, omega arith)
+    stamp_low (Some s) times few = go (is_same_frame (frame_number s.frame) (frame_number frame)) (times s refl) (few s refl) where
+      go : (alike : Bool) → (s.since ≤ m.time) × (s.shared ≤ m.time) → s.notes ≤ m.time
+          → ((cond alike (record s { notes = s.notes + 1 }) (record { frame = frame; since = m.time; shared = m.time; notes = 1 })).since ≤ m.time)
+          × ((cond alike (record s { notes = s.notes + 1 }) (record { frame = frame; since = m.time; shared = m.time; notes = 1 })).shared ≤ m.time)
+          × (1 ≤ (cond alike (record s { notes = s.notes + 1 }) (record { frame = frame; since = m.time; shared = m.time; notes = 1 })).notes)
+          × ((cond alike (record s { notes = s.notes + 1 }) (record { frame = frame; since = m.time; shared = m.time; notes = 1 })).notes ≤ m.time + 1)
+      go true low few = (low.0, low.1, omega arith, omega arith)
+      go false low few = (omega arith, omega arith, omega arith, omega arith)
+
+    low_here : ((stamp_for (values_of m.stamps k.koid.0 k.page) frame m.time).since ≤ m.time) × ((stamp_for (values_of m.stamps k.koid.0 k.page) frame m.time).shared ≤ m.time)
+        × (1 ≤ (stamp_for (values_of m.stamps k.koid.0 k.page) frame m.time).notes) × ((stamp_for (values_of m.stamps k.koid.0 k.page) frame m.time).notes ≤ m.time + 1)
+    low_here = stamp_low (values_of m.stamps k.koid.0 k.page) (notes.stamped k.koid.0 k.page) (λ s e. (notes.noted k.koid.0 k.page s e).1)
+
+    pub AreNotes-set : room + 1 ≡ m.room → room ≤ places.spare → room ≤ stamps.spare → AreNotes after
+    unfolding passes
+    AreNotes-set fewer low high = record {
+      made = λ r q j e. elim (pair-cases (values_of m.places) root page (Some k) r q j (ap (λ (map : ℕ → ℕ → Option Kept). map r q) (sym put) ∙ e)) [
+        | inl here ↦ let same = ap (λ (x : Kept). x.made) (some_same here.2) in omega arith
+        | inr other ↦ let before = notes.made r q j other.1 in omega arith
+      ];
+      stamped = λ v p s e. elim (cases v p s e) [
+        | inl here ↦
+            let same = some_same here.2 in
+            let since = ap (λ (x : Stamp). x.since) same in
+            let shared = ap (λ (x : Stamp). x.shared) same in
+            (omega (arith, low_here.0), omega (arith, low_here.1))
+        | inr other ↦ let low = notes.stamped v p s other.1 in (omega (arith, low.0), omega (arith, low.1))
+      ];
+      counted = λ v p s e. elim (cases v p s e) [
+        | inl here ↦
+            subst (λ (x : Stamp). HasCount (counting (values_of places) v p x.since) x.notes) (some_same here.2)
+            (subst (λ (u : ℕ). HasCount (counting (values_of places) v u (stamp_for (values_of m.stamps k.koid.0 k.page) frame m.time).since) (stamp_for (values_of m.stamps k.koid.0 k.page) frame m.time).notes) (sym here.1)
+            (subst (λ (u : ℕ). HasCount (counting (values_of places) u k.page (stamp_for (values_of m.stamps k.koid.0 k.page) frame m.time).since) (stamp_for (values_of m.stamps k.koid.0 k.page) frame m.time).notes) (sym here.0)
+            (stamp_counts (values_of m.stamps k.koid.0 k.page) refl)))
+        | inr other ↦ count-same (counting (values_of m.places) v p s.since) (counting (values_of places) v p s.since) s.notes (same_places v p s.since other.0) (notes.counted v p s other.1)
+      ];
+      noted = λ v p s e. elim (cases v p s e) [
+        | inl here ↦
+            let same = ap (λ (x : Stamp). x.notes) (some_same here.2) in
+            (omega (arith, low_here.2), omega (arith, low_here.3))
+        | inr other ↦ let few = notes.noted v p s other.1 in (few.0, omega (arith, few.1))
+      ];
+      places_room = low;
+      stamps_room = high;
+      times = let all = notes.times in omega arith;
+    }
+      where
+        cases : (v p : ℕ) (s : Stamp) → values_of stamps v p ≡ Some s
+            → ((v ≡ k.koid.0) × (p ≡ k.page) × (Some (stamp_for (values_of m.stamps k.koid.0 k.page) frame m.time) ≡ Some s)) ⊎ ((v ≡ k.koid.0 → p ≡ k.page → ⊥) × (values_of m.stamps v p ≡ Some s))
+        cases v p s e = pair-cases (values_of m.stamps) k.koid.0 k.page (Some (stamp_for (values_of m.stamps k.koid.0 k.page) frame m.time)) v p s (ap (λ (map : ℕ → ℕ → Option Stamp). map v p) (sym values) ∙ e)
+
+        same_places : (v p since : ℕ) → (v ≡ k.koid.0 → p ≡ k.page → ⊥) → (a b : ℕ) → counting (values_of m.places) v p since a b ≡ counting (values_of places) v p since a b
+        same_places v p since apart a b = elim (same_page root page a b) [
+          | inl here ↦
+              (λ i. counting (values_of m.places) v p since (here.0 i) (here.1 i)) ∙ none_before v p since
+              ∙ sym ((λ i. counting (values_of places) v p since (here.0 i) (here.1 i)) ∙ counting-here (values_of m.places) (values_of places) root page k put v p since ∙ counts-apart k v p since apart)
+          | inr other ↦ sym (counting-other (values_of m.places) (values_of places) root page k put v p since a b other)
+        ]
+
+-- a note in place of another
+pub row-cleared : (rows : ReadyRows) (root page : ℕ) (row : ReadyPage) (stays : ReadyPage → Bool)
+    → with_ready_row (kept_rows stays (without_range rows root page (page + 1))) root page row ≡ with_ready_row (kept_rows stays rows) root page row
+unfolding with_ready_row kept_rows without_range passes
+row-cleared rows root page row stays = λ i r q. each r q i where
+  each : (r q : ℕ) → cond ((r == root) && (q == page)) (Some row) (row_if stays (cond ((r == root) && is_within page (page + 1) q) None (rows r q)))
+      ≡ cond ((r == root) && (q == page)) (Some row) (row_if stays (rows r q))
+  each r q = elim (same_page root page r q) [
+    | inl here ↦
+        let hit : ((r == root) && (q == page)) ≡ true = and_from (r == root) (q == page) (eq-eqb r root here.0) (eq-eqb q page here.1) in
+        rw hit refl
+    | inr apart ↦
+        let miss : ((r == root) && (q == page)) ≡ false = grind (arith, nat_tests) in
+        let outside : ((r == root) && is_within page (page + 1) q) ≡ false = grind (arith, nat_tests) in
+        rw (miss, outside) refl
+  ]
+
+-- ---- pages of an address space are dropped
+
+module _ (m : Notes) (root p : ℕ) (k : Kept) (places : PairMap Kept) (stamps : PairMap Stamp) (notes : AreNotes m) (at : values_of m.places root p ≡ Some k)
+    (gone : values_of places ≡ with_pair (values_of m.places) root p None)
+    (less : values_of stamps ≡ with_pair (values_of m.stamps) k.koid.0 k.page (lowered k.made (values_of m.stamps k.koid.0 k.page))) where
+  -- the note counts under its stamp, unless it is from before
+  counted_here : (since : ℕ) → nat_lt k.made since ≡ false → counting (values_of m.places) k.koid.0 k.page since root p ≡ true
+  unfolding passes
+  counted_here since new = counting-at (values_of m.places) k.koid.0 k.page since root p (Some k) at ∙ counts-is k k.koid.0 k.page since refl refl new
+
+  -- if it is the only one, others are from before
+  alone : (r q : ℕ) (j : Kept) (s : Stamp) → (r ≡ root → q ≡ p → ⊥) → values_of m.places r q ≡ Some j → j.koid.0 ≡ k.koid.0 → j.page ≡ k.page
+      → values_of m.stamps k.koid.0 k.page ≡ Some s → nat_lt k.made s.since ≡ false → nat_lt 1 s.notes ≡ false → nat_lt j.made s.since ≡ true
+  unfolding passes
+  alone r q j s apart is koid page found new one =
+      let few : s.notes ≤ 1 = ltb-false 1 s.notes one in
+      let rest = count-less s.notes (counting (values_of m.places) k.koid.0 k.page s.since) root p (notes.counted k.koid.0 k.page s found) (counted_here s.since new) in
+      let none = count-none rest.0 (without_place (counting (values_of m.places) k.koid.0 k.page s.since) root p) rest.2 (let suc_is = rest.1 in omega arith) r q in
+      counts-not j k.koid.0 k.page s.since (sym (counting-at (values_of m.places) k.koid.0 k.page s.since r q (Some j) is) ∙ other (counting (values_of m.places) k.koid.0 k.page s.since r q) none) koid page
+    where
+      miss : ((r == root) && (q == p)) ≡ false
+      miss = grind (arith, nat_tests)
+
+      other : (b : Bool) → (b && not ((r == root) && (q == p))) ≡ false → b ≡ false
+      other true e = absurd (let out = miss in grind (arith, nat_tests))
+      other false e = refl
+
+  pub rows-dropped : rows_of (record m { places = places; stamps = stamps }) ≡ without_range (rows_of m) root p (p + 1)
+  unfolding without_range with_pair
+  rows-dropped = λ i r q. each r q i where
+    lower : (r q : ℕ) → (r ≡ root → q ≡ p → ⊥) → (o : Option Kept) → values_of m.places r q ≡ o → noted_under (values_of stamps) o ≡ noted_under (values_of m.stamps) o
+    lower r q apart None is = refl
+    lower r q apart (Some j) is = ap (λ (map : ℕ → ℕ → Option Stamp). ready_page j (map j.koid.0 j.page)) less ∙ go ((j.koid.0 == k.koid.0) && (j.page == k.page)) refl where
+      go : (hit : Bool) → ((j.koid.0 == k.koid.0) && (j.page == k.page)) ≡ hit
+          → ready_page j (cond hit (lowered k.made (values_of m.stamps k.koid.0 k.page)) (values_of m.stamps j.koid.0 j.page)) ≡ ready_page j (values_of m.stamps j.koid.0 j.page)
+      go true hit =
+          let both = and_parts (j.koid.0 == k.koid.0) (j.page == k.page) hit in
+          page-lowered j k.made (values_of m.stamps k.koid.0 k.page)
+          (λ s found new one. alone r q j s apart is (eqb_is j.koid.0 k.koid.0 both.0) (eqb_is j.page k.page both.1) found new one)
+          ∙ ap (ready_page j) (sym (stamp_at (values_of m.stamps) k.koid.0 k.page j hit))
+      go false miss = refl
+
+    each : (r q : ℕ) → noted_under (values_of stamps) (values_of places r q) ≡ cond ((r == root) && is_within p (p + 1) q) None (rows_of m r q)
+    each r q = ap (λ (map : ℕ → ℕ → Option Kept). noted_under (values_of stamps) (map r q)) gone ∙ elim (same_page root p r q) [
+      | inl here ↦
+          let hit : ((r == root) && (q == p)) ≡ true = and_from (r == root) (q == p) (eq-eqb r root here.0) (eq-eqb q p here.1) in
+          let page = here.1 in
+          let inside : ((r == root) && is_within p (p + 1) q) ≡ true = grind (arith, nat_tests) in
+          rw (hit, inside) refl
+      | inr apart ↦
+          let miss : ((r == root) && (q == p)) ≡ false = grind (arith, nat_tests) in
+          let outside : ((r == root) && is_within p (p + 1) q) ≡ false = grind (arith, nat_tests) in
+          rw (miss, outside) (lower r q apart (values_of m.places r q) refl)
+    ]
+
+  -- a stamp that is left is that of before, since the same times, and has the notes that are left
+  left : (v q : ℕ) (s : Stamp) → values_of stamps v q ≡ Some s → (t : Stamp) × (values_of m.stamps v q ≡ Some t) × (s.since ≡ t.since) × (s.shared ≡ t.shared) × (1 ≤ s.notes) × (s.notes ≤ t.notes)
+      × HasCount (counting (values_of places) v q s.since) s.notes
+  unfolding passes
+  left v q s e = elim (pair-cases (values_of m.stamps) k.koid.0 k.page (lowered k.made (values_of m.stamps k.koid.0 k.page)) v q s (ap (λ (map : ℕ → ℕ → Option Stamp). map v q) (sym less) ∙ e)) [
+    | inl here ↦
+        let was = lowered-some k.made (values_of m.stamps k.koid.0 k.page) s here.2 in
+        let found : values_of m.stamps v q ≡ Some was.0 = (λ i. values_of m.stamps (here.0 i) (here.1 i)) ∙ was.1 in
+        let count = here_count was.0 s was.1 was.2 was.4 in (
+          was.0,
+          found,
+          was.2,
+          was.3,
+          count.0,
+          count.1,
+          subst (λ (u : ℕ). HasCount (counting (values_of places) v u s.since) s.notes) (sym here.1)
+              (subst (λ (u : ℕ). HasCount (counting (values_of places) u k.page s.since) s.notes) (sym here.0) count.2),
+        )
+    | inr other ↦ (
+      s,
+      other.1,
+      refl,
+      refl,
+      (notes.noted v q s other.1).0,
+      omega arith,
+      kept v q s.since s.notes (counting-at (values_of m.places) v q s.since root p (Some k) at ∙ counts-apart k v q s.since other.0) (notes.counted v q s other.1),
+    )
+  ]
+    where
+      -- the note does not count there
+      kept : (v q since n : ℕ) → counting (values_of m.places) v q since root p ≡ false → HasCount (counting (values_of m.places) v q since) n → HasCount (counting (values_of places) v q since) n
+      kept v q since n out count = count-same (counting (values_of m.places) v q since) (counting (values_of places) v q since) n
+          (λ a b. sym (without-none (counting (values_of m.places) v q since) root p out a b) ∙ counting-dropped (values_of m.places) (values_of places) root p gone v q since a b) count
+
+      here_count : (t s : Stamp) → values_of m.stamps k.koid.0 k.page ≡ Some t → s.since ≡ t.since
+          → ((nat_lt k.made t.since ≡ true) × (s.notes ≡ t.notes)) ⊎ ((nat_lt k.made t.since ≡ false) × (1 ≤ s.notes) × (s.notes + 1 ≡ t.notes))
+          → (1 ≤ s.notes) × (s.notes ≤ t.notes) × HasCount (counting (values_of places) k.koid.0 k.page s.since) s.notes
+      here_count t s found since (inl old) =
+          let some = (notes.noted k.koid.0 k.page t found).0 in
+          let same = old.1 in (
+            omega arith,
+            omega arith,
+            subst (λ (u : ℕ). HasCount (counting (values_of places) k.koid.0 k.page u) s.notes) (sym since)
+                (subst (HasCount (counting (values_of places) k.koid.0 k.page t.since)) (sym old.1)
+                (kept k.koid.0 k.page t.since t.notes (counting-at (values_of m.places) k.koid.0 k.page t.since root p (Some k) at ∙ counts-old k k.koid.0 k.page t.since old.0) (notes.counted k.koid.0 k.page t found))),
+          )
+      here_count t s found since (inr new) =
+          let rest = count-less t.notes (counting (values_of m.places) k.koid.0 k.page t.since) root p (notes.counted k.koid.0 k.page t found) (counted_here t.since new.0) in
+          let number : rest.0 ≡ s.notes = let suc_is = rest.1 in let fewer = new.2 in omega arith in
+          let fewer = new.2 in (
+            new.1,
+            omega arith,
+            subst (λ (u : ℕ). HasCount (counting (values_of places) k.koid.0 k.page u) s.notes) (sym since)
+                (subst (HasCount (counting (values_of places) k.koid.0 k.page t.since)) number
+                (count-same (without_place (counting (values_of m.places) k.koid.0 k.page t.since) root p) (counting (values_of places) k.koid.0 k.page t.since) rest.0
+                (counting-dropped (values_of m.places) (values_of places) root p gone k.koid.0 k.page t.since) rest.2)),
+          )
+
+  pub AreNotes-dropped : m.room ≤ places.spare → m.room ≤ stamps.spare → AreNotes (record m { places = places; stamps = stamps })
+  AreNotes-dropped room stamps_room = record {
+    made = λ r q j e. elim (pair-cases (values_of m.places) root p None r q j (ap (λ (map : ℕ → ℕ → Option Kept). map r q) (sym gone) ∙ e)) [
+      | inl here ↦ absurd (let none = here.2 in cc)
+      | inr other ↦ notes.made r q j other.1
+    ];
+    stamped = λ v q s e.
+        let was = left v q s e in
+        let times = notes.stamped v q was.0 was.1 in
+        (omega (arith, times.0, was.2), omega (arith, times.1, was.3));
+    counted = λ v q s e. (left v q s e).6;
+    noted = λ v q s e.
+        let was = left v q s e in
+        let few = notes.noted v q was.0 was.1 in
+        (was.4, omega (arith, was.5, few.1));
+    places_room = room;
+    stamps_room = stamps_room;
+    times = notes.times;
+  }
+
+-- one page of a range, and then the range
+pub dropped-after : (old new : ReadyRows) (root first end p : ℕ) → first ≤ p → p < end → new ≡ without_range old root p (p + 1) → without_range new root first end ≡ without_range old root first end
+unfolding without_range
+dropped-after old new root first end p low high made = ap (λ (rows : ReadyRows). without_range rows root first end) made ∙ λ i r q. each r q i where
+  each : (r q : ℕ) → cond ((r == root) && is_within first end q) None (cond ((r == root) && is_within p (p + 1) q) None (old r q)) ≡ cond ((r == root) && is_within first end q) None (old r q)
+  each r q = grind (arith, nat_tests)
+
+-- none of them has a note
+pub dropped-done : (m : Notes) (root first end : ℕ) → ((p : ℕ) → first ≤ p → p < end → values_of m.places root p ≡ None) → rows_of m ≡ without_range (rows_of m) root first end
+unfolding without_range
+dropped-done m root first end none = λ i r q. each r q i where
+  each : (r q : ℕ) → rows_of m r q ≡ cond ((r == root) && is_within first end q) None (rows_of m r q)
+  each r q =
+      let bare : r ≡ root → first ≤ q → q < end → rows_of m r q ≡ None = λ same low high.
+      ap (λ (k : ℕ). rows_of m k q) same ∙ ap (noted_under (values_of m.stamps)) (none q low high) in
+      grind (arith, nat_tests)
+
+-- ---- stamps that are looked for
+
+-- a row is of the page of its note
+noted_same : (k : Kept) (s : Stamp) (row : ReadyPage) → ready_page k (Some s) ≡ Some row → (k.koid.0 ≡ row.koid.0) × (k.page ≡ row.page)
+noted_same k s row is = past (nat_lt k.made s.since) is where
+  past : (b : Bool) → cond b None (Some (row_of k s)) ≡ Some row → (k.koid.0 ≡ row.koid.0) × (k.page ≡ row.page)
+  past true e = absurd cc
+  past false e = let same = some_same e in (ap (λ (x : ReadyPage). x.koid.0) same, ap (λ (x : ReadyPage). x.page) same)
+
+-- and has the frame of its stamp
+noted_frame : (k : Kept) (s : Stamp) (row : ReadyPage) → ready_page k (Some s) ≡ Some row → row.frame ≡ s.frame
+noted_frame k s row is = past (nat_lt k.made s.since) is where
+  past : (b : Bool) → cond b None (Some (row_of k s)) ≡ Some row → row.frame ≡ s.frame
+  past true e = absurd cc
+  past false e = sym (ap (λ (x : ReadyPage). x.frame) (some_same e))
+
+-- which is that of the page of the VMO
+row_stamp : (m : Notes) (r q : ℕ) (row : ReadyPage) → rows_of m r q ≡ Some row → (s : Stamp) × (values_of m.stamps row.koid.0 row.page ≡ Some s) × (row.frame ≡ s.frame)
+row_stamp m r q row e = go (values_of m.places r q) e where
+  go : (n : Option Kept) → noted_under (values_of m.stamps) n ≡ Some row → (s : Stamp) × (values_of m.stamps row.koid.0 row.page ≡ Some s) × (row.frame ≡ s.frame)
+  go None f = absurd cc
+  go (Some k) f = stamped (values_of m.stamps k.koid.0 k.page) refl f where
+    stamped : (o : Option Stamp) → values_of m.stamps k.koid.0 k.page ≡ o → ready_page k o ≡ Some row → (s : Stamp) × (values_of m.stamps row.koid.0 row.page ≡ Some s) × (row.frame ≡ s.frame)
+    stamped None at is = absurd cc
+    stamped (Some s) at is =
+        let same = noted_same k s row is in
+        let koid = same.0 in
+        let page = same.1 in
+        (s, sym (λ i. values_of m.stamps (koid i) (page i)) ∙ at, noted_frame k s row is)
+
+-- so rows of one page of a VMO have one frame
+one_frame : (m : Notes) (r q root page : ℕ) (x row : ReadyPage) → rows_of m r q ≡ Some x → rows_of m root page ≡ Some row → x.koid.0 ≡ row.koid.0 → x.page ≡ row.page → x.frame ≡ row.frame
+one_frame m r q root page x row is there koid at =
+    let one = row_stamp m r q x is in
+    let other = row_stamp m root page row there in
+    let same : one.0 ≡ other.0 = some_same (sym one.1 ∙ ((λ i. values_of m.stamps (koid i) (at i)) ∙ other.1)) in
+    one.2 ∙ (ap (λ (s : Stamp). s.frame) same ∙ sym other.2)
+
+-- and a page that is noted as it is may be noted so again
+pub row-there : (m : Notes) (root page : ℕ) (row : ReadyPage) → rows_of m root page ≡ Some row
+    → rows_of m ≡ with_ready_row (kept_rows (agrees row.koid.0 row.page row.frame) (rows_of m)) root page row
+unfolding with_ready_row kept_rows passes
+row-there m root page row there = λ i r q. each r q i where
+  agreed : (r q : ℕ) (x : ReadyPage) → rows_of m r q ≡ Some x → (b : Bool) → ((x.koid.0 == row.koid.0) && (x.page == row.page)) ≡ b
+      → (not b || is_same_frame (frame_number x.frame) (frame_number row.frame)) ≡ true
+  agreed r q x is false e = refl
+  agreed r q x is true e =
+      let both = and_parts (x.koid.0 == row.koid.0) (x.page == row.page) e in
+      let frame = one_frame m r q root page x row is there (eqb_is x.koid.0 row.koid.0 both.0) (eqb_is x.page row.page both.1) in
+      ap (λ (f : Option Tag). is_same_frame (frame_number f) (frame_number row.frame)) frame ∙ is_same_frame-same (frame_number row.frame)
+
+  stays : (r q : ℕ) (o : Option ReadyPage) → rows_of m r q ≡ o → o ≡ row_if (agrees row.koid.0 row.page row.frame) o
+  stays r q None is = refl
+  stays r q (Some x) is = rw (agreed r q x is ((x.koid.0 == row.koid.0) && (x.page == row.page)) refl) refl
+
+  each : (r q : ℕ) → rows_of m r q ≡ cond ((r == root) && (q == page)) (Some row) (row_if (agrees row.koid.0 row.page row.frame) (rows_of m r q))
+  each r q = elim (same_page root page r q) [
+    | inl here ↦
+        let hit : ((r == root) && (q == page)) ≡ true = and_from (r == root) (q == page) (eq-eqb r root here.0) (eq-eqb q page here.1) in
+        rw hit ((λ i. rows_of m (here.0 i) (here.1 i)) ∙ there)
+    | inr apart ↦
+        let miss : ((r == root) && (q == page)) ≡ false = grind (arith, nat_tests) in
+        rw miss (stays r q (rows_of m r q) refl)
+  ]
+
+-- no stamp, no row
+pub HasNoRow-gap : (m : Notes) (v from end : ℕ) → ((q : ℕ) → from ≤ q → q < end → values_of m.stamps v q ≡ None) → HasNoRow (rows_of m) v from end
+HasNoRow-gap m v from end none = record { none = λ r q row e. go (values_of m.places r q) row e } where
+  go : (n : Option Kept) (row : ReadyPage) → noted_under (values_of m.stamps) n ≡ Some row → row.koid.0 ≡ v → from ≤ row.page → row.page < end → ⊥
+  go None row e vmo low high = absurd cc
+  go (Some k) row e vmo low high = stamped (values_of m.stamps k.koid.0 k.page) refl e where
+    stamped : (s : Option Stamp) → values_of m.stamps k.koid.0 k.page ≡ s → ready_page k s ≡ Some row → ⊥
+    stamped None at is = absurd cc
+    stamped (Some s) at is =
+        let same = noted_same k s row is in
+        let koid : k.koid.0 ≡ v = same.0 ∙ vmo in
+        let gone = none k.page (let page = same.1 in omega arith) (let page = same.1 in omega arith) in
+        let here : values_of m.stamps v k.page ≡ Some s = ap (λ (w : ℕ). values_of m.stamps w k.page) (sym koid) ∙ at in
+        absurd cc
+
+-- each stamp is of a page that is shown
+pub IsReadySomewhere-stamped : (m : Notes) (v p : ℕ) (s : Stamp) → AreNotes m → values_of m.stamps v p ≡ Some s → IsReadySomewhere (rows_of m) v p
+unfolding passes
+IsReadySomewhere-stamped m v p s notes found =
+    let one = count-some s.notes (counting (values_of m.places) v p s.since) (notes.counted v p s found) (notes.noted v p s found).0 in
+    go one.0 one.1 (values_of m.places one.0 one.1) refl one.2 where
+      go : (r q : ℕ) (o : Option Kept) → values_of m.places r q ≡ o → counting (values_of m.places) v p s.since r q ≡ true → IsReadySomewhere (rows_of m) v p
+      go r q None at is = absurd (let none = counting-at (values_of m.places) v p s.since r q None at in cc)
+      go r q (Some k) at is =
+          let passed = and_parts ((k.koid.0 == v) && (k.page == p)) (not (nat_lt k.made s.since)) (sym (counting-at (values_of m.places) v p s.since r q (Some k) at) ∙ is) in
+          let both = and_parts (k.koid.0 == v) (k.page == p) passed.0 in
+          let koid = eqb_is k.koid.0 v both.0 in
+          let page = eqb_is k.page p both.1 in
+          let new : nat_lt k.made s.since ≡ false = not-true (nat_lt k.made s.since) passed.1 in
+          record {
+            root = r;
+            at = q;
+            row = row_of k s;
+            is = ap (noted_under (values_of m.stamps)) at ∙ (ap (ready_page k) (stamp_at (values_of m.stamps) v p k passed.0 ∙ found) ∙ rw new refl);
+            koid = koid;
+            page = page;
+          }
+
+pub IsReadySomewhere-of : (m : Notes) → AreNotes m → (v p : ℕ) → IsSome (values_of m.stamps v p) → IsReadySomewhere (rows_of m) v p
+IsReadySomewhere-of m notes v p some = go (values_of m.stamps v p) refl some where
+  go : (o : Option Stamp) → values_of m.stamps v p ≡ o → IsSome o → IsReadySomewhere (rows_of m) v p
+  go None e is = absurd cc
+  go (Some s) e is = IsReadySomewhere-stamped m v p s notes e
+
+-- ---- pages of a VMO are settled, one after another
+
+-- a row is asked twice
+row_if-both : (a b : ReadyPage → Bool) (o : Option ReadyPage) → row_if a (row_if b o) ≡ row_if (λ x. b x && a x) o
+unfolding passes
+row_if-both a b None = refl
+row_if-both a b (Some x) = go (b x) refl where
+  go : (stays : Bool) → b x ≡ stays → row_if a (row_if b (Some x)) ≡ row_if (λ x. b x && a x) (Some x)
+  go true e = rw e refl
+  go false e = rw e refl
+
+row_if-same : (a b : ReadyPage → Bool) (o : Option ReadyPage) → ((x : ReadyPage) → o ≡ Some x → a x ≡ b x) → row_if a o ≡ row_if b o
+unfolding passes
+row_if-same a b None same = refl
+row_if-same a b (Some x) same = ap (λ (stays : Bool). cond stays (Some x) None) (same x refl)
+
+pub settled-start : (c : Content) (v first : ℕ) (rows : ReadyRows) → rows ≡ kept_rows (is_current c v first first) rows
+unfolding kept_rows passes
+settled-start c v first rows = λ i r q. go (rows r q) i where
+  go : (o : Option ReadyPage) → o ≡ row_if (is_current c v first first) o
+  go None = refl
+  go (Some x) =
+      let stays : is_current c v first first x ≡ true = grind (arith, nat_tests) in
+      rw stays refl
+
+module _ (c : Content) (v first from end : ℕ) (rows now : ReadyRows) (is : now ≡ kept_rows (is_current c v first from) rows) where
+  -- the rows that are there are those that were kept
+  there : (r q : ℕ) (x : ReadyPage) → rows r q ≡ Some x → is_current c v first from x ≡ true → now r q ≡ Some x
+  unfolding kept_rows passes
+  there r q x e stays = ap (λ (s : ReadyRows). s r q) is ∙ rw (e, stays) refl
+
+  pub settled-next : (next : ReadyRows) (p : ℕ) → first ≤ from → from ≤ p → HasNoRow now v from p → next ≡ kept_rows (is_current c v p (p + 1)) now → next ≡ kept_rows (is_current c v first (p + 1)) rows
+  unfolding kept_rows
+  settled-next next p order low none made = made ∙ (ap (kept_rows (is_current c v p (p + 1))) is ∙ λ i r q. each r q i) where
+    each : (r q : ℕ) → row_if (is_current c v p (p + 1)) (row_if (is_current c v first from) (rows r q)) ≡ row_if (is_current c v first (p + 1)) (rows r q)
+    each r q = row_if-both (is_current c v p (p + 1)) (is_current c v first from) (rows r q)
+        ∙ row_if-same (λ x. is_current c v first from x && is_current c v p (p + 1) x) (is_current c v first (p + 1)) (rows r q) (λ x e.
+        let gap : is_current c v first from x ≡ true → x.koid.0 ≡ v → from ≤ x.page → x.page < p → ⊥ = λ stays. none.none r q x (there r q x e stays) in
+        grind (arith, nat_tests))
+
+  pub settled-end : (from ≤ end) ⊎ (from ≡ first) → HasNoRow now v from end → now ≡ kept_rows (is_current c v first end) rows
+  unfolding kept_rows
+  settled-end order none = is ∙ λ i r q. each r q i where
+    each : (r q : ℕ) → row_if (is_current c v first from) (rows r q) ≡ row_if (is_current c v first end) (rows r q)
+    each r q = row_if-same (is_current c v first from) (is_current c v first end) (rows r q) (λ x e.
+        let gap : is_current c v first from x ≡ true → x.koid.0 ≡ v → from ≤ x.page → x.page < end → ⊥ = λ stays. none.none r q x (there r q x e stays) in
+        grind (arith, nat_tests))
+
+-- ---- pages of a VMO are restricted, one after another
+
+pub limited-start : (stays : ℕ → Bool) (v first : ℕ) (rows : ReadyRows) → rows ≡ limited_rows stays v first first rows
+unfolding limited_rows
+limited-start stays v first rows = λ i r q. go (rows r q) i where
+  go : (o : Option ReadyPage) → o ≡ option_map (limited stays v first first) o
+  go None = refl
+  go (Some x) =
+      let out : ((x.koid.0 == v) && is_within first first x.page && not (stays x.page)) ≡ false = grind (arith, nat_tests) in
+      rw out refl
+
+-- a row that is limited twice
+limited-both : (row : ReadyPage) (a b c : Bool) → (c ≡ (a || b)) → record row { readiness = cond b Read (cond a Read row.readiness) } ≡ record row { readiness = cond c Read row.readiness }
+limited-both row true true c e = rw e refl
+limited-both row true false c e = rw e refl
+limited-both row false true c e = rw e refl
+limited-both row false false c e = rw e refl
+
+module _ (stays : ℕ → Bool) (v first from end : ℕ) (rows now : ReadyRows) (is : now ≡ limited_rows stays v first from rows) where
+  limited_there : (r q : ℕ) (x : ReadyPage) → rows r q ≡ Some x → now r q ≡ Some (limited stays v first from x)
+  unfolding limited_rows
+  limited_there r q x e = ap (λ (s : ReadyRows). s r q) is ∙ ap (option_map (limited stays v first from)) e
+
+  pub limited-next : (next : ReadyRows) (p : ℕ) (b : Bool) → first ≤ from → from ≤ p → HasNoRow now v from p → b ≡ stays p → next ≡ limited_rows (λ q. b) v p (p + 1) now
+      → next ≡ limited_rows stays v first (p + 1) rows
+  unfolding limited_rows
+  limited-next next p b order low none bit made = made ∙ (ap (limited_rows (λ q. b) v p (p + 1)) is ∙ λ i r q. go r q (rows r q) refl i) where
+    go : (r q : ℕ) (o : Option ReadyPage) → rows r q ≡ o
+        → option_map (limited (λ k. b) v p (p + 1)) (option_map (limited stays v first from) o) ≡ option_map (limited stays v first (p + 1)) o
+    go r q None e = refl
+    go r q (Some x) e =
+        let gap : x.koid.0 ≡ v → from ≤ x.page → x.page < p → ⊥ = none.none r q (limited stays v first from x) (limited_there r q x e) in
+        let page : x.page ≡ p → b ≡ stays x.page = λ same. bit ∙ ap stays (sym same) in
+        ap (λ (row : ReadyPage). Some row) (limited-both x ((x.koid.0 == v) && is_within first from x.page && not (stays x.page)) ((x.koid.0 == v) && is_within p (p + 1) x.page && not b)
+        ((x.koid.0 == v) && is_within first (p + 1) x.page && not (stays x.page)) (grind (arith, nat_tests)))
+
+  pub limited-end : (from ≤ end) ⊎ (from ≡ first) → HasNoRow now v from end → now ≡ limited_rows stays v first end rows
+  unfolding limited_rows
+  limited-end order none = is ∙ λ i r q. go r q (rows r q) refl i where
+    go : (r q : ℕ) (o : Option ReadyPage) → rows r q ≡ o → option_map (limited stays v first from) o ≡ option_map (limited stays v first end) o
+    go r q None e = refl
+    go r q (Some x) e =
+        let gap : x.koid.0 ≡ v → from ≤ x.page → x.page < end → ⊥ = none.none r q (limited stays v first from x) (limited_there r q x e) in
+        let same : ((x.koid.0 == v) && is_within first from x.page && not (stays x.page)) ≡ ((x.koid.0 == v) && is_within first end x.page && not (stays x.page)) = grind (arith, nat_tests) in
+        ap (λ (b : Bool). Some (record x { readiness = cond b Read x.readiness })) same
+
+-- one page is pinned or not
+pub pinned-one : (pins : ℕ → Option Pin) (v p : ℕ) → any_pinned pins v p (p + 1) ≡ is_pinned pins v p
+unfolding any_pinned
+pinned-one pins v p = both_ways (any_from p (p + 1) (is_pinned pins v)) (is_pinned pins v p)
+    (λ e.
+    let found = any_from_found (is_pinned pins v) p (p + 1) e in
+    let same : found.0 ≡ p = let low = found.1 in let high = found.2 in omega arith in
+    ap (is_pinned pins v) (sym same) ∙ found.3)
+    (λ e. any_from_at (is_pinned pins v) p (p + 1) p (omega arith) (omega arith) e)

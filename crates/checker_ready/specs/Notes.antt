@@ -1,0 +1,172 @@
+-- What is noted of the pages of address spaces that are ready, and what each call leaves of it.
+use Rattle.std.specs.Prelude.{◌≡◌, ℕ, zero, suc, ◌+◌, ◌-◌, ◌^◌, ◌<◌, ◌≤◌, Bool, true, false, not, ◌&&◌, ◌||◌, ◌==◌, nat_lt, if◌then◌else◌, Option, None, Some}
+use Rattle.std.specs.Option.{option_map}
+use Rattle.vm_base.specs.declared.names.Tag.{Tag}
+use Rattle.vm_base.specs.Entries.{passes}
+use Rattle.vm_model.specs.declared.space.Entry.{Entry}
+use Rattle.vm_model.specs.declared.space.Readiness.TheVariants.{Read}
+use Rattle.vm_model.specs.Contents.Content.{Content, pages_of}
+use Rattle.vm_model.specs.Contents.Zeroing.{is_within}
+use Rattle.vm_model.specs.Space.Readiness.{Ready, frame_at, is_same_frame, frame_number}
+use Rattle.pair_map.specs.declared.pair_map.PairMap.{PairMap}
+use Rattle.pair_map.specs.Maps.{values_of}
+use Rattle.checker_ready.specs.declared.ready_map.ReadyPage.{ReadyPage}
+use Rattle.checker_ready.specs.declared.ready_map.ReadyMap.TheInside.{Inside}
+use Rattle.checker_ready.specs.declared.stamps.Kept.{Kept}
+use Rattle.checker_ready.specs.declared.stamps.Stamp.{Stamp}
+
+-- the notes by root region and page, the stamps of the pages of VMOs by koid and page, the time of the next note, and how
+-- many more notes there is room for
+pub record Notes : Type 0 where
+  pub places : PairMap Kept
+  pub stamps : PairMap Stamp
+  pub time : ℕ
+  pub room : ℕ
+
+-- what a note says under the stamp of its page. None if it does not count
+abbrev pub ready_page : Kept → Option Stamp → Option ReadyPage
+ready_page kept None = None
+ready_page kept (Some stamp) =
+    if nat_lt kept.made stamp.since then None
+    else Some (record { koid = kept.koid; page = kept.page; frame = stamp.frame; readiness = if nat_lt kept.made stamp.shared then Read else kept.readiness })
+
+abbrev pub noted_under : (ℕ → ℕ → Option Stamp) → Option Kept → Option ReadyPage
+noted_under stamps None = None
+noted_under stamps (Some kept) = ready_page kept (stamps kept.koid.0 kept.page)
+
+-- what is noted of each page of each address space that is ready for an access
+abbrev pub ReadyRows : Type 0
+ReadyRows = ℕ → ℕ → Option ReadyPage
+
+abbrev pub rows_of : Notes → ReadyRows
+rows_of m root p = noted_under (values_of m.stamps) (values_of m.places root p)
+
+-- the stamp of a page that has this frame, with one note more than the one that it has
+abbrev pub stamp_for : Option Stamp → Option Tag → (time : ℕ) → Stamp
+stamp_for None frame time = record { frame = frame; since = time; shared = time; notes = 1 }
+stamp_for (Some stamp) frame time =
+    if is_same_frame (frame_number stamp.frame) (frame_number frame) then record stamp { notes = stamp.notes + 1 }
+    else record { frame = frame; since = time; shared = time; notes = 1 }
+
+-- the stamp without a note that was made at this time. None if no other note counts
+abbrev pub lowered : (made : ℕ) → Option Stamp → Option Stamp
+lowered made None = None
+lowered made (Some stamp) =
+    if nat_lt made stamp.since then Some stamp
+    else (if nat_lt 1 stamp.notes then Some (record stamp { notes = stamp.notes - 1 }) else None)
+
+-- how many more pages can be noted with no memory from the host
+abbrev pub notes_spare : Notes → ℕ
+notes_spare m = m.room
+
+-- what each page is ready for
+abbrev pub ready_in : ReadyRows → Ready
+ready_in rows root p = option_map (λ (x : ReadyPage). x.readiness) (rows root p)
+
+-- page p of the VMO v lies in it, and has this frame
+abbrev pub has_frame : Content → (v p : ℕ) → Option Tag → Bool
+has_frame c v p frame = is_same_frame (frame_number frame) (frame_at c v p) && nat_lt p (pages_of c v)
+
+-- ---- what the calls change
+
+-- the rows, with this one of page p of an address space
+unfoldable pub with_ready_row : ReadyRows → (root p : ℕ) → ReadyPage → ReadyRows
+with_ready_row rows root p row r q = if (r == root) && (q == p) then Some row else rows r q
+
+-- the row, if it passes
+abbrev pub row_if : (ReadyPage → Bool) → Option ReadyPage → Option ReadyPage
+row_if stays row = if passes stays row then row else None
+
+-- the rows that pass
+unfoldable pub kept_rows : (ReadyPage → Bool) → ReadyRows → ReadyRows
+kept_rows stays rows r q = row_if stays (rows r q)
+
+-- the rows, without those of an address space from page `first` to below `end`
+unfoldable pub without_range : ReadyRows → (root first end : ℕ) → ReadyRows
+without_range rows root first end r q = if (r == root) && is_within first end q then None else rows r q
+
+-- the row is of page p of the VMO v
+abbrev pub is_row_of_page : (v p : ℕ) → ReadyPage → Bool
+is_row_of_page v p row = (row.koid.0 == v) && (row.page == p)
+
+-- the row is of no page of the VMO v from `first` to below `end`
+abbrev pub is_row_outside : (v first end : ℕ) → ReadyPage → Bool
+is_row_outside v first end row = not ((row.koid.0 == v) && is_within first end row.page)
+
+-- the row is of another page than page p of the VMO v, or has this frame
+abbrev pub agrees : (v p : ℕ) → Option Tag → ReadyPage → Bool
+agrees v p frame row = not (is_row_of_page v p row) || is_same_frame (frame_number row.frame) (frame_number frame)
+
+-- the row is of no such page, or the page lies in the VMO and has the row's frame
+abbrev pub is_current : Content → (v first end : ℕ) → ReadyPage → Bool
+is_current c v first end row = is_row_outside v first end row || has_frame c v row.page row.frame
+
+-- the row, for reading alone if it is of a page of the VMO v from `first` to below `end` that does not pass
+abbrev pub limited : (stays : ℕ → Bool) → (v first end : ℕ) → ReadyPage → ReadyPage
+limited stays v first end row =
+    record row { readiness = if (row.koid.0 == v) && is_within first end row.page && not (stays row.page) then Read else row.readiness }
+
+-- the rows, with those of such pages for reading alone
+unfoldable pub limited_rows : (stays : ℕ → Bool) → (v first end : ℕ) → ReadyRows → ReadyRows
+limited_rows stays v first end rows r q = option_map (limited stays v first end) (rows r q)
+
+-- no row is of a page of the VMO v from `from` to below `end`
+pub record HasNoRow (rows : ReadyRows) (v from end : ℕ) : Type 0 where
+  pub none : (r q : ℕ) (row : ReadyPage) → rows r q ≡ Some row → row.koid.0 ≡ v → from ≤ row.page → row.page < end → ⊥
+
+-- page p of the VMO v is shown by a page that is ready for an access
+pub record IsReadySomewhere (rows : ReadyRows) (v p : ℕ) : Type 0 where
+  pub root : ℕ
+  pub at : ℕ
+  pub row : ReadyPage
+  pub is : rows root at ≡ Some row
+  pub koid : row.koid.0 ≡ v
+  pub page : row.page ≡ p
+
+-- ---- what holds of them
+
+-- a note is of page p of the VMO v, and was made at this time or later
+abbrev pub counts : (v p since : ℕ) → Kept → Bool
+counts v p since kept = (kept.koid.0 == v) && (kept.page == p) && not (nat_lt kept.made since)
+
+-- the places whose notes are of page p of the VMO v, and were made at this time or later
+abbrev pub counting : (ℕ → ℕ → Option Kept) → (v p since : ℕ) → ℕ → ℕ → Bool
+counting places v p since r q = passes (counts v p since) (places r q)
+
+-- the places without one
+abbrev pub without_place : (ℕ → ℕ → Bool) → (r q : ℕ) → ℕ → ℕ → Bool
+without_place among r q a b = among a b && not ((a == r) && (b == q))
+
+-- there are this many places
+abbrev pub HasCount : (ℕ → ℕ → Bool) → ℕ → Type 0
+HasCount among zero = (r q : ℕ) → among r q ≡ false
+HasCount among (suc n) = (r : ℕ) × (q : ℕ) × (among r q ≡ true) × HasCount (without_place among r q) n
+
+-- What holds of all notes: those that were made have earlier times than the next, and no stamp has a later one. Each stamp
+-- has the number of the notes that count under it, one at least.
+pub record AreNotes (m : Notes) : Type 0 where
+  pub made : (root p : ℕ) (kept : Kept) → values_of m.places root p ≡ Some kept → kept.made < m.time
+  pub stamped : (v p : ℕ) (stamp : Stamp) → values_of m.stamps v p ≡ Some stamp → (stamp.since ≤ m.time) × (stamp.shared ≤ m.time)
+  pub counted : (v p : ℕ) (stamp : Stamp) → values_of m.stamps v p ≡ Some stamp → HasCount (counting (values_of m.places) v p stamp.since) stamp.notes
+  pub noted : (v p : ℕ) (stamp : Stamp) → values_of m.stamps v p ≡ Some stamp → (1 ≤ stamp.notes) × (stamp.notes ≤ m.time)
+  pub places_room : m.room ≤ m.places.spare
+  pub stamps_room : m.room ≤ m.stamps.spare
+  pub times : m.time + m.room < 2 ^ 64
+
+abbrev pub notes_of : Inside → Notes
+notes_of a = record { places = a.places; stamps = a.stamps; time = a.time; room = a.room }
+
+-- the fields are notes
+pub record AreFields (a : Inside) : Type 0 where
+  pub notes : AreNotes (notes_of a)
+
+-- only pages of the VMO v from `first` to below `end` may have another frame, or lie in their VMO no more
+pub record ChangesRange (old new : Content) (v first end : ℕ) : Type 0 where
+  pub frame : (w p : ℕ) → (w ≡ v → first ≤ p → p < end → ⊥) → frame_at new w p ≡ frame_at old w p
+  pub below : (w p : ℕ) → (w ≡ v → first ≤ p → p < end → ⊥) → p < pages_of old w → p < pages_of new w
+
+-- Each row is of the entry that its page has in the table, and has the frame that the page of the VMO has, which lies in
+-- its VMO.
+pub record NotesAreTrue (c : Content) (table : ℕ → ℕ → Option Entry) (rows : ReadyRows) : Type 0 where
+  pub entry : (root p : ℕ) (row : ReadyPage) → rows root p ≡ Some row → (entry : Entry) × (table root p ≡ Some entry) × (entry.koid.0 ≡ row.koid.0) × (entry.page ≡ row.page)
+  pub current : (root p : ℕ) (row : ReadyPage) → rows root p ≡ Some row → has_frame c row.koid.0 row.page row.frame ≡ true

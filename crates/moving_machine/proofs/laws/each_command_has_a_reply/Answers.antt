@@ -1,5 +1,0 @@
-use Rattle.moving_machine.proofs.AnswerLaws.{has_reply}
-use Rattle.moving_machine.proofs.laws.each_command_has_a_reply.Goals as goal
-
-pub returns : goal.returns
-returns c = has_reply

@@ -1,6 +1,0 @@
-use Rattle.ready_map.specs.Notes.{notes_of}
-use Rattle.ready_map.proofs.RowLaws.{IsReadySomewhere-of}
-use Rattle.ready_map.proofs.ready_map.ReadyMap.stamps.Goals as goal
-
-pub returns-clause-shown : goal.returns-clause-shown
-returns-clause-shown c = rw (← c.self.view_is) (IsReadySomewhere-of (notes_of c.self.inside) c.self.invariant.notes)
