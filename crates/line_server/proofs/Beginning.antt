@@ -1,13 +1,13 @@
 -- What a store contains before its first VMO, and how the serving of a script begins.
-use Rattle.std.proofs.Common.{◌≡◌, ℕ, ◌≤◌, inl, inr, false, List, [], Option, refl, sym, ap, subst, ◌∙◌, arith}
-use Rattle.std.proofs.KnownBytes.{Appends-nil, Consumes-nil}
+use Rattle.std.proofs.Common.{◌≡◌, ℕ, ◌≤◌, inl, inr, List, [], Option, refl, sym, ap, subst, ◌∙◌, arith}
+use Rattle.std.proofs.KnownBytes.{Consumes-nil}
 use Rattle.vm_model.specs.Contents.Content.{Content, nothing}
-use Rattle.line_server.specs.Answering.{Answering}
 use Rattle.script_io.specs.Faults.{HasFailed}
 use Rattle.script_io.specs.Reader.{Reader}
 use Rattle.script_io.specs.Fetching.{IsPending}
 use Rattle.line_server.specs.Outcome.{NothingDone}
-use Rattle.line_server.specs.Serving.{IsServed, IsReady}
+use Rattle.line_server.specs.Reading.{LineTurns}
+use Rattle.line_server.specs.Serving.{IsBeingRead, IsReady, fresh}
 use Rattle.line_server.proofs.Served.{AreLines-none}
 
 -- nothing was done to a store that contains nothing
@@ -26,16 +26,12 @@ NothingDone-yet source sink c d same e = record {
 pub filled_is : (frames : ℕ) (new old : Content) → new ≡ record old { frames = frames } → old ≡ nothing → new ≡ record nothing { frames = frames }
 filled_is frames new old filled e = filled ∙ ap (λ (c : Content). record c { frames = frames }) e
 
--- a line reader that took nothing yet
-abbrev pub fresh : ℕ → Reader
-fresh limit = record { limit = limit; taken = 0; dropped = 0; held = []; line = []; ended = false }
-
 pub IsPending-fresh : (limit : ℕ) (source : Option (List ℕ)) → IsPending (fresh limit) source []
 IsPending-fresh limit source = record { front = []; no_feed = λ k d l. absurd (omega (arith, l)); size = refl; parts = refl; at_end = λ e. absurd cc }
 
--- no line was answered yet
-pub IsServed-fresh : {S : Type 0} (m : Answering S) (frames limit : ℕ) (reader : Reader) (source sink : Option (List ℕ)) (now : S) → reader ≡ fresh limit → now ≡ m.start frames → m.IsGood (m.start frames) → IsServed m frames limit reader source source sink sink now
-IsServed-fresh m frames limit reader source sink now e f good = subst (λ (r : Reader). IsServed m frames limit r source source sink sink now) (sym e) (record {
+-- no line was read yet
+pub IsBeingRead-fresh : {S : Type 0} (t : LineTurns S) (limit : ℕ) (reader : Reader) (source : Option (List ℕ)) (now : S) → reader ≡ fresh limit → IsBeingRead t limit reader source source now now
+IsBeingRead-fresh t limit reader source now e = subst (λ (r : Reader). IsBeingRead t limit r source source now now) (sym e) (record {
   front = [];
   pending = [];
   lines = [];
@@ -45,23 +41,20 @@ IsServed-fresh m frames limit reader source sink now e f good = subst (λ (r : R
   taken = refl;
   within = omega arith;
   split = inl AreLines-none;
-  out = [];
-  run = (refl, f);
-  good = subst m.IsGood (sym f) good;
-  written = Appends-nil sink;
+  all = refl;
+})
+
+pub IsReady-fresh : (limit : ℕ) (reader : Reader) (source : Option (List ℕ)) (count : ℕ) → reader ≡ fresh limit → count ≤ 1 → IsReady reader source count
+IsReady-fresh limit reader source count e few = subst (λ (r : Reader). IsReady r source count) (sym e) (record {
+  pending = [];
+  still = IsPending-fresh limit source;
+  koids = omega arith;
 })
 
 -- the first koid of a store with nothing but frames
-first_koid : (frames : ℕ) (c : Content) → c ≡ record nothing { frames = frames } → c.next ≡ 1
+pub first_koid : (frames : ℕ) (c : Content) → c ≡ record nothing { frames = frames } → c.next ≡ 1
 unfolding nothing
 first_koid frames c e = ap (λ (d : Content). d.next) e
-
-pub IsReady-fresh : (frames limit : ℕ) (reader : Reader) (source : Option (List ℕ)) (c : Content) → reader ≡ fresh limit → c ≡ record nothing { frames = frames } → IsReady reader source c.next
-IsReady-fresh frames limit reader source c e f = subst (λ (r : Reader). IsReady r source c.next) (sym e) (record {
-  pending = [];
-  still = IsPending-fresh limit source;
-  koids = omega (arith, first_koid frames c f);
-})
 
 -- a fault that came later came since the start
 pub HasFailed-earlier : (old mid new : ℕ) → old ≤ mid → HasFailed mid new → HasFailed old new

@@ -1,18 +1,16 @@
--- One more line of a script was served, or the script ends there.
-use Rattle.std.proofs.Common.{◌≡◌, ℕ, zero, suc, ◌+◌, ◌-◌, ◌<◌, ◌≤◌, ◌⊎◌, inl, inr, Bool, true, List, [], ◌∷◌, ◌++◌, length, take, Option, Some, refl, sym, ap, subst, ◌∙◌, append_assoc, append-nil, take_all, arith, Result, Ok, Err}
-use Rattle.std.specs.Prelude.{slice_get}
-use Rattle.std.specs.Io.KnownBytes.{Appends, Consumes, IsAtEnd}
-use Rattle.std.proofs.KnownBytes.{Appends-trans, Consumes-trans}
+-- One more line of a source was read, or reading ends there.
+use Rattle.std.proofs.Common.{◌≡◌, ℕ, zero, suc, ◌+◌, ◌-◌, ◌<◌, ◌≤◌, ◌⊎◌, inl, inr, Bool, true, List, [], ◌∷◌, ◌++◌, length, take, Option, Some, refl, sym, ap, subst, ◌∙◌, append_assoc, append-nil, arith, Result, Ok, Err}
+use Rattle.std.specs.Prelude.{slice_get, MatchOption, MatchResult}
+use Rattle.std.specs.Io.KnownBytes.{Consumes, IsAtEnd}
+use Rattle.std.proofs.KnownBytes.{Consumes-trans}
 use Rattle.std.proofs.lemmas.List.{length-append}
-use Rattle.script_io.specs.Faults.{IsCutOff}
 use Rattle.script_io.specs.Reader.{Reader, HasNoFeed}
 use Rattle.script_io.specs.Fetching.{IsPending, IsFirstLine}
-use Rattle.vm_model.specs.Contents.Content.{Content}
 use Rattle.vm_model.specs.Scripts.Run.{lines_of, whole_lines}
-use Rattle.line_server.specs.Answering.{Answering, AnsweringRun}
-use Rattle.line_server.proofs.RunLaws.{lines_of-line, lines_of-piece, lines_of-nil, whole_lines-line, whole_lines-none, AnsweringRun-more}
-use Rattle.line_server.specs.Outcome.{AnswersAll, AnswersPart, Completes, StopsReading, ReachesLimit, BreaksOff, SinkTakes}
-use Rattle.line_server.specs.Serving.{AreLines, AreAll, IsServed}
+use Rattle.line_server.specs.Reading.{LineTurns, TakesAll, TakesPart, HaltsReading, ReadsAs}
+use Rattle.line_server.proofs.RunLaws.{lines_of-line, lines_of-piece, lines_of-nil, whole_lines-line, whole_lines-none}
+use Rattle.line_server.specs.Outcome.{Completes, StopsReading, ReachesLimit}
+use Rattle.line_server.specs.Serving.{AreLines, AreAll, IsBeingRead, halt}
 
 -- ---- lists
 
@@ -76,30 +74,29 @@ still_lines old front pending part line left lines ended none (inr all) first =
       go (inl e) z = omega (arith, z, ap (λ (xs : List ℕ). length xs) e, length-append line (10 ∷ left))
       go (inr h) z = omega (arith, z, ap (λ (xs : List ℕ). length xs) h.0, h.2)
 
--- ---- bytes that were taken behind those of the lines that were answered
+-- ---- lines that lead on
 
--- the lines so far were answered
-pub answers_all : {S : Type 0} (m : Answering S) (frames limit : ℕ) (reader : Reader) (source_old source_now sink_old sink_now : Option (List ℕ)) (now : S) (c : Content) → m.content now ≡ c →
-    (s : IsServed m frames limit reader source_old source_now sink_old sink_now now) → AnswersAll m frames s.lines sink_old sink_now c
-answers_all m frames limit reader source_old source_now sink_old sink_now now c holds s = record {
-  out = s.out;
-  last = now;
-  run = s.run;
-  good = s.good;
-  written = s.written;
-  store = sym holds;
-}
+-- lines, and one line more
+TakesAll-more : {S : Type 0} (t : LineTurns S) (old mid new : S) (lines : List (List ℕ)) (line : List ℕ) → TakesAll t old lines mid → t.Takes line mid new →
+    TakesAll t old (lines ++ line ∷ []) new
+TakesAll-more t old mid new [] line all takes = (new, subst (λ s. t.Takes line s new) all takes, refl)
+TakesAll-more t old mid new (first ∷ lines) line all takes = (all.0, all.1, TakesAll-more t all.0 mid new lines line all.2 takes)
+
+-- ---- bytes that were taken behind those of the lines that were read
 
 no_bytes : (xs : List ℕ) → length xs ≡ 0 → xs ≡ []
 no_bytes [] e = refl
 no_bytes (x ∷ xs) e = absurd (omega (arith, e))
 
--- Whatever holds of the lines that were answered holds of those of the script, where it ends there.
-module _ {S : Type 0} (m : Answering S) (frames limit : ℕ) (old new : Reader) (source_old source_mid source_new sink_old sink_now : Option (List ℕ)) (now : S)
-    (s : IsServed m frames limit old source_old source_mid sink_old sink_now now) (All : List (List ℕ) → Type 0) (all : All s.lines) (part : List ℕ) (consumes : Consumes source_mid source_new part)
+-- Whatever holds of the lines that were read holds of those of the script, where it ends there.
+module _ {S : Type 0} (t : LineTurns S) (limit : ℕ) (old new : Reader) (source_old source_mid source_new : Option (List ℕ)) (start now : S)
+    (s : IsBeingRead t limit old source_old source_mid start now) (part : List ℕ) (consumes : Consumes source_mid source_new part)
     (taken : new.taken ≡ old.taken + length part) (same : new.limit ≡ old.limit) where
+  abbrev All : List (List ℕ) → Type 0
+  All lines = TakesAll t start lines now
+
   all_of : (lines : List (List ℕ)) → lines ≡ s.lines → All lines
-  all_of lines e = subst All (sym e) all
+  all_of lines e = subst All (sym e) s.all
 
   abbrev script : List ℕ
   script = (s.front ++ s.pending) ++ part
@@ -167,30 +164,21 @@ module _ {S : Type 0} (m : Answering S) (frames limit : ℕ) (old new : Reader) 
 
 -- ---- one line more
 
--- From these pending bytes a line was fetched, and it was answered.
-pub record IsAnswered {S T E : Type 0} (m : Answering S) (old new : Reader) (source_old source_new sink_old sink_new : Option (List ℕ)) (before after : S) (pending : List ℕ) (result : Result T E) : Type 0 where
+-- From these pending bytes a line was fetched.
+pub record IsFetched (old new : Reader) (source_old source_new : Option (List ℕ)) (pending line : List ℕ) : Type 0 where
   pub part : List ℕ
   pub left : List ℕ
-  pub line : List ℕ
-  pub text : List ℕ
   pub consumes : Consumes source_old source_new part
   pub taken : new.taken ≡ old.taken + length part
   pub still : IsPending new source_new left
   pub first : IsFirstLine new.ended (pending ++ part) line left
   pub within : new.taken ≤ new.limit
-  pub gives : m.Gives line before text after
-  pub good : m.IsGood after
-  pub written : SinkTakes result sink_old sink_new text
 
-module _ {S T E : Type 0} (m : Answering S) (frames limit : ℕ) (old new : Reader) (source_old source_mid source_new sink_old sink_mid sink_new : Option (List ℕ)) (before after : S) (c : Content) (holds : m.content after ≡ c)
-    (result : Result T E) (s : IsServed m frames limit old source_old source_mid sink_old sink_mid before)
-    (a : IsAnswered m old new source_mid source_new sink_mid sink_new before after s.pending result)
+module _ {S : Type 0} (t : LineTurns S) (limit : ℕ) (old new : Reader) (source_old source_mid source_new : Option (List ℕ)) (start before after : S) (line : List ℕ)
+    (s : IsBeingRead t limit old source_old source_mid start before) (a : IsFetched old new source_mid source_new s.pending line)
     (same : new.limit ≡ old.limit) (none : old.ended ≡ true → new.taken ≡ old.taken) where
   so_far : AreLines s.front s.lines
-  so_far = still_lines old s.front s.pending a.part a.line a.left s.lines new.ended (λ e. omega (arith, a.taken, none e)) s.split a.first
-
-  abbrev Part : List (List ℕ) → Type 0
-  Part lines = AnswersPart m frames lines sink_old sink_new c
+  so_far = still_lines old s.front s.pending a.part line a.left s.lines new.ended (λ e. omega (arith, a.taken, none e)) s.split a.first
 
   abbrev taken_all : List ℕ
   taken_all = (s.front ++ s.pending) ++ a.part
@@ -201,76 +189,65 @@ module _ {S T E : Type 0} (m : Answering S) (frames limit : ℕ) (old new : Read
   size_all : new.taken ≡ length taken_all
   size_all = omega (arith, a.taken, s.taken, length-append (s.front ++ s.pending) a.part)
 
-  -- it was answered whole
-  pub IsServed-answered : (x : T) → result ≡ Ok x → IsServed m frames limit new source_old source_new sink_old sink_new after
-  IsServed-answered x is = go a.first.parts where
-    written : Appends sink_old sink_new (s.out ++ a.text)
-    written = Appends-trans sink_old sink_mid sink_new s.out a.text s.written (subst (λ (r : Result T E). SinkTakes r sink_mid sink_new a.text) is a.written)
+  abbrev Parts : Type 0
+  Parts = (s.pending ++ a.part ≡ line ++ 10 ∷ a.left) ⊎ ((s.pending ++ a.part ≡ line) × (a.left ≡ []) × (0 < length line) × (new.ended ≡ true))
 
-    served : (front : List ℕ) → taken_all ≡ front ++ a.left → (AreLines front (s.lines ++ a.line ∷ []) ⊎ AreAll new front a.left (s.lines ++ a.line ∷ [])) → IsServed m frames limit new source_old source_new sink_old sink_new after
-    served front parts split = record {
+  -- reading goes on behind it
+  more : t.Takes line before after → IsBeingRead t limit new source_old source_new start after
+  more takes = go a.first.parts where
+    read : (front : List ℕ) → taken_all ≡ front ++ a.left → (AreLines front (s.lines ++ line ∷ []) ⊎ AreAll new front a.left (s.lines ++ line ∷ [])) →
+        IsBeingRead t limit new source_old source_new start after
+    read front parts split = record {
       front = front;
       pending = a.left;
-      lines = s.lines ++ a.line ∷ [];
+      lines = s.lines ++ line ∷ [];
       given = subst (Consumes source_old source_new) parts given_all;
       still = a.still;
       bounded = same ∙ s.bounded;
       taken = size_all ∙ ap (λ (xs : List ℕ). length xs) parts;
       within = omega (arith, a.within, size_all, ap (λ (xs : List ℕ). length xs) parts, length-append front a.left, same, s.bounded);
       split = split;
-      out = s.out ++ a.text;
-      run = AnsweringRun-more m (m.start frames) before after s.lines a.line s.out a.text s.run a.gives;
-      good = a.good;
-      written = written;
+      all = TakesAll-more t start before after s.lines line s.all takes;
     }
 
-    go : ((s.pending ++ a.part ≡ a.line ++ 10 ∷ a.left) ⊎ ((s.pending ++ a.part ≡ a.line) × (a.left ≡ []) × (0 < length a.line) × (new.ended ≡ true))) → IsServed m frames limit new source_old source_new sink_old sink_new after
-    go (inl e) = served (s.front ++ (a.line ++ 10 ∷ []))
-        (append_assoc s.front s.pending a.part ∙ (ap (λ (xs : List ℕ). s.front ++ xs) e ∙ sym (line_behind s.front a.line a.left)))
-        (inl (AreLines-more s.front a.line s.lines so_far a.first.no_feed))
-    go (inr h) = served (s.front ++ a.line)
-        (append_assoc s.front s.pending a.part ∙ (ap (λ (xs : List ℕ). s.front ++ xs) h.0 ∙ (sym (append-nil (s.front ++ a.line)) ∙ ap (λ (xs : List ℕ). (s.front ++ a.line) ++ xs) (sym h.1))))
-        (inr (record { each = lines_of-more s.front a.line s.lines so_far a.first.no_feed h.2; behind = h.1; ended = h.3 }))
+    go : Parts → IsBeingRead t limit new source_old source_new start after
+    go (inl e) = read (s.front ++ (line ++ 10 ∷ []))
+        (append_assoc s.front s.pending a.part ∙ (ap (λ (xs : List ℕ). s.front ++ xs) e ∙ sym (line_behind s.front line a.left)))
+        (inl (AreLines-more s.front line s.lines so_far a.first.no_feed))
+    go (inr h) = read (s.front ++ line)
+        (append_assoc s.front s.pending a.part ∙ (ap (λ (xs : List ℕ). s.front ++ xs) h.0 ∙ (sym (append-nil (s.front ++ line)) ∙ ap (λ (xs : List ℕ). (s.front ++ line) ++ xs) (sym h.1))))
+        (inr (record { each = lines_of-more s.front line s.lines so_far a.first.no_feed h.2; behind = h.1; ended = h.3 }))
 
-  -- its replies were cut off
-  pub BreaksOff-answered : (x : E) → result ≡ Err x → BreaksOff Part limit source_old source_new
-  BreaksOff-answered x is = go a.first.parts where
-    cut : IsCutOff sink_mid sink_new a.text
-    cut = subst (λ (r : Result T E). SinkTakes r sink_mid sink_new a.text) is a.written
+  abbrev Part : List (List ℕ) → Type 0
+  Part lines = TakesPart t start lines after
 
-    short : length taken_all ≤ limit
-    short = omega (arith, a.within, size_all, same, s.bounded)
-
-    -- the lines up to the one that was cut off
-    answers : (lines : List (List ℕ)) (rest : List (List ℕ)) → lines ≡ s.lines ++ a.line ∷ rest → Part lines
+  -- reading ends with it
+  ends : t.Halts line before after → HaltsReading Part limit source_old source_new
+  ends halts = go a.first.parts where
+    -- the lines up to this one
+    answers : (lines : List (List ℕ)) (rest : List (List ℕ)) → lines ≡ s.lines ++ line ∷ rest → Part lines
     answers lines rest e = record {
-      answered = length s.lines;
-      line = a.line;
-      next = ap (λ (ls : List (List ℕ)). slice_get ls (length s.lines)) e ∙ get_behind s.lines a.line rest;
-      before = s.out;
+      count = length s.lines;
+      line = line;
+      next = ap (λ (ls : List (List ℕ)). slice_get ls (length s.lines)) e ∙ get_behind s.lines line rest;
       mid = before;
-      run = subst (λ (ls : List (List ℕ)). AnsweringRun m (m.start frames) ls s.out before) (sym (ap (take (length s.lines)) e ∙ take_front s.lines (a.line ∷ rest))) s.run;
-      text = a.text;
-      last = after;
-      gives = a.gives;
-      good = a.good;
-      part = cut.part;
-      rest = cut.rest;
-      cut = cut.whole;
-      left = cut.left;
-      written = Appends-trans sink_old sink_mid sink_new s.out cut.part s.written cut.taken;
-      store = sym holds;
+      before = subst (λ (ls : List (List ℕ)). TakesAll t start ls before) (sym (ap (take (length s.lines)) e ∙ take_front s.lines (line ∷ rest))) s.all;
+      halts = halts;
     }
 
-    breaks : (Part (whole_lines (take limit taken_all))
-        ⊎ (Part (lines_of taken_all) × IsAtEnd source_new × (length taken_all ≤ limit))) → BreaksOff Part limit source_old source_new
-    breaks parts = record { script = taken_all; given = given_all; at_most = omega (arith, short); answers = parts }
+    breaks : (Part (whole_lines taken_all) ⊎ (Part (lines_of taken_all) × IsAtEnd source_new)) → HaltsReading Part limit source_old source_new
+    breaks parts = record { script = taken_all; given = given_all; short = omega (arith, a.within, size_all, same, s.bounded); answers = parts }
 
-    go : ((s.pending ++ a.part ≡ a.line ++ 10 ∷ a.left) ⊎ ((s.pending ++ a.part ≡ a.line) × (a.left ≡ []) × (0 < length a.line) × (new.ended ≡ true))) → BreaksOff Part limit source_old source_new
+    go : Parts → HaltsReading Part limit source_old source_new
     go (inl e) =
-        let parts : taken_all ≡ s.front ++ (a.line ++ 10 ∷ a.left) = append_assoc s.front s.pending a.part ∙ ap (λ (xs : List ℕ). s.front ++ xs) e in
-        breaks (inl (answers (whole_lines (take limit taken_all)) (whole_lines a.left)
-        (ap whole_lines (take_all limit taken_all short ∙ parts) ∙ (so_far.whole (a.line ++ 10 ∷ a.left) ∙ ap (λ (ls : List (List ℕ)). s.lines ++ ls) (whole_lines-line a.line a.left (λ k l. a.first.no_feed k 0 l))))))
+        let parts : taken_all ≡ s.front ++ (line ++ 10 ∷ a.left) = append_assoc s.front s.pending a.part ∙ ap (λ (xs : List ℕ). s.front ++ xs) e in
+        breaks (inl (answers (whole_lines taken_all) (whole_lines a.left)
+        (ap whole_lines parts ∙ (so_far.whole (line ++ 10 ∷ a.left) ∙ ap (λ (ls : List (List ℕ)). s.lines ++ ls) (whole_lines-line line a.left (λ k l. a.first.no_feed k 0 l))))))
     go (inr h) =
-        let parts : taken_all ≡ s.front ++ a.line = append_assoc s.front s.pending a.part ∙ ap (λ (xs : List ℕ). s.front ++ xs) h.0 in
-        breaks (inr (answers (lines_of taken_all) [] (ap lines_of parts ∙ lines_of-more s.front a.line s.lines so_far a.first.no_feed h.2), a.still.at_end h.3, short))
+        let parts : taken_all ≡ s.front ++ line = append_assoc s.front s.pending a.part ∙ ap (λ (xs : List ℕ). s.front ++ xs) h.0 in
+        breaks (inr (answers (lines_of taken_all) [] (ap lines_of parts ∙ lines_of-more s.front line s.lines so_far a.first.no_feed h.2), a.still.at_end h.3))
+
+  pub way-after : {T E : Type 0} (result : Result T E) → MatchResult result (λ x. t.Takes line before after) (λ e. t.Halts line before after) →
+      MatchOption (halt result) (IsBeingRead t limit new source_old source_new start after) (λ end. ReadsAs t end limit source_old source_new start after)
+  way-after (Ok x) takes = more takes
+  way-after (Err e) halts = ends halts

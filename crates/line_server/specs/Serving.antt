@@ -1,13 +1,16 @@
--- How far a script was served: which lines were answered, and which bytes are pending in the line reader.
-use Rattle.std.specs.Prelude.{◌≡◌, ℕ, ◌+◌, ◌-◌, ◌≤◌, ◌⊎◌, true, List, [], ◌++◌, length, Option, None, Some, Result, Ok, Err}
-use Rattle.std.specs.Io.KnownBytes.{Appends, Consumes}
+-- How far a source was read: which lines were taken, and which bytes are pending in the line reader.
+use Rattle.std.specs.Prelude.{◌≡◌, ℕ, ◌+◌, ◌-◌, ◌≤◌, ◌⊎◌, true, false, List, [], ◌++◌, length, Option, None, Some, Result, Ok, Err}
+use Rattle.std.specs.Io.KnownBytes.{Consumes}
 use Rattle.script_io.specs.Reader.{Reader}
 use Rattle.script_io.specs.Fetching.{IsPending, Fetches}
 use Rattle.script_io.specs.declared.line_reader.Fetch.{Fetch}
 use Rattle.script_io.specs.declared.status.Status.{Status}
 use Rattle.script_io.specs.declared.status.Status.TheVariants.{WriteFault}
 use Rattle.vm_model.specs.Scripts.Run.{lines_of, whole_lines}
-use Rattle.line_server.specs.Answering.{Answering, AnsweringRun}
+use Rattle.script_io.specs.Faults.{HasCause}
+use Rattle.line_server.specs.Answering.{Answering}
+use Rattle.line_server.specs.Outcome.{AnswersLine}
+use Rattle.line_server.specs.Reading.{LineTurns, TakesAll}
 
 -- These bytes are these lines, each with its line feed: whatever comes behind them begins a line.
 pub record AreLines (bytes : List ℕ) (lines : List (List ℕ)) : Type 0 where
@@ -20,10 +23,8 @@ pub record AreAll (reader : Reader) (bytes pending : List ℕ) (lines : List (Li
   pub behind : pending ≡ []
   pub ended : reader.ended ≡ true
 
--- The source gave a script: bytes whose lines were answered, and bytes that are pending in the reader. The text of the
--- answers was written, and the machine is in a good state.
-pub record IsServed {S : Type 0} (m : Answering S) (frames limit : ℕ) (reader : Reader)
-    (source_old source_now sink_old sink_now : Option (List ℕ)) (now : S) : Type 0 where
+-- The source gave bytes whose lines led from start to now, and bytes that are pending in the reader.
+pub record IsBeingRead {S : Type 0} (t : LineTurns S) (limit : ℕ) (reader : Reader) (source_old source_now : Option (List ℕ)) (start now : S) : Type 0 where
   pub front : List ℕ
   pub pending : List ℕ
   pub lines : List (List ℕ)
@@ -33,10 +34,7 @@ pub record IsServed {S : Type 0} (m : Answering S) (frames limit : ℕ) (reader 
   pub taken : reader.taken ≡ length (front ++ pending)
   pub within : length front ≤ limit
   pub split : AreLines front lines ⊎ AreAll reader front pending lines
-  pub out : List ℕ
-  pub run : AnsweringRun m (m.start frames) lines out now
-  pub good : m.IsGood now
-  pub written : Appends sink_old sink_now out
+  pub all : TakesAll t start lines now
 
 -- Bytes are pending, and every KOID was given for a byte that was used up.
 pub record IsReady (reader : Reader) (remaining : Option (List ℕ)) (next : ℕ) : Type 0 where
@@ -54,7 +52,37 @@ abbrev pub FetchesOnce : Reader → Reader → Option (List ℕ) → Option (Lis
 FetchesOnce old new source_old source_new = (pending : List ℕ) → IsPending old source_old pending
     → (answer : Fetch) × Fetches old new source_old source_new pending answer
 
--- the status that serving ends with behind a line, if any
-abbrev pub write_failure : {T E : Type 0} → Result T E → Option Status
-write_failure (Ok x) = None
-write_failure (Err e) = Some WriteFault
+-- a line reader that took nothing yet
+abbrev pub fresh : ℕ → Reader
+fresh limit = record { limit = limit; taken = 0; dropped = 0; held = []; line = []; ended = false }
+
+-- how reading ends behind a line, if it does
+abbrev pub halt : {T E : Type 0} → Result T E → Option (Result Status E)
+halt (Ok x) = None
+halt (Err e) = Some (Err e)
+
+-- ---- answering
+
+-- a machine that answers lines, what its sink took, and how often the sink failed
+pub record Heard (S : Type 0) : Type 0 where
+  pub machine : S
+  pub taken : Option (List ℕ)
+  pub faults : ℕ
+
+-- the line was answered, and its text was written whole, or the sink failed
+pub record HearsLine {S T E : Type 0} (m : Answering S) (line : List ℕ) (old new : Heard S) (result : Result T E) : Type 0 where
+  pub answer : AnswersLine m line old.machine new.machine old.taken new.taken result
+  pub good : m.IsGood new.machine
+  pub cause : HasCause old.faults new.faults result
+
+-- what answering does with a line
+abbrev pub answering : {S : Type 0} → Answering S → LineTurns (Heard S)
+answering m = record {
+  Takes = λ line old new. HearsLine {T = Unit {0}} {E = Unit {0}} m line old new (Ok tt);
+  Halts = λ line old new. HearsLine {T = Unit {0}} {E = Unit {0}} m line old new (Err tt);
+}
+
+-- the status of a script whose lines were read to this end
+abbrev pub served_as : {E : Type 0} → Result Status E → Status
+served_as (Ok status) = status
+served_as (Err error) = WriteFault

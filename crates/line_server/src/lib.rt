@@ -1,18 +1,21 @@
 //! The serving of a script line by line, by whatever interprets its lines.
 //!
-//! A program of lines is an `Interpreter`: it says which text may answer a line from which state, and answers so. `serve` reads the
-//! lines of a source by `Lines`, has each answered, and returns how that ended. `serve_words` reads the words of the command
-//! line first. `push_answer` and `push_syntax` write answers. It stands on `page_store` for what an interpreter works on, on
-//! `script_io` for sources, sinks and lines, and on `script_text` and `reply_text` for words and replies.
+//! `read_lines` reads the lines of a source by `Lines`, one after another. What is done with a line is a `Turn`. A program of lines
+//! is an `Interpreter`: it says which text may answer a line from which state, and answers so. `serve` has each line of a script
+//! answered, and returns how that ended. `serve_words` reads the words of the command line first. `push_answer` and `push_syntax`
+//! write answers. It stands on `page_store` for what an interpreter works on, on `script_io` for sources, sinks and lines, and on
+//! `script_text` and `reply_text` for words and replies.
 #![tactic(auto)]
 
-mod answers;
+mod answering;
 mod interpreter;
+mod reading;
 mod replies;
 mod serving;
 mod words;
 
 pub use interpreter::Interpreter;
+pub use reading::{Turn, read_lines};
 pub use replies::{push_answer, push_syntax};
 pub use serving::{serve, serve_words};
 pub use words::{decimal_of_word, frames_asked, frames_in};

@@ -6,13 +6,14 @@ ghost use Rattle.vm_model.specs.Contents.Content.{nothing};
 ghost use Rattle.line_server.specs.Outcome.{EndsAs};
 ghost use Rattle.line_server.specs.Words.{frames_asked};
 
-use crate::answers::answer_next;
+use crate::answering::{Answer, served_as};
 use crate::interpreter::Interpreter;
+use crate::reading::read_lines;
 use crate::words::frames_asked;
 use page_store::PageStore;
 use script_io::{Lines, Sink, Source, Status};
 use std::alloc::Global;
-use vm_base::{FRAMES, SCRIPT_BYTES};
+use vm_base::{FRAMES, Failed, SCRIPT_BYTES};
 
 /// Answers the lines of the script that a source gives, one after another, over a store that gets `frames` page frames, from 1 to
 /// `FRAMES`. Each turn of the loop fetches one line and pushes its answer, and takes bytes of the source only if no whole line is
@@ -52,12 +53,14 @@ pub fn serve<P: PageStore, I: Interpreter<P>, S: Source, K: Sink>(
     let Ok(()) = store.fill(frames) else {
         return Status::HostMemory;
     };
-    loop {
-        let next = answer_next(store, interpreter, &mut lines, source, sink);
-        if let Some(status) = next {
-            return status;
-        }
-    }
+    let read = read_lines::<Answer, I, P, K, Failed, S>(
+        &mut lines,
+        interpreter,
+        store,
+        source,
+        sink,
+    );
+    served_as(read)
 }
 
 /// Does `serve` for the words of a command line that are `verb`, and behind it nothing or `--frames N`. There are `DEFAULT_FRAMES`

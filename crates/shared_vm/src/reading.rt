@@ -1,59 +1,59 @@
 //! Reading the tasks of an input.
 
-ghost use Rattle.std.specs.Prelude.{◌≡◌, ◌≢◌, ◌+◌, ◌^◌, ◌<◌, ◌≤◌, List, Option, ℕ, IfNone, MatchOption, MatchResult, Some, OnErr, IfOk, IfErr, Err};
+ghost use Rattle.std.specs.Prelude.{◌≡◌, ◌^◌, ◌<◌, MatchResult, IfOk, Err};
 ghost use Rattle.script_io.specs.Faults.{HasFailed};
-ghost use Rattle.line_server.specs.Serving.{IsReady, bytes_left};
-ghost use Rattle.shared_vm.specs.Gathering.{EndsReading, Gathers, GathersAs, IsGathered, lists_or_status};
-ghost use Rattle.script_io.specs.Ending.{memory_failure};
+ghost use Rattle.shared_vm.specs.Gathering.{EndsReading, Gathers, lists_or_status};
 ghost use Rattle.shared_vm.specs.Tasks.{task_count};
-ghost use Rattle.vm_base.specs.declared.limits.TheConstants.{INPUT_BYTES};
 
 use crate::scripts::Scripts;
-use script_io::{Fetch, Lines, Source, Status};
+use line_server::{Turn, read_lines};
+use script_io::{Lines, Source, Status};
 use std::alloc::Global;
 use vm_base::{HostMemory, INPUT_BYTES};
 
-/// Returns the status that reading ends with behind a line: one if the host had too little memory for its task, else
-/// none.
-fn lack(added: Result<(), HostMemory>) -> Option<Status>
-    ensures { result ≡ memory_failure added }
-{
-    match added {
-        Ok(()) => None,
-        Err(_) => Some(Status::HostMemory),
-    }
-}
+/// The task of each line of an input is added.
+struct Gather;
 
-/// Fetches the next line of an input and adds its task. A status if reading ends with it, `Done` at the end of the input.
-fn add_next<S: Source>(scripts: &mut Scripts, lines: &mut Lines, source: &mut S) -> Option<Status>
-    requires ready { IsReady lines.old (S.remaining source.old) (task_count scripts.old + 1) }
-    ensures gathered { (source_old : Option (List ℕ))
-        → IsGathered lines.old source_old (S.remaining source.old) scripts.old
-        → MatchOption result (IsGathered lines.new source_old (S.remaining source.new) scripts.new)
-        (λ status. GathersAs status source_old (S.remaining source.new) scripts.new) }
-    ensures ready { IfNone result (IsReady lines.new (S.remaining source.new) (task_count scripts.new + 1)) }
-    ensures few { result ≡ Some Status.Done → task_count scripts.new ≤ lines.new.limit }
-    ensures limit { lines.new.limit ≡ lines.old.limit }
-    ensures falls { IfNone result (bytes_left lines.new < bytes_left lines.old) }
-    ensures later { S.faults source.old ≤ S.faults source.new }
-    ensures cause { result ≡ Some Status.ReadFault → HasFailed (S.faults source.old) (S.faults source.new) }
-{
-    match lines.next(source) {
-        Fetch::Line => lack(scripts.add(lines.line())),
-        Fetch::TooLong => lack(scripts.add_outside()),
-        Fetch::End => Some(Status::Done),
-        Fetch::Fault => Some(Status::ReadFault),
-        Fetch::Limit => Some(Status::ScriptLimit),
+impl Turn<Scripts, (), (), HostMemory> for Gather {
+    ghost use Rattle.std.specs.Prelude.{◌+◌};
+    ghost use Rattle.vm_base.specs.declared.limits.TheConstants.{INPUT_BYTES};
+    ghost use Rattle.shared_vm.specs.Gathering.{gathering};
+    ghost use Rattle.shared_vm.specs.Tasks.{Lists, task_count};
+
+    ghost State = { Lists };
+
+    ghost turns = { gathering };
+
+    ghost state = { λ scripts store sink. scripts };
+
+    ghost Holds = { λ scripts store. Unit {0} };
+
+    ghost count = { λ scripts store. task_count scripts + 1 };
+
+    ghost most = { INPUT_BYTES };
+
+    fn take(
+        scripts: &mut Scripts,
+        _store: &mut (),
+        _sink: &mut (),
+        line: &[u8],
+    ) -> Result<(), HostMemory> {
+        scripts.add(line)
+    }
+
+    fn pass(scripts: &mut Scripts, _store: &mut (), _sink: &mut ()) -> Result<(), HostMemory> {
+        scripts.add_outside()
     }
 }
 
 /// Returns the tasks if all lines were read, else the status that reading ended with.
-fn told(status: Status, scripts: Scripts) -> Result<Scripts, Status>
-    ensures { result ≡ lists_or_status status scripts }
+fn told(read: Result<Status, HostMemory>, scripts: Scripts) -> Result<Scripts, Status>
+    ensures { result ≡ lists_or_status read scripts }
 {
-    match status {
-        Status::Done => Ok(scripts),
-        _ => Err(status),
+    match read {
+        Ok(Status::Done) => Ok(scripts),
+        Ok(status) => Err(status),
+        Err(_) => Err(Status::HostMemory),
     }
 }
 
@@ -69,10 +69,13 @@ pub(crate) fn read_input<S: Source>(alloc: Global, source: &mut S) -> Result<Scr
         return Err(Status::HostMemory);
     };
     let mut scripts = Scripts::new(alloc);
-    loop {
-        let next = add_next(&mut scripts, &mut lines, source);
-        if let Some(status) = next {
-            return told(status, scripts);
-        }
-    }
+    let (mut store, mut sink) = ((), ());
+    let read = read_lines::<Gather, Scripts, (), (), HostMemory, S>(
+        &mut lines,
+        &mut scripts,
+        &mut store,
+        source,
+        &mut sink,
+    );
+    told(read, scripts)
 }

@@ -4,12 +4,9 @@ use Rattle.std.specs.Io.KnownBytes.{Appends, Consumes}
 use Rattle.script_io.specs.declared.status.Status.{Status}
 use Rattle.script_io.specs.declared.status.Status.TheVariants.{Done, Usage, HostMemory, ReadFault, WriteFault, ScriptLimit}
 use Rattle.script_io.specs.Faults.{IsCutOff}
-use Rattle.script_io.specs.Reader.{Reader}
 use Rattle.vm_base.specs.declared.limits.TheConstants.{SCRIPT_BYTES}
-use Rattle.vm_model.specs.Contents.Content.{nothing}
-use Rattle.line_server.specs.Answering.{Answering}
 use Rattle.line_server.specs.Outcome.{Completes, StopsReading, ReachesLimit}
-use Rattle.line_server.specs.Serving.{IsServed}
+use Rattle.line_server.specs.Reading.{LineTurns}
 use Rattle.moving_model.specs.Transcript.{Told, Asked, Answered, told, ArePossible, AreWhole}
 use Rattle.transcript.specs.declared.verdict.Verdict.{Verdict}
 use Rattle.transcript.specs.declared.verdict.Verdict.TheVariants.{Illegal as IllegalLine, Malformed as MalformedLine}
@@ -93,26 +90,9 @@ pub record IsChecked (frames : ℕ) (check : Check) (lines : List (List ℕ)) : 
   pub count : check.lines ≡ length lines
   pub found : HasFound check.bad frames check lines
 
--- lines that are read as a machine that answers none, and to which each line adds itself
-abbrev pub collecting : Answering (List (List ℕ))
-collecting = record {
-  start = λ frames. [];
-  content = λ lines. nothing;
-  IsGood = λ lines. Unit {0};
-  Gives = λ line old out new. (out ≡ []) × (new ≡ old ++ line ∷ []);
+-- whatever lines were read, this one is read behind them
+abbrev pub checking : LineTurns Check
+checking = record {
+  Takes = λ line old new. (frames : ℕ) (lines : List (List ℕ)) → IsChecked frames old lines → IsChecked frames new (lines ++ line ∷ []);
+  Halts = λ line old new. Unit {0};
 }
-
--- the source gave bytes so far, and the lines of them that were fetched were read
-pub record IsBeingChecked (frames : ℕ) (reader : Reader) (source_old source_now : Option (List ℕ)) (check : Check) : Type 0 where
-  pub lines : List (List ℕ)
-  pub served : IsServed collecting 0 SCRIPT_BYTES reader source_old source_now (Some []) (Some []) lines
-  pub checked : IsChecked frames check lines
-
--- what a status says of the reading
-abbrev pub StopsAs : Status → ℕ → Option (List ℕ) → Option (List ℕ) → Check → Type 0
-StopsAs Done frames source_old source_new check = Completes (IsChecked frames check) SCRIPT_BYTES source_old source_new
-StopsAs ReadFault frames source_old source_new check = StopsReading (λ lines. Unit {0}) SCRIPT_BYTES source_old source_new
-StopsAs ScriptLimit frames source_old source_new check = ReachesLimit (λ lines. Unit {0}) SCRIPT_BYTES source_old source_new
-StopsAs HostMemory frames source_old source_new check = ReadsAtMost SCRIPT_BYTES source_old source_new
-StopsAs WriteFault frames source_old source_new check = ⊥
-StopsAs Usage frames source_old source_new check = ⊥

@@ -1,27 +1,53 @@
 //! The check of a transcript, from the bytes of a source to the bytes of a sink.
 
-ghost use Rattle.std.specs.Prelude.{◌≡◌, ◌≢◌, ◌↔◌, ◌⊎◌, ◌+◌, ◌<◌, ◌≤◌, ℕ, List, Option, None, Some, codes, IfNone, IfSome, MatchOption};
-ghost use Rattle.std.specs.Io.KnownBytes.{Appends};
-ghost use Rattle.script_io.specs.Faults.{HasFailed, IsCutOff};
+ghost use Rattle.std.specs.Prelude.{◌≡◌, ◌≢◌, ◌↔◌, ◌⊎◌, ◌≤◌, ℕ, List, [], Option, None, codes, IfSome};
+ghost use Rattle.script_io.specs.Faults.{HasFailed};
 ghost use Rattle.vm_base.specs.declared.limits.TheConstants.{FRAMES, SCRIPT_BYTES};
 ghost use Rattle.line_server.specs.Words.{frames_asked};
-ghost use Rattle.line_server.specs.Serving.{IsReady, bytes_left};
-ghost use Rattle.transcript.specs.Reports.{CheckEndsAs, IsBeingChecked, StopsAs, IsChecked, Reports};
-ghost use Rattle.script_io.specs.Ending.{memory_failure, status_of_writing};
+ghost use Rattle.line_server.specs.Outcome.{Completes};
+ghost use Rattle.line_server.specs.Serving.{fresh};
+ghost use Rattle.transcript.specs.Reports.{CheckEndsAs, IsChecked};
+ghost use Rattle.script_io.specs.Ending.{status_of_writing};
 
 use crate::reports::{Check, REPORT_BYTES, write_report};
-use line_server::frames_asked;
-use script_io::{Fetch, Lines, Sink, Source, Status, push_all};
+use line_server::{Turn, frames_asked, read_lines};
+use script_io::{Lines, Sink, Source, Status, push_all};
 use std::alloc::Global;
 use vm_base::{Failed, HostMemory, SCRIPT_BYTES};
 
-/// Returns the status that reading ends with behind a line: one if the host had too little memory for it, else none.
-fn lack(read: Result<(), HostMemory>) -> Option<Status>
-    ensures { result ≡ memory_failure read }
-{
-    match read {
-        Ok(()) => None,
-        Err(_) => Some(Status::HostMemory),
+/// A check reads each line of a transcript.
+struct Reading;
+
+impl Turn<Check, (), (), HostMemory> for Reading {
+    ghost use Rattle.std.specs.Prelude.{ℕ, List, ◌+◌};
+    ghost use Rattle.vm_base.specs.declared.limits.TheConstants.{SCRIPT_BYTES};
+    ghost use Rattle.transcript.specs.declared.reports.Check.{Check};
+    ghost use Rattle.transcript.specs.Reports.{IsChecked, checking};
+
+    ghost State = { Check };
+
+    ghost turns = { checking };
+
+    ghost state = { λ check store sink. check };
+
+    ghost Holds = { λ check store. (frames : ℕ) × (lines : List (List ℕ)) × IsChecked frames check lines };
+
+    ghost count = { λ check store. check.lines + 1 };
+
+    ghost most = { SCRIPT_BYTES };
+
+    fn take(
+        check: &mut Check,
+        _store: &mut (),
+        _sink: &mut (),
+        line: &[u8],
+    ) -> Result<(), HostMemory> {
+        check.read(line)
+    }
+
+    fn pass(check: &mut Check, _store: &mut (), _sink: &mut ()) -> Result<(), HostMemory> {
+        check.pass();
+        Ok(())
     }
 }
 
@@ -32,51 +58,6 @@ fn status_of(pushed: Result<(), Failed>) -> Status
     match pushed {
         Ok(()) => Status::Done,
         Err(_) => Status::WriteFault,
-    }
-}
-
-/// Fetches the next line of a transcript and reads it. A status if reading ends with it, `Done` at the end of the transcript.
-fn read_next<S: Source>(check: &mut Check, lines: &mut Lines, source: &mut S) -> Option<Status>
-    requires ready { IsReady lines.old (S.remaining source.old) (check.old.lines + 1) }
-    requires limit { lines.old.limit ≡ SCRIPT_BYTES }
-    requires way { (frames : ℕ) × (source_old : Option (List ℕ)) × IsBeingChecked frames lines.old source_old (S.remaining source.old) check.old }
-    ensures way { (frames : ℕ) (source_old : Option (List ℕ)) → IsBeingChecked frames lines.old source_old (S.remaining source.old) check.old
-        → MatchOption result (IsBeingChecked frames lines.new source_old (S.remaining source.new) check.new)
-        (λ status. StopsAs status frames source_old (S.remaining source.new) check.new) }
-    ensures ready { IfNone result (IsReady lines.new (S.remaining source.new) (check.new.lines + 1)) }
-    ensures few { result ≡ Some Status.Done → check.new.lines ≤ SCRIPT_BYTES }
-    ensures limit { lines.new.limit ≡ lines.old.limit }
-    ensures falls { IfNone result (bytes_left lines.new < bytes_left lines.old) }
-    ensures later { S.faults source.old ≤ S.faults source.new }
-    ensures cause { result ≡ Some Status.ReadFault → HasFailed (S.faults source.old) (S.faults source.new) }
-{
-    match lines.next(source) {
-        Fetch::Line => lack(check.read(lines.line())),
-        Fetch::TooLong => {
-            check.pass();
-            None
-        }
-        Fetch::End => Some(Status::Done),
-        Fetch::Fault => Some(Status::ReadFault),
-        Fetch::Limit => Some(Status::ScriptLimit),
-    }
-}
-
-/// Reads a transcript to its end, and answers `Done`. Else the status that reading ends with.
-fn read_all<S: Source>(check: &mut Check, lines: &mut Lines, source: &mut S) -> Status
-    requires ready { IsReady lines.old (S.remaining source.old) (check.old.lines + 1) }
-    requires limit { lines.old.limit ≡ SCRIPT_BYTES }
-    requires way { (frames : ℕ) × IsBeingChecked frames lines.old (S.remaining source.old) (S.remaining source.old) check.old }
-    ensures way { (frames : ℕ) → IsBeingChecked frames lines.old (S.remaining source.old) (S.remaining source.old) check.old
-        → StopsAs result frames (S.remaining source.old) (S.remaining source.new) check.new }
-    ensures few { result ≡ Status.Done → check.new.lines ≤ SCRIPT_BYTES }
-    ensures cause { result ≡ Status.ReadFault → HasFailed (S.faults source.old) (S.faults source.new) }
-{
-    loop {
-        let next = read_next(check, lines, source);
-        if let Some(status) = next {
-            return status;
-        }
     }
 }
 
@@ -105,16 +86,27 @@ fn read_and_report<S: Source, K: Sink>(
     source: &mut S,
     sink: &mut K,
 ) -> Status
-    requires ready { IsReady lines.old (S.remaining source.old) (check.old.lines + 1) }
-    requires limit { lines.old.limit ≡ SCRIPT_BYTES }
-    requires way { (frames : ℕ) × IsBeingChecked frames lines.old (S.remaining source.old) (S.remaining source.old) check.old }
-    ensures ends { (frames : ℕ) → IsBeingChecked frames lines.old (S.remaining source.old) (S.remaining source.old) check.old
+    requires fresh { lines.old ≡ fresh SCRIPT_BYTES }
+    requires none { check.old.lines ≡ 0 }
+    requires checked { (frames : ℕ) × IsChecked frames check.old [] }
+    ensures ends { (frames : ℕ) → IsChecked frames check.old []
         → CheckEndsAs result frames (S.remaining source.old) (S.remaining source.new) (K.contents sink.old) (K.contents sink.new) }
     ensures read_cause { result ≡ Status.ReadFault → HasFailed (S.faults source.old) (S.faults source.new) }
     ensures write_cause { result ≡ Status.WriteFault → HasFailed (K.faults sink.old) (K.faults sink.new) }
     ensures unwritten { result ≢ Status.Done → result ≢ Status.WriteFault → sink.new ≡ sink.old }
 {
-    match read_all(check, lines, source) {
+    let (mut store, mut unused) = ((), ());
+    let read = read_lines::<Reading, Check, (), (), HostMemory, S>(
+        lines,
+        check,
+        &mut store,
+        source,
+        &mut unused,
+    );
+    let Ok(status) = read else {
+        return Status::HostMemory;
+    };
+    match status {
         Status::Done => push_report(check, sink),
         status => status,
     }
@@ -123,7 +115,7 @@ fn read_and_report<S: Source, K: Sink>(
 /// Writes the report of a check. `Done`, or `WriteFault` if the sink fails.
 fn push_report<K: Sink>(check: &Check, sink: &mut K) -> Status
     requires { check.now.lines ≤ SCRIPT_BYTES }
-    ensures ends { (frames : ℕ) (source_old source_new : Option (List ℕ)) → StopsAs Status.Done frames source_old source_new check.now
+    ensures ends { (frames : ℕ) (source_old source_new : Option (List ℕ)) → Completes (IsChecked frames check.now) SCRIPT_BYTES source_old source_new
         → CheckEndsAs result frames source_old source_new (K.contents sink.old) (K.contents sink.new) }
     ensures no_read { result ≢ Status.ReadFault }
     ensures either { (result ≡ Status.Done) ⊎ (result ≡ Status.WriteFault) }

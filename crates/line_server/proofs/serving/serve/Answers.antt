@@ -1,6 +1,7 @@
-use Rattle.std.proofs.Common.{◌∙◌, Some, refl, sym, ap, subst, arith}
-use Rattle.script_io.specs.declared.status.Status.{Status}
-use Rattle.line_server.proofs.Beginning.{NothingDone-yet, filled_is, HasFailed-earlier, IsServed-fresh, IsReady-fresh}
+use Rattle.std.proofs.Common.{◌∙◌, refl, sym, ap, subst, arith}
+use Rattle.line_server.specs.Serving.{fresh}
+use Rattle.line_server.proofs.Beginning.{NothingDone-yet, filled_is, first_koid}
+use Rattle.line_server.proofs.Heard.{serving-ends, serving-failed, served-no_memory, served-fault}
 use Rattle.line_server.proofs.serving.serve.Goals as goal
 
 pub returns-in_default-clause-ends : goal.returns-in_default-clause-ends
@@ -9,60 +10,31 @@ returns-in_default-clause-ends g c = NothingDone-yet _ _ _ _ refl c.requires.emp
 pub returns-in_default-fill-clause-ends : goal.returns-in_default-fill-clause-ends
 returns-in_default-fill-clause-ends g c = NothingDone-yet _ _ _ _ c.in_default-fill.ensures.err c.requires.empty
 
-pub loop-status-init : goal.loop-status-init
-loop-status-init g c =
+pub read_lines-read-requires : goal.read_lines-read-requires
+read_lines-read-requires g c =
     let filled = filled_is c.args.frames _ _ c.in-Ok-fill.ensures.ok c.requires.empty in
     let start = ap (g.I.Interpreter.state c.args.interpreter.now) filled ∙ c.requires.start in
+    let limit = ap (λ r. r.limit) c.in-Ok.ensures in
     record {
-      served = IsServed-fresh g.I.Interpreter.rules c.args.frames c.args.limit _ _ _ _ c.in-Ok.ensures start c.requires.good;
-      agrees = subst (g.I.Interpreter.Agrees c.args.interpreter.now) (sym filled) c.requires.agrees;
-      good = subst g.I.Interpreter.rules.IsGood (sym start) c.requires.good;
-      ready = IsReady-fresh c.args.frames c.args.limit _ _ _ c.in-Ok.ensures filled;
-      limit = ap (λ r. r.limit) c.in-Ok.ensures;
-      read_later = omega arith;
-      write_later = omega arith;
+      fresh = c.in-Ok.ensures ∙ ap fresh (sym limit);
+      limit = omega (arith, limit, c.requires.limit);
+      holds = (subst (g.I.Interpreter.Agrees c.args.interpreter.now) (sym filled) c.requires.agrees, subst g.I.Interpreter.rules.IsGood (sym start) c.requires.good);
+      few = omega (arith, first_koid c.args.frames _ filled);
     }
 
-pub loop-status-preserved : goal.loop-status-preserved
-loop-status-preserved g c = record {
-  served = c.in_default-next.ensures.served c.args.frames c.args.limit _ _ c.loop-status.invariant.served;
-  agrees = c.in_default-next.ensures.agrees;
-  good = c.in_default-next.ensures.good;
-  ready = c.in_default-next.ensures.ready;
-  limit = c.in_default-next.ensures.limit ∙ c.loop-status.invariant.limit;
-  read_later = omega (arith, c.loop-status.invariant.read_later, c.in_default-next.ensures.read_later);
-  write_later = omega (arith, c.loop-status.invariant.write_later, c.in_default-next.ensures.write_later);
-}
-
-pub answer_next-next-requires-clause-agrees : goal.answer_next-next-requires-clause-agrees
-answer_next-next-requires-clause-agrees g c = c.loop-status.invariant.agrees
-
-pub answer_next-next-requires-clause-good : goal.answer_next-next-requires-clause-good
-answer_next-next-requires-clause-good g c = c.loop-status.invariant.good
-
-pub answer_next-next-requires-clause-ready : goal.answer_next-next-requires-clause-ready
-answer_next-next-requires-clause-ready g c = c.loop-status.invariant.ready
-
-pub answer_next-next-requires-clause-limit : goal.answer_next-next-requires-clause-limit
-answer_next-next-requires-clause-limit g c = omega (arith, c.loop-status.invariant.limit, c.requires.limit)
-
-pub returns-in-Some-clause-ends : goal.returns-in-Some-clause-ends
-returns-in-Some-clause-ends g c =
-    c.in-Some.ensures.served c.args.frames c.args.limit _ _ c.loop-status.invariant.served
-
-pub returns-in-Some-clause-read_cause : goal.returns-in-Some-clause-read_cause
-returns-in-Some-clause-read_cause g c = λ e.
-    HasFailed-earlier _ _ _ c.loop-status.invariant.read_later
-    (c.in-Some.ensures.read_cause (ap (λ (s : Status). Some s) e))
-
-pub returns-in-Some-clause-write_cause : goal.returns-in-Some-clause-write_cause
-returns-in-Some-clause-write_cause g c = λ e.
-    HasFailed-earlier _ _ _ c.loop-status.invariant.write_later
-    (c.in-Some.ensures.write_cause (ap (λ (s : Status). Some s) e))
-
-pub returns-in-Some-clause-host_memory : goal.returns-in-Some-clause-host_memory
-returns-in-Some-clause-host_memory g c = λ e.
-    absurd (c.in-Some.ensures.host_memory (ap (λ (s : Status). Some s) e))
-
-pub loop-status-smaller : goal.loop-status-smaller
-loop-status-smaller g c = c.in_default-next.ensures.falls
+pub returns : goal.returns
+returns g c =
+    let rules = g.I.Interpreter.rules in
+    let filled = filled_is c.args.frames _ _ c.in-Ok-fill.ensures.ok c.requires.empty in
+    let start = ap (g.I.Interpreter.state c.args.interpreter.now) filled ∙ c.requires.start in
+    let good = subst rules.IsGood (sym start) c.requires.good in
+    let limit = ap (λ r. r.limit) c.in-Ok.ensures in
+    let read = c.read_lines-read in
+    let holds = g.met.I.Interpreter.holds read.new.machine (g.P.PageStore.content read.new.store) in
+    let status = c.served_as.ensures in
+    record {
+      ends = rw status (serving-ends rules c.args.frames _ _ _ start good holds read.result _ c.args.limit _ _ limit read.ensures.reads);
+      read_cause = λ e. served-fault read.result read.ensures.cause (sym status ∙ e);
+      write_cause = λ e. serving-failed rules read.result _ _ _ _ _ good read.ensures.reads (sym status ∙ e);
+      host_memory = λ e. served-no_memory rules read.result _ _ _ _ _ read.ensures.reads (sym status ∙ e);
+    }
