@@ -36,6 +36,14 @@ module _ {R : Type 0} (f : Functions R) where
         hidden = λ e. subst (IsLike f (child_under p (Some had))) child (like-alike p (hidden e));
       }
 
+  -- the same of the child that is handed back, where the row that stood there is called another way too
+  pub rooted-placed :
+      {change : Change} {had row : R} {u : SearchTree R} {p : ℕ} {c : Child R}
+      → row ≡ had → c.link ≡ p → Some c ≡ child_of f u → root_after change (Some p) ≡ Some p → (change ≡ Hidden → AreAlike f had c.row)
+      → IsRooted f (child_under p (Some row)) u change
+  rooted-placed {change} {u = u} {p} {c} is is_p child root hidden =
+      subst (λ z. IsRooted f (child_under p (Some z)) u change) (sym is) (rooted-put {now = c.row} (ap (λ q. Some (record { link = q; row = c.row })) (sym is_p) ∙ child) root hidden)
+
   -- the link to the root after the change
   pub rooted-link : (t : SearchTree R) {u : SearchTree R} {c : Change} {at : Option ℕ} → IsRooted f (child_of f t) u c → place_of t ≡ at → place_of u ≡ root_after c at
   rooted-link t {c = c} h e = h.root ∙ ap (root_after c) (link_of-child_of f t ∙ e)

@@ -44,14 +44,14 @@ module _ {R : Type 0} (f : Functions R) where
   Becomes-right n one two = record { spelled = two.spelled; ordered = two.ordered; kept = Keeps-trans f (kept_wider_right f n one.kept) two.kept }
 
   pub insert-left :
-      {s s1 s2 : Slab R} {p : ℕ} {here again w : R} {t : SearchTree R} {low high before b1 b2 b3 after : ℕ} {left right : Option ℕ} {part change : Change}
+      {s s1 s2 : Slab R} {p : ℕ} {here again w : R} {t : SearchTree R} {low high before b1 b2 after : ℕ} {left right : Option ℕ} {part change : Change}
       → AreLawful f → (n : IsNode f s p here t low high) → f.rank w < f.rank here
       → HasInserted f s s1 w n.left low (f.rank n.row) part b1 b2 → left ≡ root_after part (f.left here)
       → get s1 p ≡ Some again → right ≡ f.right again
       → Rebalances s1 s2 p again left right change
-      → slab_len s2 ≡ slab_len s1 → b1 ≤ before + 1 → b3 ≤ b2 + 1 → after ≤ b3 + 11
+      → slab_len s2 ≡ slab_len s1 → b1 ≤ before + 1 → after ≤ b2 + 12
       → HasInserted f s s2 w t low high change before after
-  insert-left {s} {s1} {s2} {p} {here} {w = w} {low = low} {high} laws n less sub link_is e on_right balance len g1 g2 g3 =
+  insert-left {s} {s1} {s2} {p} {here} {w = w} {low = low} {high} laws n less sub link_is e on_right balance len g1 g2 =
       let q = s.vacant_key in
       let again_is = again_left f n sub.becomes.kept e in
       let made = balance _ n.row n.right low high (split_left f n laws sub.becomes) (same_again f n again_is) (rooted-link f n.left sub.rooted n.left_standing.is_at ∙ sym link_is) (right_again f n again_is on_right) in
@@ -64,14 +64,14 @@ module _ {R : Type 0} (f : Functions R) where
       }
 
   pub insert-right :
-      {s s1 s2 : Slab R} {p : ℕ} {here again w : R} {t : SearchTree R} {low high before b1 b2 b3 after : ℕ} {left right : Option ℕ} {part change : Change}
+      {s s1 s2 : Slab R} {p : ℕ} {here again w : R} {t : SearchTree R} {low high before b1 b2 after : ℕ} {left right : Option ℕ} {part change : Change}
       → AreLawful f → (n : IsNode f s p here t low high) → f.rank here < f.rank w
       → HasInserted f s s1 w n.right (f.rank n.row + 1) high part b1 b2 → right ≡ root_after part (f.right here)
       → get s1 p ≡ Some again → left ≡ f.left again
       → Rebalances s1 s2 p again left right change
-      → slab_len s2 ≡ slab_len s1 → b1 ≤ before + 1 → b3 ≤ b2 + 1 → after ≤ b3 + 11
+      → slab_len s2 ≡ slab_len s1 → b1 ≤ before + 1 → after ≤ b2 + 12
       → HasInserted f s s2 w t low high change before after
-  insert-right {s} {s1} {s2} {p} {here} {w = w} {low = low} {high} laws n more sub link_is e on_left balance len g1 g2 g3 =
+  insert-right {s} {s1} {s2} {p} {here} {w = w} {low = low} {high} laws n more sub link_is e on_left balance len g1 g2 =
       let q = s.vacant_key in
       let again_is = again_right f n sub.becomes.kept e in
       let made = balance n.left n.row _ low high (split_right f n laws sub.becomes) (same_again f n again_is) (left_again f n again_is on_left) (rooted-link f n.right sub.rooted n.right_standing.is_at ∙ sym link_is) in

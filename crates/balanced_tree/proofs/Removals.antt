@@ -103,13 +103,13 @@ module _ {R : Type 0} (f : Functions R) where
       }
 
   pub take-later :
-      {s s1 s2 : Slab R} {p q : ℕ} {here again y : R} {t : SearchTree R} {low high before b1 b2 b3 after : ℕ} {rest right : Option ℕ} {part change : Change}
+      {s s1 s2 : Slab R} {p q : ℕ} {here again y : R} {t : SearchTree R} {low high before b1 b2 after : ℕ} {rest right : Option ℕ} {part change : Change}
       → AreLawful f → (n : IsNode f s p here t low high) → f.left here ≡ Some q
       → HasTakenLeast f s s1 n.left low (f.rank n.row) y part b1 b2 → rest ≡ root_after part (f.left here)
       → get s1 p ≡ Some again → right ≡ f.right again → Rebalances f s1 s2 p again rest right change
-      → slab_len s2 ≡ slab_len s1 → b1 ≤ before + 1 → b3 ≤ b2 + 1 → after ≤ b3 + 11
+      → slab_len s2 ≡ slab_len s1 → b1 ≤ before + 1 → after ≤ b2 + 12
       → HasTakenLeast f s s2 t low high y change before after
-  take-later {s} {s1} {s2} {p} {q} {here} {y = y} {t} {low} {high} laws n some sub link_is e on_right balance len g1 g2 g3 =
+  take-later {s} {s1} {s2} {p} {q} {here} {y = y} {t} {low} {high} laws n some sub link_is e on_right balance len g1 g2 =
       let node = is_leaf-some n.left q (n.left_standing.is_at ∙ some) in
       let is : without_least f t ≡ balanced f (without_least f n.left) p n.row n.right = ap (without_least f) n.is ∙ without_least-later n.left p n.row n.right node in
       let first : least f t y ≡ least f n.left y = ap (λ u. least f u y) n.is ∙ least-any n.left n.row y node in
@@ -245,13 +245,13 @@ module _ {R : Type 0} (f : Functions R) where
   removed-leaf m = refl
 
   pub remove-left :
-      {s s1 s2 : Slab R} {p m : ℕ} {here again : R} {t : SearchTree R} {low high before b1 b2 b3 after : ℕ} {y : Option R} {left right : Option ℕ} {part change : Change}
+      {s s1 s2 : Slab R} {p m : ℕ} {here again : R} {t : SearchTree R} {low high before b1 b2 after : ℕ} {y : Option R} {left right : Option ℕ} {part change : Change}
       → AreLawful f → (n : IsNode f s p here t low high) → m < f.rank here
       → HasRemoved f s s1 m n.left low (f.rank n.row) y part b1 b2 → left ≡ root_after part (f.left here)
       → get s1 p ≡ Some again → right ≡ f.right again → Rebalances f s1 s2 p again left right change
-      → slab_len s2 ≡ slab_len s1 → b1 ≤ before + 1 → b3 ≤ b2 + 1 → after ≤ b3 + 11
+      → slab_len s2 ≡ slab_len s1 → b1 ≤ before + 1 → after ≤ b2 + 12
       → HasRemoved f s s2 m t low high y change before after
-  remove-left {s1 = s1} {s2} {p} {m} {low = low} {high} laws n less sub link_is e on_right balance len g1 g2 g3 =
+  remove-left {s1 = s1} {s2} {p} {m} {low = low} {high} laws n less sub link_is e on_right balance len g1 g2 =
       let again_is = again_left f n sub.becomes.kept e in
       let made = balance _ n.row n.right low high (split_left f n laws sub.becomes) (same_again f n again_is) (rooted-link f n.left sub.rooted n.left_standing.is_at ∙ sym link_is) (right_again f n again_is on_right) in
       let is = ap (removed f m) n.is ∙ removed-left m n.left p n.row n.right (omega (arith, rank_here f n)) in
@@ -264,13 +264,13 @@ module _ {R : Type 0} (f : Functions R) where
       }
 
   pub remove-right :
-      {s s1 s2 : Slab R} {p m : ℕ} {here again : R} {t : SearchTree R} {low high before b1 b2 b3 after : ℕ} {y : Option R} {left right : Option ℕ} {part change : Change}
+      {s s1 s2 : Slab R} {p m : ℕ} {here again : R} {t : SearchTree R} {low high before b1 b2 after : ℕ} {y : Option R} {left right : Option ℕ} {part change : Change}
       → AreLawful f → (n : IsNode f s p here t low high) → f.rank here < m
       → HasRemoved f s s1 m n.right (f.rank n.row + 1) high y part b1 b2 → right ≡ root_after part (f.right here)
       → get s1 p ≡ Some again → left ≡ f.left again → Rebalances f s1 s2 p again left right change
-      → slab_len s2 ≡ slab_len s1 → b1 ≤ before + 1 → b3 ≤ b2 + 1 → after ≤ b3 + 11
+      → slab_len s2 ≡ slab_len s1 → b1 ≤ before + 1 → after ≤ b2 + 12
       → HasRemoved f s s2 m t low high y change before after
-  remove-right {s1 = s1} {s2} {p} {m} {low = low} {high} laws n more sub link_is e on_left balance len g1 g2 g3 =
+  remove-right {s1 = s1} {s2} {p} {m} {low = low} {high} laws n more sub link_is e on_left balance len g1 g2 =
       let again_is = again_right f n sub.becomes.kept e in
       let made = balance n.left n.row _ low high (split_right f n laws sub.becomes) (same_again f n again_is) (left_again f n again_is on_left) (rooted-link f n.right sub.rooted n.right_standing.is_at ∙ sym link_is) in
       let is = ap (removed f m) n.is ∙ removed-right m n.left p n.row n.right (omega (arith, rank_here f n)) in

@@ -33,24 +33,24 @@ pub fn insert_below<R: TreeRow, L: Ledger>(
     let there = here.rank();
     if rank < there {
         let below = here.left();
+        let other = here.right();
         let change = insert_below(rows, below, row, steps);
         match change {
             Change::Hidden => Change::Hidden,
             _ => {
                 let left = root_after(change, below);
-                let here = rows.row(place, steps);
-                rebalance(rows, place, here, left, here.right(), steps)
+                rebalance(rows, place, left, other, steps)
             }
         }
     } else if there < rank {
         let below = here.right();
+        let other = here.left();
         let change = insert_below(rows, below, row, steps);
         match change {
             Change::Hidden => Change::Hidden,
             _ => {
                 let right = root_after(change, below);
-                let here = rows.row(place, steps);
-                rebalance(rows, place, here, here.left(), right, steps)
+                rebalance(rows, place, other, right, steps)
             }
         }
     } else {

@@ -38,6 +38,7 @@ fn take_least<R: TreeRow, L: Ledger>(
             rest: change_to(rest),
         };
     };
+    let other = here.right();
     let least = take_least(rows, next, steps);
     let row = least.row;
     match least.rest {
@@ -47,8 +48,7 @@ fn take_least<R: TreeRow, L: Ledger>(
         },
         _ => {
             let left = root_after(least.rest, Some(next));
-            let here = rows.row(place, steps);
-            let rest = rebalance(rows, place, here, left, here.right(), steps);
+            let rest = rebalance(rows, place, left, other, steps);
             Least { row, rest }
         }
     }
@@ -99,24 +99,24 @@ pub fn remove_below<R: TreeRow, L: Ledger>(
     let there = here.rank();
     if rank < there {
         let below = here.left();
+        let other = here.right();
         let change = remove_below(rows, below, rank, taken, steps);
         match change {
             Change::Hidden => Change::Hidden,
             _ => {
                 let left = root_after(change, below);
-                let here = rows.row(place, steps);
-                rebalance(rows, place, here, left, here.right(), steps)
+                rebalance(rows, place, left, other, steps)
             }
         }
     } else if there < rank {
         let below = here.right();
+        let other = here.left();
         let change = remove_below(rows, below, rank, taken, steps);
         match change {
             Change::Hidden => Change::Hidden,
             _ => {
                 let right = root_after(change, below);
-                let here = rows.row(place, steps);
-                rebalance(rows, place, here, here.left(), right, steps)
+                rebalance(rows, place, other, right, steps)
             }
         }
     } else {

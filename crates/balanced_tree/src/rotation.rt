@@ -3,7 +3,7 @@
 ghost use Rattle.std.specs.Prelude.{◌≡◌, ℕ, ◌+◌, ◌^◌, ◌<◌, ◌≤◌, nat_lt, if◌then◌else◌, Option, Some, None};
 ghost use Rattle.balanced_tree.specs.declared.changes.Change.TheVariants.{Hidden};
 ghost use Rattle.std.specs.Option.{ForSome};
-ghost use Rattle.slab.specs.Slab.{slab_len, ContainsKey, Updates};
+ghost use Rattle.slab.specs.Slab.{get, slab_len, ContainsKey, Updates};
 ghost use Rattle.balanced_tree.specs.Row.{height_in, AreAlike};
 ghost use Rattle.balanced_tree.specs.inside.Tree.{SearchTree, place_of, leaned_right, leaned_left, balanced};
 ghost use Rattle.balanced_tree.specs.inside.Placing.{PlacesThree};
@@ -315,32 +315,39 @@ pub fn balance<R: TreeRow, L: Ledger>(
     put_over(rows, place, row, left, right, steps)
 }
 
-/// Balances the row of a place over two children, and returns what the row above it has to store anew.
+/// Balances the row that stands at a place over two children, and returns what the row above it has to store anew. The row
+/// is copied only if it moves: otherwise its links and its height change where it stands.
 #[inline(always)]
 pub fn rebalance<R: TreeRow, L: Ledger>(
     rows: &mut RowSlab<R>,
     place: usize,
-    row: R,
     left: Option<usize>,
     right: Option<usize>,
     steps: &mut Steps<L>,
 ) -> Change
-    requires { Splits R.functions rows.old left place row right }
-    ensures tree { (l : SearchTree R) (x : R) (r : SearchTree R) (low high : ℕ) → IsSplit R.functions rows.old l place x r low high
+    requires { (row : R) × (get rows.old place ≡ Some row) × Splits R.functions rows.old left place row right }
+    ensures tree { (row : R) → get rows.old place ≡ Some row
+        → (l : SearchTree R) (x : R) (r : SearchTree R) (low high : ℕ) → IsSplit R.functions rows.old l place x r low high
         → Same R.functions x row → place_of l ≡ left → place_of r ≡ right
         → Becomes R.functions rows.old rows.new (balanced R.functions l place x r) low high
         × IsRooted R.functions (Some (record { link = place; row = row })) (balanced R.functions l place x r) result }
     ensures len { slab_len rows.new ≡ slab_len rows.old }
     ensures capacity { rows.new.capacity ≡ rows.old.capacity }
-    ensures steps { steps.new ≤ steps.old + 11 }
+    ensures steps { steps.new ≤ steps.old + 12 }
 {
-    let left_height = height_under(rows, left, steps);
-    let right_height = height_under(rows, right, steps);
+    let left_child = child_under(rows, left, steps);
+    let right_child = child_under(rows, right, steps);
+    let left_height = height_of(left_child);
+    let right_height = height_of(right_child);
     if right_height + 1 < left_height {
-        return Change::Root(lean_right(rows, place, row, left, right, steps));
+        let high = rows.row(place, steps);
+        return Change::Root(lean_right(rows, place, high, left, right, steps));
     }
     if left_height + 1 < right_height {
-        return Change::Root(lean_left(rows, place, row, left, right, steps));
+        let low = rows.row(place, steps);
+        return Change::Root(lean_left(rows, place, low, left, right, steps));
     }
-    put_again(rows, place, row, left, right, steps)
+    let had = rows.row(place, steps);
+    let child = place_over(rows, place, had, left_child, right_child, steps);
+    change_from(place, had, child.row)
 }

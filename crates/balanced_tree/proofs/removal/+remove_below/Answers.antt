@@ -1,4 +1,4 @@
-use Rattle.std.proofs.Common.{◌+◌, Some, is_some, refl, sym, ap, ◌∙◌, arith}
+use Rattle.std.proofs.Common.{◌+◌, Some, refl, sym, ap, ◌∙◌, arith}
 use Rattle.balanced_tree.specs.inside.Standing.{root_after}
 use Rattle.balanced_tree.proofs.PlainLaws.{less_of, most_of, to_next}
 use Rattle.balanced_tree.proofs.Nodes.{node_of, standing-at, lower-left, lower-right, stays_left, stays_right, Stands-left, Stands-right, Splits-left, Splits-right}
@@ -26,29 +26,14 @@ remove_below-change-requires-then-there-rank g t c κs within =
     let less = lower-right f law c.requires.standing c.in-Some.is c.look-here.ensures.row c.right-below.ensures in
     (omega (arith, less), (within.0, (within.1, Stands-right f law c.requires c.in-Some.is c.look-here.ensures.row c.right-below.ensures)))
 
-pub row-here-requires : goal.row-here-requires
-row-here-requires g t c =
-    let f = g.R.TreeRow.functions in
-    let law = g.met.R.TreeRow.lawful in
-    let n = node_of f law c.requires.standing c.in-Some.is c.look-here.ensures.row in
-    let sub = c.remove_below-change.ensures.removed n.left c.requires.low (f.rank n.row) (standing-at f (sym c.left-below.ensures) n.left_standing) in
-    ap is_some (stays_left f n sub.becomes.kept)
-
 pub rebalance-requires : goal.rebalance-requires
 rebalance-requires g t c =
     let f = g.R.TreeRow.functions in
     let law = g.met.R.TreeRow.lawful in
     let n = node_of f law c.requires.standing c.in-Some.is c.look-here.ensures.row in
     let sub = c.remove_below-change.ensures.removed n.left c.requires.low (f.rank n.row) (standing-at f (sym c.left-below.ensures) n.left_standing) in
-    Splits-left f law n sub.becomes c.row-here.ensures.row (rooted-link f n.left sub.rooted n.left_standing.is_at ∙ sym (c.root_after-left.ensures ∙ ap (root_after c.remove_below-change.result) c.left-below.ensures)) c.right.ensures
-
-pub row-here-requires-in_default-change-2 : goal.row-here-requires-in_default-change-2
-row-here-requires-in_default-change-2 g t c =
-    let f = g.R.TreeRow.functions in
-    let law = g.met.R.TreeRow.lawful in
-    let n = node_of f law c.requires.standing c.in-Some.is c.look-here.ensures.row in
-    let sub = c.remove_below-change-then-there-rank.ensures.removed n.right (f.rank n.row + 1) c.requires.high (standing-at f (sym c.right-below.ensures) n.right_standing) in
-    ap is_some (stays_right f n sub.becomes.kept)
+    let at = stays_left f n sub.becomes.kept in
+    (_, at, Splits-left f law n sub.becomes at (rooted-link f n.left sub.rooted n.left_standing.is_at ∙ sym (c.root_after-left.ensures ∙ ap (root_after c.remove_below-change.result) c.left-below.ensures)) c.right-other.ensures)
 
 pub rebalance-requires-in_default-change-2 : goal.rebalance-requires-in_default-change-2
 rebalance-requires-in_default-change-2 g t c =
@@ -56,7 +41,8 @@ rebalance-requires-in_default-change-2 g t c =
     let law = g.met.R.TreeRow.lawful in
     let n = node_of f law c.requires.standing c.in-Some.is c.look-here.ensures.row in
     let sub = c.remove_below-change-then-there-rank.ensures.removed n.right (f.rank n.row + 1) c.requires.high (standing-at f (sym c.right-below.ensures) n.right_standing) in
-    Splits-right f law n sub.becomes c.row-here-in_default-change-2.ensures.row c.left.ensures (rooted-link f n.right sub.rooted n.right_standing.is_at ∙ sym (c.root_after-right.ensures ∙ ap (root_after c.remove_below-change-then-there-rank.result) c.right-below.ensures))
+    let at = stays_right f n sub.becomes.kept in
+    (_, at, Splits-right f law n sub.becomes at c.left-other.ensures (rooted-link f n.right sub.rooted n.right_standing.is_at ∙ sym (c.root_after-right.ensures ∙ ap (root_after c.remove_below-change-then-there-rank.result) c.right-below.ensures)))
 
 pub returns-in_default-change-clause-removed : goal.returns-in_default-change-clause-removed
 returns-in_default-change-clause-removed g t c =
@@ -65,8 +51,9 @@ returns-in_default-change-clause-removed g t c =
     λ tree low high h.
     let n = node_of f law h c.in-Some.is c.look-here.ensures.row in
     let sub = c.remove_below-change.ensures.removed n.left low (f.rank n.row) (standing-at f (sym c.left-below.ensures) n.left_standing) in
-    remove-left f law n (less_of refl c.rank-there.ensures c.if-rank-there.true) sub (c.root_after-left.ensures ∙ ap (root_after c.remove_below-change.result) c.left-below.ensures) c.row-here.ensures.row c.right.ensures c.rebalance.ensures.tree c.rebalance.ensures.len
-    (to_next c.args.steps.now c.look-here.ensures.step) (to_next c.remove_below-change.new.steps c.row-here.ensures.step) c.rebalance.ensures.steps
+    let at = stays_left f n sub.becomes.kept in
+    remove-left f law n (less_of refl c.rank-there.ensures c.if-rank-there.true) sub (c.root_after-left.ensures ∙ ap (root_after c.remove_below-change.result) c.left-below.ensures) at c.right-other.ensures (c.rebalance.ensures.tree _ at) c.rebalance.ensures.len
+    (to_next c.args.steps.now c.look-here.ensures.step) c.rebalance.ensures.steps
 
 pub returns-in_default-change-2-clause-removed : goal.returns-in_default-change-2-clause-removed
 returns-in_default-change-2-clause-removed g t c =
@@ -75,8 +62,9 @@ returns-in_default-change-2-clause-removed g t c =
     λ tree low high h.
     let n = node_of f law h c.in-Some.is c.look-here.ensures.row in
     let sub = c.remove_below-change-then-there-rank.ensures.removed n.right (f.rank n.row + 1) high (standing-at f (sym c.right-below.ensures) n.right_standing) in
-    remove-right f law n (less_of c.rank-there.ensures refl c.if-there-rank.true) sub (c.root_after-right.ensures ∙ ap (root_after c.remove_below-change-then-there-rank.result) c.right-below.ensures) c.row-here-in_default-change-2.ensures.row c.left.ensures c.rebalance-in_default-change-2.ensures.tree c.rebalance-in_default-change-2.ensures.len
-    (to_next c.args.steps.now c.look-here.ensures.step) (to_next c.remove_below-change-then-there-rank.new.steps c.row-here-in_default-change-2.ensures.step) c.rebalance-in_default-change-2.ensures.steps
+    let at = stays_right f n sub.becomes.kept in
+    remove-right f law n (less_of c.rank-there.ensures refl c.if-there-rank.true) sub (c.root_after-right.ensures ∙ ap (root_after c.remove_below-change-then-there-rank.result) c.right-below.ensures) at c.left-other.ensures (c.rebalance-in_default-change-2.ensures.tree _ at) c.rebalance-in_default-change-2.ensures.len
+    (to_next c.args.steps.now c.look-here.ensures.step) c.rebalance-in_default-change-2.ensures.steps
 
 pub returns-in-Hidden-clause-removed : goal.returns-in-Hidden-clause-removed
 returns-in-Hidden-clause-removed g t c =

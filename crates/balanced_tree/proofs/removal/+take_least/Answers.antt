@@ -1,4 +1,4 @@
-use Rattle.std.proofs.Common.{is_some, refl, sym, ap, ◌∙◌, arith}
+use Rattle.std.proofs.Common.{refl, sym, ap, ◌∙◌, arith}
 use Rattle.balanced_tree.specs.inside.Standing.{root_after}
 use Rattle.balanced_tree.proofs.PlainLaws.{to_next, to_second}
 use Rattle.balanced_tree.proofs.Nodes.{node_of, standing-at, lower-left, stays_left, Stands-left}
@@ -21,21 +21,14 @@ take_least-least-requires g t c κs within =
     let less = lower-left f law c.requires.standing refl c.look-here.ensures.row is in
     (omega (arith, less), (within.0, (within.1, Stands-left f law c.requires refl c.look-here.ensures.row is)))
 
-pub row-here-requires : goal.row-here-requires
-row-here-requires g t c =
-    let f = g.R.TreeRow.functions in
-    let law = g.met.R.TreeRow.lawful in
-    let n = node_of f law c.requires.standing refl c.look-here.ensures.row in
-    let sub = c.take_least-least.ensures.taken n.left c.requires.low (f.rank n.row) (standing-at f (sym c.left.ensures ∙ c.in-Some.is) n.left_standing) in
-    ap is_some (stays_left f n sub.kept)
-
 pub rebalance-rest-requires : goal.rebalance-rest-requires
 rebalance-rest-requires g t c =
     let f = g.R.TreeRow.functions in
     let law = g.met.R.TreeRow.lawful in
     let n = node_of f law c.requires.standing refl c.look-here.ensures.row in
     let sub = c.take_least-least.ensures.taken n.left c.requires.low (f.rank n.row) (standing-at f (sym c.left.ensures ∙ c.in-Some.is) n.left_standing) in
-    Splits-least f law n sub (c.root_after-left.ensures ∙ ap (root_after c.take_least-least.result.rest) (sym c.in-Some.is ∙ c.left.ensures)) c.row-here.ensures.row c.right.ensures
+    let at = stays_left f n sub.kept in
+    (_, at, Splits-least f law n sub (c.root_after-left.ensures ∙ ap (root_after c.take_least-least.result.rest) (sym c.in-Some.is ∙ c.left.ensures)) at c.right-other.ensures)
 
 pub returns-in_default-rest-clause-taken : goal.returns-in_default-rest-clause-taken
 returns-in_default-rest-clause-taken g t c =
@@ -44,8 +37,9 @@ returns-in_default-rest-clause-taken g t c =
     λ tree low high h.
     let n = node_of f law h refl c.look-here.ensures.row in
     let sub = c.take_least-least.ensures.taken n.left low (f.rank n.row) (standing-at f (sym c.left.ensures ∙ c.in-Some.is) n.left_standing) in
-    take-later f law n (sym c.left.ensures ∙ c.in-Some.is) sub (c.root_after-left.ensures ∙ ap (root_after c.take_least-least.result.rest) (sym c.in-Some.is ∙ c.left.ensures)) c.row-here.ensures.row c.right.ensures c.rebalance-rest.ensures.tree c.rebalance-rest.ensures.len
-    (to_next c.args.steps.now c.look-here.ensures.step) (to_next c.take_least-least.new.steps c.row-here.ensures.step) c.rebalance-rest.ensures.steps
+    let at = stays_left f n sub.kept in
+    take-later f law n (sym c.left.ensures ∙ c.in-Some.is) sub (c.root_after-left.ensures ∙ ap (root_after c.take_least-least.result.rest) (sym c.in-Some.is ∙ c.left.ensures)) at c.right-other.ensures (c.rebalance-rest.ensures.tree _ at) c.rebalance-rest.ensures.len
+    (to_next c.args.steps.now c.look-here.ensures.step) c.rebalance-rest.ensures.steps
 
 pub returns-in-Hidden-clause-taken : goal.returns-in-Hidden-clause-taken
 returns-in-Hidden-clause-taken g t c =
