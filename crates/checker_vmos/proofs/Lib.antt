@@ -1,4 +1,3 @@
 pub mod FoundLaws
 pub mod DoingLaws
-pub mod RowLaws
 pub mod TellLaws

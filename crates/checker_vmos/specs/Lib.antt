@@ -1,2 +1,1 @@
 pub mod Vmos
-pub mod inside

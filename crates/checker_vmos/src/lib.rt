@@ -14,7 +14,6 @@ mod asking;
 mod asking_names;
 mod changing;
 mod checker_vmos;
-mod finding;
 mod naming;
 mod telling;
 

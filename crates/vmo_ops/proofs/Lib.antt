@@ -4,6 +4,7 @@ pub mod NameLaws
 pub mod PinnedLaws
 pub mod CreateLaws
 pub mod CopyRows
+pub mod AskLaws
 pub mod ReadLaws
 pub mod CountLaws
 pub mod NeedLaws

@@ -1,55 +1,42 @@
 -- A pin as a step of the machine.
-use Rattle.std.proofs.Common.{◌≡◌, ℕ, ◌+◌, ◌*◌, ◌<◌, ◌==◌, cond, ◌^◌, List, Option, None, Some, arith, rules, inl, inr}
+use Rattle.std.proofs.Common.{◌≡◌, ℕ, ◌+◌, ◌%◌, ◌*◌, ◌<◌, ◌==◌, ◌&&◌, ◌||◌, not, false, cond, ◌^◌, List, Option, None, Some, arith, rules}
 use Rattle.vm_base.specs.Entries.{with_key}
-use Rattle.vm_base.specs.declared.limits.TheConstants.{NAMES, PAGE}
+use Rattle.vm_base.specs.declared.limits.TheConstants.{NAMES, PAGE, PIN_PAGES}
 use Rattle.vm_base.specs.declared.names.PinName.{PinName}
 use Rattle.vm_base.specs.declared.names.VmoName.{VmoName}
-use Rattle.vm_base.specs.declared.refusal.Refusal.{Refusal}
-use Rattle.vm_base.specs.declared.refusal.Refusal.TheVariants.{InvalidArgs, OutOfRange}
 use Rattle.vm_model.specs.declared.command.Command.TheVariants.{VmoPin}
 use Rattle.vm_model.specs.declared.names.Target.{Target}
-use Rattle.vm_model.specs.declared.reply.Reply.TheVariants.{Pins, Refused}
+use Rattle.vm_model.specs.declared.reply.Reply.TheVariants.{Pins}
 use Rattle.vm_model.specs.Contents.Content.{Content}
 use Rattle.vm_model.specs.Contents.Owning.{OwnsAll}
 use Rattle.vm_model.specs.Contents.Writing.{touched}
-use Rattle.vm_model.specs.Machine.State.{State, name_pages, target_of}
+use Rattle.vm_model.specs.Machine.State.{State, target_of}
 use Rattle.vm_model.specs.Machine.Step.{Step, frames_of}
 use Rattle.vm_model.specs.Naming.Pins.{Pin}
 use Rattle.vm_model.proofs.PinLaws.{pin_count_le}
 use Rattle.vm_model.proofs.SpaceLaws.{mapped_count_le}
 use Rattle.vmo_table.specs.Table.{Vmos, keepers_of, CountsKeepers}
-use Rattle.vmo_ops.specs.inside.Pinning.{pin_in, IsPinnable, IsPinRange, IsUnpinnable, LacksMemory}
+use Rattle.vmo_ops.specs.inside.Pinning.{pin_in, IsPinnable, IsPinRange}
 use Rattle.vmo_ops.specs.Targets.{IsPlaced}
 use Rattle.vmo_ops.proofs.KeeperLaws.{pin_count-with_key}
+use Rattle.vmo_ops.proofs.AskLaws.{whole_parts}
+use Rattle.std.specs.Prelude.{nat_lt}
+use Rattle.std.proofs.lemmas.Bool.{or_parts, not-false, eqb-false, ltb-false}
 
 module _ (s : State) (pin : PinName) (name : VmoName) (offset len : ℕ) (target : Target) (named : s.names name.0 ≡ Some target) (free : s.pins pin.0 ≡ None) where
-  refused_range : (IsPinRange offset len → ⊥) → Step s (VmoPin pin name offset len) (Refused InvalidArgs) s
-  unfolding target_of
-  refused_range other = search rules
-
-  refused_end : IsPinRange offset len → name_pages s.content target * PAGE < offset + len → Step s (VmoPin pin name offset len) (Refused OutOfRange) s
-  unfolding target_of
-  refused_end range past = search rules
-
-  refused_memory : (refusal : Refusal) (at : ℕ) → IsPinRange offset len → IsPlaced s.content target offset len at → LacksMemory s.content target at len refusal
-      → Step s (VmoPin pin name offset len) (Refused refusal) s
-  unfolding target_of
-  refused_memory refusal at range placed lacks = search rules
-
-  pub unpinnable_step : (refusal : Refusal) → IsUnpinnable s.content target offset len refusal → Step s (VmoPin pin name offset len) (Refused refusal) s
-  unpinnable_step refusal is = elim is [
-    | inl other ↦ rw other.0 (refused_range other.1)
-    | inr range ↦ elim range.1 [
-      | inl past ↦ rw past.0 (refused_end range.0 past.1)
-      | inr lacks ↦ refused_memory refusal lacks.0 range.0 lacks.1 lacks.2
-    ]
-  ]
-
   pub pinned_step : (at spare : ℕ) (d : Content) (numbers : List ℕ) → IsPinnable s.content target offset len at spare
       → OwnsAll s.content target.koid.0 (touched at len) d → numbers ≡ frames_of d (pin_in target.koid.0 at len)
       → Step s (VmoPin pin name offset len) (Pins numbers) (record s { content = d; pins = with_key s.pins pin.0 (pin_in target.koid.0 at len) })
   unfolding target_of
   pinned_step at spare d numbers can owns are = search rules
+
+-- a range that a pin takes
+pub pin_range : (offset len : ℕ) → (not (offset % PAGE == 0 && len % PAGE == 0) || (len == 0 || nat_lt (PIN_PAGES * PAGE) len)) ≡ false → IsPinRange offset len
+pin_range offset len e =
+    let outer = or_parts (not (offset % PAGE == 0 && len % PAGE == 0)) _ e in
+    let whole = whole_parts offset len (not-false _ outer.0) in
+    let count = or_parts (len == 0) (nat_lt (PIN_PAGES * PAGE) len) outer.1 in
+    (whole.0, whole.1, omega (arith, eqb-false len 0 count.0), ltb-false (PIN_PAGES * PAGE) len count.1)
 
 -- one pin more, and one keeper of its VMO
 pub pinned_counts : (s : State) (old new : Vmos) (pins : ℕ → Option Pin) (n : ℕ) (pin : Pin) → n < NAMES → pins n ≡ None

@@ -1,12 +1,11 @@
 -- What a change to a range of pages takes.
-use Rattle.std.specs.Prelude.{◌≡◌, ℕ, ◌+◌, ◌<◌, ◌≤◌, ◌⊎◌, Bool, true, not, List, length}
+use Rattle.std.specs.Prelude.{◌≡◌, ℕ, ◌+◌, ◌<◌, ◌≤◌, ◌⊎◌, true, not, List, length}
 use Rattle.std.specs.List.{filter, list_any}
 use Rattle.vm_base.specs.declared.refusal.Refusal.{Refusal}
 use Rattle.vm_base.specs.declared.refusal.Refusal.TheVariants.{NoMemory, HostMemory}
 use Rattle.vm_model.specs.Contents.Content.{Content, is_held, sole, used}
 use Rattle.vm_model.specs.Contents.Owning.{need}
 use Rattle.vm_model.specs.Contents.Writing.{touched}
-use Rattle.vm_model.specs.Contents.Zeroing.{owned_by_zero}
 
 -- how many of the pages that a range touches are held
 abbrev pub held_touched : Content → ℕ → ℕ → ℕ → ℕ
@@ -24,11 +23,3 @@ LacksRoom c v ps refusal =
     ((refusal ≡ NoMemory) × (c.frames < used c + need c v ps))
     ⊎ ((refusal ≡ HostMemory) × (used c + need c v ps ≤ c.frames)
     × (list_any (λ p. not (sole c v p)) ps ≡ true))
-
--- Zeroing a range of v is refused. There are too few free frames for the pages that it owns, or there are enough and
--- the host has too little memory. Memory is wanted only if a page that the range touches is held.
-abbrev pub LacksRoomToZero : Content → ℕ → (ℕ → Bool) → ℕ → ℕ → Refusal → Type 0
-LacksRoomToZero c v pinned offset len refusal =
-    ((refusal ≡ NoMemory) × (c.frames < used c + need c v (owned_by_zero c v pinned offset len)))
-    ⊎ ((refusal ≡ HostMemory) × (used c + need c v (owned_by_zero c v pinned offset len) ≤ c.frames)
-    × (list_any (is_held c v) (touched offset len) ≡ true))

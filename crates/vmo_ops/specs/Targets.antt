@@ -13,6 +13,7 @@ use Rattle.vm_model.specs.Contents.Content.{Content, pages_of}
 use Rattle.vm_model.specs.declared.names.Target.{Target}
 use Rattle.vm_model.specs.Naming.Pins.{Pin}
 use Rattle.vm_model.specs.Machine.State.{State, name_pages, IsGoodState}
+use Rattle.vm_model.specs.Machine.Refusals.{refusals, first_of}
 use Rattle.vm_model.specs.Machine.Step.{Step}
 use Rattle.vmo_table.specs.Table.{Vmos, with_vmos}
 use Rattle.pin_table.specs.Table.{Pins, pins_of}
@@ -28,6 +29,27 @@ abbrev pub IsBarred : Content → Target → ℕ → ℕ → Refusal → Type 0
 IsBarred c target offset len refusal =
     ((refusal ≡ AccessDenied) × (target.may_write ≡ false))
     ⊎ ((refusal ≡ OutOfRange) × (target.may_write ≡ true) × (name_pages c target * PAGE < offset + len))
+
+-- the state s, but with this content
+abbrev pub with_content : Content → State → State
+with_content c s = record s { content = c }
+
+-- the same with these pins
+abbrev pub with_pins : Content → (ℕ → Option Pin) → State → State
+with_pins c pins s = record s { content = c; pins = pins }
+
+-- The answer is what refuses the command, given by a name that stands for the target, in each state that has these parts,
+-- whatever else it has.
+abbrev pub IsRefusalIn : (State → State) → Target → (VmoName → Command) → Option Refusal → Type 0
+IsRefusalIn parts target command answer =
+    (s : State) (name : VmoName) → (parts s).names name.0 ≡ Some target
+    → answer ≡ first_of (refusals (parts s) (command name))
+
+-- The same of a command that makes a child of what the target stands for, under a name that is not open.
+abbrev pub IsRefusalOfChild : (State → State) → Target → (VmoName → VmoName → Command) → Option Refusal → Type 0
+IsRefusalOfChild parts target command answer =
+    (s : State) (name parent : VmoName) → (parts s).names parent.0 ≡ Some target → (parts s).names name.0 ≡ None
+    → answer ≡ first_of (refusals (parts s) (command name parent))
 
 -- From the old content to the new, the command is a step of the machine with this reply. It is given by a name that
 -- stands for the target, whichever name this is, and whatever else the state has.

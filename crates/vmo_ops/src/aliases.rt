@@ -1,6 +1,6 @@
 //! Further names of a VMO (`ZX_VMO_CHILD_SLICE`, `ZX_VMO_CHILD_REFERENCE`).
 
-ghost use Rattle.std.specs.Prelude.{◌≡◌, ◌≢◌, ◌+◌, ◌*◌, ◌/◌, ◌%◌, ◌<◌, ◌≤◌, ◌^◌, ◌⊎◌, ◌==◌, ◌&&◌, ◌||◌, not, None, Some, IsSome, IfNone, IfSome, IfOk};
+ghost use Rattle.std.specs.Prelude.{◌≡◌, ◌≢◌, ◌+◌, ◌*◌, ◌/◌, ◌%◌, ◌<◌, ◌≤◌, ◌^◌, ◌⊎◌, ◌==◌, ◌&&◌, ◌||◌, not, Bool, None, Some, IsSome, IfNone, IfSome, IfOk, MatchResult};
 ghost use Rattle.vm_base.specs.Pages.{rounded};
 ghost use Rattle.vm_base.specs.declared.names.VmoName.{VmoName};
 ghost use Rattle.vm_model.specs.declared.command.Command.{Command};
@@ -12,6 +12,7 @@ ghost use Rattle.vm_model.specs.Machine.State.{State, name_pages};
 ghost use Rattle.vm_model.specs.Machine.Step.{Step, slice_of, reference_of, reply_of};
 ghost use Rattle.pages.specs.Names.{IsInside};
 ghost use Rattle.vmo_table.specs.Table.{names_of, lineage_in, keepers_of, with_vmos, AreParts, IsNamed};
+ghost use Rattle.vmo_ops.specs.Targets.{IsRefusalOfChild};
 
 use pages::{Pages, size_of_name};
 use vm_base::{Koid, PAGE, PageNo, Refusal, VmoName, in_page, page_of, round_up};
@@ -39,6 +40,36 @@ pub(crate) fn slice<P: Pages>(
     ensures keepers { keepers_of vmos.new ≡ keepers_of vmos.old }
     ensures koid { IfOk result (λ koid. koid ≡ None) }
 {
+    let pages = match ask_to_slice(store, vmos, t, offset, bytes, resizable) {
+        Ok(pages) => pages,
+        Err(refusal) => return Err(refusal),
+    };
+    let Ok(()) = vmos.reserve() else {
+        return Err(Refusal::HostMemory);
+    };
+    vmos.alias(name, slice_target(t, page_of(offset), pages, no_write));
+    Ok(None)
+}
+
+/// Finds the page count of a slice that is to be made of what `t` stands for. `InvalidArgs` if it is to be resizable, if
+/// `offset` is not a multiple of the page size, or if it passes the name's end, else `NotSupported` if the VMO is resizable.
+/// Nothing changes.
+pub fn ask_to_slice<P: Pages>(
+    store: &P,
+    vmos: &VmoTable,
+    t: &Target,
+    offset: u64,
+    bytes: u64,
+    resizable: bool,
+) -> Result<PageNo, Refusal>
+    requires parts { AreParts (P.content store.now) vmos.now }
+    requires named { IsNamed (names_of vmos.now) t.now }
+    ensures { (no_write : Bool) → let parts = λ (s : State). with_vmos s (P.content store.now) vmos.now in
+        let command = λ (name parent : VmoName). Command.VmoChild name parent Slice offset bytes resizable no_write in
+        MatchResult result (λ pages. IsRefusalOfChild parts t.now command None × (pages ≡ rounded bytes / PAGE)
+        × (offset % PAGE ≡ 0) × (offset + rounded bytes ≤ name_pages (P.content store.now) t.now * PAGE))
+        (λ refusal. IsRefusalOfChild parts t.now command (Some refusal)) }
+{
     if resizable {
         return Err(Refusal::InvalidArgs);
     }
@@ -48,11 +79,7 @@ pub(crate) fn slice<P: Pages>(
     if vmos.resizable(t.koid) {
         return Err(Refusal::NotSupported);
     }
-    let Ok(()) = vmos.reserve() else {
-        return Err(Refusal::HostMemory);
-    };
-    vmos.alias(name, slice_target(t, page_of(offset), pages, no_write));
-    Ok(None)
+    Ok(pages)
 }
 
 // The page count of `bytes` bytes, if `offset` is a whole number of pages and the bytes end inside the name.
@@ -107,11 +134,9 @@ pub(crate) fn reference(
     ensures keepers { keepers_of vmos.new ≡ keepers_of vmos.old }
     ensures koid { IfOk result (λ koid. koid ≡ None) }
 {
-    if is_contradictory(offset, bytes, resizable, no_write, t.may_resize) {
-        return Err(Refusal::InvalidArgs);
-    }
-    if is_slice(t.kind) {
-        return Err(Refusal::NotSupported);
+    match ask_to_reference(t, offset, bytes, resizable, no_write) {
+        Ok(()) => {}
+        Err(refusal) => return Err(refusal),
     }
     let Ok(()) = vmos.reserve() else {
         return Err(Refusal::HostMemory);
@@ -120,8 +145,31 @@ pub(crate) fn reference(
     Ok(None)
 }
 
-/// Returns whether a reference may not have these arguments. The name of which it is made may resize the VMO or not.
-pub fn is_contradictory(
+/// Returns what refuses to make a reference of what `t` stands for. `InvalidArgs` if an offset or a size is given, or if it is
+/// to be resizable and may not write or `t` may not resize, else `NotSupported` if `t` is a slice. Nothing changes.
+pub fn ask_to_reference(
+    t: &Target,
+    offset: u64,
+    bytes: u64,
+    resizable: bool,
+    no_write: bool,
+) -> Result<(), Refusal>
+    ensures { (parts : State → State) →
+        let command = λ (name parent : VmoName). Command.VmoChild name parent Reference offset bytes resizable no_write in
+        MatchResult result (λ _. IsRefusalOfChild parts t.now command None)
+        (λ refusal. IsRefusalOfChild parts t.now command (Some refusal)) }
+{
+    if is_contradictory(offset, bytes, resizable, no_write, t.may_resize) {
+        return Err(Refusal::InvalidArgs);
+    }
+    if is_slice(t.kind) {
+        return Err(Refusal::NotSupported);
+    }
+    Ok(())
+}
+
+// Returns whether a reference may not have these arguments. The name of which it is made may resize the VMO or not.
+fn is_contradictory(
     offset: u64,
     bytes: u64,
     resizable: bool,
@@ -133,8 +181,8 @@ pub fn is_contradictory(
     offset != 0 || bytes != 0 || (resizable && (no_write || !may_resize))
 }
 
-/// Returns whether a name of this kind stands for a part of its VMO.
-pub fn is_slice(kind: NameKind) -> bool
+// Returns whether a name of this kind stands for a part of its VMO.
+fn is_slice(kind: NameKind) -> bool
     ensures { result ≡ is_kind NameKind.Slice kind }
 {
     matches!(kind, NameKind::Slice)

@@ -1,6 +1,6 @@
 //! Giving frames of pages back (`ZX_VMO_OP_DECOMMIT`).
 
-ghost use Rattle.std.specs.Prelude.{◌≡◌, ◌+◌, ◌*◌, ◌/◌, ◌%◌, ◌≤◌, false, Some, IsSome};
+ghost use Rattle.std.specs.Prelude.{◌≡◌, ◌+◌, ◌*◌, ◌/◌, ◌%◌, ◌≤◌, false, None, Some, IsSome, MatchResult};
 ghost use Rattle.vm_base.specs.declared.names.VmoName.{VmoName};
 ghost use Rattle.vm_model.specs.declared.command.Command.{Command};
 ghost use Rattle.vm_model.specs.declared.reply.Reply.{Reply};
@@ -12,14 +12,14 @@ ghost use Rattle.vm_model.specs.Machine.Step.{Step, reply_of};
 ghost use Rattle.vmo_table.specs.Table.{names_of, IsNamed};
 ghost use Rattle.pin_table.specs.Table.{pins_of};
 ghost use Rattle.vmo_ops.specs.Costs.{held_touched};
-ghost use Rattle.vmo_ops.specs.Targets.{AreTogether, with_tables};
+ghost use Rattle.vmo_ops.specs.Targets.{AreTogether, with_tables, IsPlaced, IsRefusalIn};
 
 use crate::owning::reserve_rows;
-use crate::ranges::place_in_vmo;
+use crate::ranges::{is_whole, place_in_vmo};
 use crate::zeroing::{cost_to_zero, zero_pages};
 use pages::Pages;
 use pin_table::PinTable;
-use vm_base::{Koid, PAGE, Refusal, in_page, page_of};
+use vm_base::{Koid, PAGE, Refusal, page_of};
 use vmo_table::{Target, VmoTable};
 
 /// Makes the pages of a range zero and gives their frames back (`ZX_VMO_OP_DECOMMIT`). The range is `len` bytes from
@@ -45,10 +45,41 @@ pub fn decommit<P: Pages>(
         Step (with_tables s (P.content store.old) vmos.now pins.now) (Command.VmoDecommit name offset len)
         (reply_of (λ _. Reply.Done) result) (with_tables s (P.content store.new) vmos.now pins.now) }
 {
+    let at = match ask_to_decommit(store, vmos, pins, t, offset, len) {
+        Ok(at) => at,
+        Err(refusal) => return Err(refusal),
+    };
+    let cost = cost_to_zero(store, pins, t.koid, at, len);
+    let Ok(()) = reserve_rows(store, cost.held, cost.held) else {
+        return Err(Refusal::HostMemory);
+    };
+    clear_pages(store, pins, t.koid, at, len);
+    Ok(())
+}
+
+/// Finds the place in the VMO, in bytes, of a range whose frames are to be given back. Refusals as for `decommit`, without
+/// `HostMemory`. Nothing changes.
+pub fn ask_to_decommit<P: Pages>(
+    store: &P,
+    vmos: &VmoTable,
+    pins: &PinTable,
+    t: &Target,
+    offset: u64,
+    len: u64,
+) -> Result<u64, Refusal>
+    requires parts { AreTogether (P.content store.now) vmos.now pins.now }
+    requires named { IsNamed (names_of vmos.now) t.now }
+    ensures { let parts = λ (s : State). with_tables s (P.content store.now) vmos.now pins.now in
+        let command = λ (name : VmoName). Command.VmoDecommit name offset len in
+        MatchResult result (λ at. IsRefusalIn parts t.now command None
+        × IsPlaced (P.content store.now) t.now offset len at × (at % PAGE ≡ 0) × (len % PAGE ≡ 0)
+        × (any_pinned (pins_of pins.now) t.now.koid.0 (at / PAGE) (at / PAGE + len / PAGE) ≡ false))
+        (λ refusal. IsRefusalIn parts t.now command (Some refusal)) }
+{
     if !t.may_write {
         return Err(Refusal::AccessDenied);
     }
-    if in_page(offset) != 0 || in_page(len) != 0 {
+    if !is_whole(offset, len) {
         return Err(Refusal::InvalidArgs);
     }
     if !vmos.may_decommit(t.koid) {
@@ -60,12 +91,7 @@ pub fn decommit<P: Pages>(
     if pins.pinned(t.koid, page_of(at), page_of(len)) {
         return Err(Refusal::BadState);
     }
-    let cost = cost_to_zero(store, pins, t.koid, at, len);
-    let Ok(()) = reserve_rows(store, cost.held, cost.held) else {
-        return Err(Refusal::HostMemory);
-    };
-    clear_pages(store, pins, t.koid, at, len);
-    Ok(())
+    Ok(at)
 }
 
 // Makes the pages of a range of whole pages zero. None of them is pinned, and there is room for it.

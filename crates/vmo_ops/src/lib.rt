@@ -4,7 +4,9 @@
 //!
 //! It stands on `pages`, whose trait it is generic over, on `vmo_table` and on `pin_table`. Its contracts say that
 //! a call is the step of its command, as `vm_model` defines it. The layer above looks names up, calls an operation, and
-//! makes a reply of its answer.
+//! makes a reply of its answer. An operation asks what refuses it, makes room, and is then done. What refuses it can be asked
+//! apart (`ask_to_own` and the like): the answer is the refusal, or what was found. A clause says that it is the refusal of
+//! the definitions.
 #![tactic(auto,
 // no VMO has more pages than fit
 using(vm_model::proofs::ContentLaws::pages_of_le,
@@ -36,20 +38,20 @@ mod snapshots;
 mod writing;
 mod zeroing;
 
-pub use aliases::{is_contradictory, is_slice, reference_target, slice_target};
+pub use aliases::{ask_to_reference, ask_to_slice, reference_target, slice_target};
 pub use children::create_child;
 pub use closing::close;
 pub use committing::commit;
 pub use copies::{count_copies, next_copy};
-pub use decommitting::decommit;
+pub use decommitting::{ask_to_decommit, decommit};
 pub use filling::fill;
-pub use making::create;
+pub use making::{ask_to_create, create};
 pub use owning::{need_of, reserve_rows};
-pub use pinning::{pin, pin_into, unpin};
+pub use pinning::{ask_to_pin, pin, pin_into, unpin};
 pub use ranges::{PagePart, part_in_page, place_in_vmo, touched_pages};
-pub use reading::{read, read_into, read_range};
-pub use ready::reserve_to_own;
-pub use sizes::{is_pinned_past, resize};
-pub use snapshots::{pages_within, seen_part};
+pub use reading::{ask_to_read, read, read_into, read_range};
+pub use ready::{RangeToChange, ask_to_own, reserve_to_own};
+pub use sizes::{ask_to_resize, is_pinned_past, resize};
+pub use snapshots::{SeenPart, ask_to_snapshot};
 pub use writing::{write, write_part};
-pub use zeroing::{ZeroCost, cost_to_zero, zero};
+pub use zeroing::{ZeroCost, ask_to_zero, cost_to_zero, zero};

@@ -81,14 +81,11 @@ pub fn reserve_rows<P: Pages>(store: &mut P, wanting: u64, pages: u64) -> Result
 /// The most pages for which room is made without a look at them. So no more rows than these stay unused.
 const UNSEEN_PAGES: u64 = 64;
 
-/// Makes room for owning `pages` pages, whatever they are, and answers whether there are a row and a free frame for
-/// each. No page takes more, so none has to be looked at before. If there are more than `UNSEEN_PAGES` pages, or fewer
-/// frames are free, the call asks for nothing and answers `false`. A page that is sole takes neither a row nor a frame,
-/// so `false` does not mean a refusal.
-pub(crate) fn reserve_unseen<P: Pages>(store: &mut P, pages: u64) -> bool
-    ensures same { P.content store.new ≡ P.content store.old }
-    ensures room { IsTrue result → (pages ≤ P.spare store.new)
-        × (used (P.content store.old) + pages ≤ (P.content store.old).frames) }
+/// Returns whether `pages` pages may be owned, whatever they are, without a look at them: they are at most `UNSEEN_PAGES`, and
+/// there is a free frame for each. No page takes more than one. A page that is sole takes none, so `false` does not mean a
+/// refusal.
+pub(crate) fn are_ample<P: Pages>(store: &P, pages: u64) -> bool
+    ensures { IsTrue result → used (P.content store.now) + pages ≤ (P.content store.now).frames }
 {
-    pages <= UNSEEN_PAGES && pages <= u64::from(store.free()) && store.reserve(pages).is_ok()
+    pages <= UNSEEN_PAGES && pages <= u64::from(store.free())
 }

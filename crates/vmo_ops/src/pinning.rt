@@ -1,29 +1,31 @@
 //! Pinning pages, so that they keep their frames (`zx_bti_pin`, `zx_pmt_unpin`).
 
-ghost use Rattle.std.specs.Prelude.{◌≡◌, ℕ, ◌+◌, ◌*◌, ◌/◌, ◌%◌, ◌^◌, ◌<◌, ◌≤◌, ◌==◌, ◌↔◌, if◌then◌else◌, None, Some, IsTrue, IsSome, IfOk, IfErr, OnOk, length, map};
+ghost use Rattle.std.specs.Prelude.{◌≡◌, ℕ, ◌+◌, ◌*◌, ◌/◌, ◌%◌, ◌^◌, ◌<◌, ◌≤◌, ◌==◌, ◌&&◌, ◌||◌, not, nat_lt, if◌then◌else◌, Option, None, Some, IsSome, IfOk, OnOk, MatchResult, length, map};
 ghost use Rattle.std.specs.List.{range_with_len};
 ghost use Rattle.vm_base.specs.Entries.{with_key};
 ghost use Rattle.vm_base.specs.declared.limits.TheConstants.{NAMES};
+ghost use Rattle.vm_base.specs.declared.names.PinName.{PinName};
 ghost use Rattle.vm_base.specs.declared.names.VmoName.{VmoName};
 ghost use Rattle.vm_model.specs.declared.command.Command.{Command};
 ghost use Rattle.vm_model.specs.declared.reply.Reply.{Reply};
 ghost use Rattle.vm_model.specs.Contents.Content.{pages_of, used, IsGood};
 ghost use Rattle.vm_model.specs.Contents.Owning.{need, OwnsAll};
 ghost use Rattle.vm_model.specs.Contents.Writing.{touched};
+ghost use Rattle.vm_model.specs.Naming.Pins.{Pin};
 ghost use Rattle.vm_model.specs.Machine.State.{State};
 ghost use Rattle.vm_model.specs.Machine.Step.{Step, frame_of, frames_of, reply_of};
 ghost use Rattle.pages.specs.Names.{IsInside};
 ghost use Rattle.vmo_table.specs.Table.{keepers_of, lineage_in, names_of, CountsKeepers, IsNamed, IsWellCounted};
 ghost use Rattle.pin_table.specs.Table.{pins_of, pin_room};
 ghost use Rattle.vmo_ops.specs.Costs.{HasRows};
-ghost use Rattle.vmo_ops.specs.inside.Pinning.{pin_in, IsPinnable, IsPinRange, IsUnpinnable};
-ghost use Rattle.vmo_ops.specs.Targets.{with_tables};
+ghost use Rattle.vmo_ops.specs.inside.Pinning.{pin_in, IsPinnable, IsPinRange};
+ghost use Rattle.vmo_ops.specs.Targets.{with_pins, with_tables, IsRefusalIn};
 
-use crate::ranges::{place_in_vmo, touched_pages};
-use crate::ready::reserve_to_own;
+use crate::ranges::{is_whole, place_in_vmo, touched_pages};
+use crate::ready::{RangeToChange, room_to_own, rows_to_own};
 use pages::{Pages, drop_gone};
 use pin_table::PinTable;
-use vm_base::{Koid, PAGE, PIN_PAGES, PinName, Refusal, in_page, page_of};
+use vm_base::{HostMemory, Koid, PAGE, PIN_PAGES, PinName, Refusal, page_of};
 use vm_model::{LentNumbers, PinNumbers};
 use vmo_table::{Target, VmoTable};
 
@@ -88,42 +90,65 @@ pub fn pin_into<'a, P: Pages>(
     ensures counted { (s : State) → CountsKeepers vmos.old (record s { pins = pins_of pins.old }) →
         CountsKeepers vmos.new (record s { pins = pins_of pins.new }) }
 {
-    match ready_to_pin(store, pins, t, offset, len) {
-        Ok(at) => Ok(add_pin(store, vmos, pins, pin, t.koid, at, len, room)),
-        Err(refusal) => Err(refusal),
-    }
+    let range = match ask_to_pin(store, t, offset, len) {
+        Ok(range) => range,
+        Err(refusal) => return Err(refusal),
+    };
+    let Ok(()) = room_to_pin(store, pins, t.koid, range, len) else {
+        return Err(Refusal::HostMemory);
+    };
+    Ok(add_pin(store, vmos, pins, pin, t.koid, range.at, len, room))
 }
 
-// Makes a range of a name ready for a pin, and answers the range's place in its VMO, in bytes. It is refused as `pin`
-// is.
-fn ready_to_pin<P: Pages>(
-    store: &mut P,
-    pins: &mut PinTable,
+/// Finds a range of a name that is to be pinned. Refusals as for `pin`, without `HostMemory`. Nothing changes.
+pub fn ask_to_pin<P: Pages>(
+    store: &P,
     t: &Target,
     offset: u64,
     len: u64,
-) -> Result<u64, Refusal>
-    requires good { IsGood (P.content store.old) }
-    requires inside { IsInside (P.content store.old) t.now }
-    ensures content { P.content store.new ≡ P.content store.old }
-    ensures pins { pins_of pins.new ≡ pins_of pins.old }
-    ensures ok { IfOk result (λ at. IsPinnable (P.content store.old) t.now offset len at (P.spare store.new)) }
-    ensures room { OnOk result (1 ≤ pin_room pins.new) }
-    ensures err { IfErr result (IsUnpinnable (P.content store.old) t.now offset len) }
+) -> Result<RangeToChange, Refusal>
+    requires good { IsGood (P.content store.now) }
+    requires inside { IsInside (P.content store.now) t.now }
+    ensures ok { IfOk result (λ range. IsPinnable (P.content store.now) t.now offset len range.at range.rows) }
+    ensures refusal { (pin : PinName) (pins : ℕ → Option Pin) → pins pin.0 ≡ None →
+        let parts = with_pins (P.content store.now) pins in
+        let command = λ (name : VmoName). Command.VmoPin pin name offset len in
+        MatchResult result (λ range. IsRefusalIn parts t.now command None)
+        (λ refusal. IsRefusalIn parts t.now command (Some refusal)) }
 {
-    if !is_pin_range(offset, len) {
+    if is_no_pin_range(offset, len) {
         return Err(Refusal::InvalidArgs);
     }
     let Some(at) = place_in_vmo(store, t, offset, len) else {
         return Err(Refusal::OutOfRange);
     };
-    if let Err(refusal) = reserve_to_own(store, t.koid, at, len) {
-        return Err(refusal);
+    match rows_to_own(store, t.koid, at, len) {
+        Some(rows) => Ok(RangeToChange { at, rows }),
+        None => Err(Refusal::NoMemory),
     }
-    match pins.reserve() {
-        Ok(()) => Ok(at),
-        Err(_) => Err(Refusal::HostMemory),
-    }
+}
+
+// Makes room for pinning a range that was asked for. `HostMemory` if the host has too little memory.
+fn room_to_pin<P: Pages>(
+    store: &mut P,
+    pins: &mut PinTable,
+    v: Koid,
+    range: RangeToChange,
+    len: u64,
+) -> Result<(), HostMemory>
+    requires good { IsGood (P.content store.old) }
+    requires vmo { IsSome ((P.content store.old).count v.0) }
+    requires inside { range.at + len ≤ pages_of (P.content store.old) v.0 * PAGE }
+    requires rows { HasRows (P.content store.old) v.0 (touched range.at len) range.rows }
+    ensures content { P.content store.new ≡ P.content store.old }
+    ensures pins { pins_of pins.new ≡ pins_of pins.old }
+    ensures rows { OnOk result (HasRows (P.content store.old) v.0 (touched range.at len) (P.spare store.new)) }
+    ensures room { OnOk result (1 ≤ pin_room pins.new) }
+{
+    let Ok(()) = room_to_own(store, v, range, len) else {
+        return Err(HostMemory);
+    };
+    pins.reserve()
 }
 
 // Pins the pages of a range of a VMO that is ready for it. Writes the numbers of their frames to `room`, and lends them
@@ -167,11 +192,11 @@ fn add_pin<'a, P: Pages>(
     LentNumbers::new(numbers)
 }
 
-// Whether a range has whole pages alone, from 1 to `PIN_PAGES` of them.
-fn is_pin_range(offset: u64, len: u64) -> bool
-    ensures { IsTrue result ↔ IsPinRange offset len }
+// Whether no pin takes a range: it is not of whole pages, has none, or more than `PIN_PAGES`.
+fn is_no_pin_range(offset: u64, len: u64) -> bool
+    ensures { result ≡ (not (offset % PAGE == 0 && len % PAGE == 0) || (len == 0 || nat_lt (PIN_PAGES * PAGE) len)) }
 {
-    in_page(offset) == 0 && in_page(len) == 0 && len > 0 && len <= PIN_BYTES
+    !is_whole(offset, len) || len == 0 || len > PIN_BYTES
 }
 
 // Owns the pages of a range of whole pages inside a VMO, and writes the number of each page's frame to `numbers`. There

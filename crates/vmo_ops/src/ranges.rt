@@ -1,6 +1,6 @@
 //! Ranges of a name, in bytes from its first byte, and ranges of a VMO.
 
-ghost use Rattle.std.specs.Prelude.{◌≡◌, ◌+◌, ◌-◌, ◌*◌, ◌/◌, ◌<◌, ◌≤◌, ◌↔◌, min, IsTrue, IfNone, IfSome};
+ghost use Rattle.std.specs.Prelude.{◌≡◌, ◌+◌, ◌-◌, ◌*◌, ◌/◌, ◌%◌, ◌<◌, ◌≤◌, ◌↔◌, ◌==◌, ◌&&◌, min, IsTrue, IfNone, IfSome};
 ghost use Rattle.std.specs.List.{range_with_len};
 ghost use Rattle.vm_model.specs.Contents.Content.{IsGood};
 ghost use Rattle.vm_model.specs.Contents.Writing.{touched, part_at};
@@ -9,7 +9,7 @@ ghost use Rattle.pages.specs.Names.{IsInside};
 ghost use Rattle.vmo_ops.specs.Targets.{IsPlaced};
 
 use pages::{Pages, size_of_name};
-use vm_base::{PAGE, PageNo, VMO_PAGES, page_of};
+use vm_base::{PAGE, PageNo, VMO_PAGES, in_page, page_of};
 use vmo_table::Target;
 
 /// Returns the place of a range of a name in the name's VMO, in bytes. `None` if and only if the range does not lie
@@ -34,6 +34,13 @@ fn is_in_range<P: Pages>(store: &P, t: &Target, offset: u64, len: u64) -> bool
 {
     let bytes = size_of_name(store, t);
     len <= bytes && offset <= bytes - len
+}
+
+/// Returns whether a range begins and ends at a page.
+pub(crate) fn is_whole(offset: u64, len: u64) -> bool
+    ensures { result ≡ (offset % PAGE == 0 && len % PAGE == 0) }
+{
+    in_page(offset) == 0 && in_page(len) == 0
 }
 
 /// Returns the first page that holds a byte of the range, and the page behind the last one. If the range has no byte, the

@@ -1,13 +1,15 @@
 //! Reading bytes of a VMO (`zx_vmo_read`).
 
-ghost use Rattle.std.specs.Prelude.{◌≡◌, ◌+◌, ◌*◌, ◌<◌, ◌≤◌, length};
+ghost use Rattle.std.specs.Prelude.{◌≡◌, ◌+◌, ◌*◌, ◌<◌, ◌≤◌, None, Some, MatchResult, length};
+ghost use Rattle.vm_base.specs.declared.limits.TheConstants.{DATA_BYTES};
+ghost use Rattle.vm_base.specs.declared.names.VmoName.{VmoName};
 ghost use Rattle.vm_model.specs.declared.command.Command.{Command};
 ghost use Rattle.vm_model.specs.declared.reply.Reply.{Reply};
 ghost use Rattle.vm_model.specs.Contents.Content.{pages_of, IsGood};
 ghost use Rattle.vm_model.specs.Contents.Writing.{bytes_in};
 ghost use Rattle.vm_model.specs.Machine.Step.{reply_of};
 ghost use Rattle.pages.specs.Names.{IsInside};
-ghost use Rattle.vmo_ops.specs.Targets.{DoesByName};
+ghost use Rattle.vmo_ops.specs.Targets.{with_content, DoesByName, IsPlaced, IsRefusalIn};
 
 use crate::ranges::{part_in_page, place_in_vmo, touched_pages};
 use pages::Pages;
@@ -48,15 +50,32 @@ pub fn read_into<'a, P: Pages>(
     ensures { DoesByName (λ name. Command.VmoRead name offset len) t.now (P.content store.now)
         (reply_of (λ bytes. Reply.Bytes bytes) result) (P.content store.now) }
 {
-    if len > DATA_BYTES as u64 {
-        return Err(Refusal::InvalidArgs);
-    }
-    let Some(at) = place_in_vmo(store, t, offset, len) else {
-        return Err(Refusal::OutOfRange);
+    let at = match ask_to_read(store, t, offset, len) {
+        Ok(at) => at,
+        Err(refusal) => return Err(refusal),
     };
     let out = &mut room[..len as usize];
     read_range(store, t.koid, at, out);
     Ok(LentBytes::new(out))
+}
+
+/// Finds the place in the VMO, in bytes, of a range that is to be read. Refusals as for `read`. Nothing changes.
+pub fn ask_to_read<P: Pages>(store: &P, t: &Target, offset: u64, len: u64) -> Result<u64, Refusal>
+    requires good { IsGood (P.content store.now) }
+    requires inside { IsInside (P.content store.now) t.now }
+    ensures { let parts = with_content (P.content store.now) in
+        let command = λ (name : VmoName). Command.VmoRead name offset len in
+        MatchResult result (λ at. IsRefusalIn parts t.now command None × (len ≤ DATA_BYTES)
+        × IsPlaced (P.content store.now) t.now offset len at)
+        (λ refusal. IsRefusalIn parts t.now command (Some refusal)) }
+{
+    if len > DATA_BYTES as u64 {
+        return Err(Refusal::InvalidArgs);
+    }
+    match place_in_vmo(store, t, offset, len) {
+        Some(at) => Ok(at),
+        None => Err(Refusal::OutOfRange),
+    }
 }
 
 /// Reads the bytes of a range inside a VMO, `offset` bytes into it. Most ranges lie in one page.

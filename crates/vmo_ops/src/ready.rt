@@ -1,19 +1,30 @@
 //! Making a range of a name ready for a change: before any page changes, all refusals are tested and room is made.
 
-ghost use Rattle.std.specs.Prelude.{◌≡◌, ℕ, ◌+◌, ◌-◌, ◌*◌, ◌≤◌, ◌⊎◌, true, IsSome, IfOk, IfErr, OnOk};
-ghost use Rattle.std.specs.List.{range_with_len};
-ghost use Rattle.vm_model.specs.Contents.Content.{pages_of, used, IsGood};
+ghost use Rattle.std.specs.Prelude.{◌≡◌, ℕ, ◌+◌, ◌-◌, ◌*◌, ◌<◌, ◌≤◌, ◌⊎◌, not, true, None, Some, IsSome, IfNone, IfSome, IfOk, IfErr, OnOk, OnErr, MatchResult};
+ghost use Rattle.std.specs.List.{list_any, range_with_len};
+ghost use Rattle.vm_base.specs.declared.names.VmoName.{VmoName};
+ghost use Rattle.vm_base.specs.declared.refusal.Refusal.TheVariants.{NoMemory};
+ghost use Rattle.vm_model.specs.declared.command.Command.{Command};
+ghost use Rattle.vm_model.specs.Contents.Content.{pages_of, sole, used, IsGood};
 ghost use Rattle.vm_model.specs.Contents.Owning.{need};
 ghost use Rattle.vm_model.specs.Contents.Writing.{touched};
 ghost use Rattle.pages.specs.Names.{IsInside};
 ghost use Rattle.vmo_ops.specs.Costs.{HasRows, LacksRoom};
-ghost use Rattle.vmo_ops.specs.Targets.{IsPlaced, IsBarred};
+ghost use Rattle.vmo_ops.specs.Targets.{with_content, IsPlaced, IsBarred, IsRefusalIn};
 
-use crate::owning::{need_of, reserve_rows, reserve_unseen};
+use crate::owning::{are_ample, need_of};
 use crate::ranges::{place_in_vmo, touched_pages};
 use pages::Pages;
-use vm_base::{Koid, PAGE, PageNo, Refusal};
+use vm_base::{HostMemory, Koid, PAGE, PageNo, Refusal};
 use vmo_table::Target;
+
+/// A range of a name that may be changed: its place in the VMO, in bytes, and a number of rows of the store that is enough
+/// for the change.
+#[derive(Clone, Copy)]
+pub struct RangeToChange {
+    pub at: u64,
+    pub rows: u64,
+}
 
 /// Returns the place of a range of a name in the name's VMO, in bytes. `AccessDenied` if the name may not write, else
 /// `OutOfRange` if the range passes the name's end.
@@ -58,14 +69,132 @@ pub(crate) fn ready_to_own<P: Pages>(
         × (used (P.content store.old) + need (P.content store.old) t.now.koid.0 (touched at len)
         ≤ (P.content store.old).frames)) }
 {
+    let range = match ask_to_own(store, t, offset, len) {
+        Ok(range) => range,
+        Err(refusal) => return Err(refusal),
+    };
+    match room_to_own(store, t.koid, range, len) {
+        Ok(()) => Ok(range.at),
+        Err(_) => Err(Refusal::HostMemory),
+    }
+}
+
+/// Finds a range of a name whose pages are to be owned. `AccessDenied` if the name may not write, else `OutOfRange` if the
+/// range passes the name's end, else `NoMemory` if the pages that are not sole are more than the free frames. Nothing
+/// changes.
+#[inline(always)]
+pub fn ask_to_own<P: Pages>(
+    store: &P,
+    t: &Target,
+    offset: u64,
+    len: u64,
+) -> Result<RangeToChange, Refusal>
+    requires good { IsGood (P.content store.now) }
+    requires inside { IsInside (P.content store.now) t.now }
+    ensures ok { IfOk result (λ range. (t.now.may_write ≡ true) × IsPlaced (P.content store.now) t.now offset len range.at
+        × HasRows (P.content store.now) t.now.koid.0 (touched range.at len) range.rows
+        × (used (P.content store.now) + need (P.content store.now) t.now.koid.0 (touched range.at len)
+        ≤ (P.content store.now).frames)) }
+    ensures err { IfErr result (λ refusal. IsBarred (P.content store.now) t.now offset len refusal
+        ⊎ ((t.now.may_write ≡ true) × (at : ℕ) × IsPlaced (P.content store.now) t.now offset len at
+        × (refusal ≡ NoMemory) × ((P.content store.now).frames
+        < used (P.content store.now) + need (P.content store.now) t.now.koid.0 (touched at len)))) }
+    ensures refusal { let parts = with_content (P.content store.now) in
+        let command = λ (name : VmoName). Command.VmoCommit name offset len in
+        MatchResult result (λ range. IsRefusalIn parts t.now command None)
+        (λ refusal. IsRefusalIn parts t.now command (Some refusal)) }
+{
     let at = match place_to_change(store, t, offset, len) {
         Ok(at) => at,
         Err(refusal) => return Err(refusal),
     };
-    match reserve_to_own(store, t.koid, at, len) {
-        Ok(()) => Ok(at),
-        Err(refusal) => Err(refusal),
+    match rows_to_own(store, t.koid, at, len) {
+        Some(rows) => Ok(RangeToChange { at, rows }),
+        None => Err(Refusal::NoMemory),
     }
+}
+
+/// Returns how many rows of the store are enough to own the pages that a range of a VMO touches. `None` if and only if there
+/// are too few free frames. If the range is short and frames are free for all of it, no page is looked at.
+#[inline(always)]
+pub(crate) fn rows_to_own<P: Pages>(store: &P, v: Koid, at: u64, len: u64) -> Option<u64>
+    requires good { IsGood (P.content store.now) }
+    requires vmo { IsSome ((P.content store.now).count v.0) }
+    requires inside { at + len ≤ pages_of (P.content store.now) v.0 * PAGE }
+    ensures some { IfSome result (λ rows. HasRows (P.content store.now) v.0 (touched at len) rows
+        × (used (P.content store.now) + need (P.content store.now) v.0 (touched at len) ≤ (P.content store.now).frames)) }
+    ensures none { IfNone result ((P.content store.now).frames
+        < used (P.content store.now) + need (P.content store.now) v.0 (touched at len)) }
+{
+    let (first, end) = touched_pages(at, len);
+    if are_ample(store, end - first) {
+        return Some(end - first);
+    }
+    rows_needed(store, v, first, end)
+}
+
+// Does what `rows_to_own` does for the pages from `first` to below `end`, by a look at those that are held.
+#[inline(never)]
+fn rows_needed<P: Pages>(store: &P, v: Koid, first: PageNo, end: PageNo) -> Option<u64>
+    requires good { IsGood (P.content store.now) }
+    requires vmo { IsSome ((P.content store.now).count v.0) }
+    requires order { first ≤ end }
+    requires pages { end ≤ pages_of (P.content store.now) v.0 }
+    ensures some { IfSome result (λ rows. HasRows (P.content store.now) v.0 (range_with_len first (end - first)) rows
+        × (used (P.content store.now) + need (P.content store.now) v.0 (range_with_len first (end - first))
+        ≤ (P.content store.now).frames)) }
+    ensures none { IfNone result ((P.content store.now).frames
+        < used (P.content store.now) + need (P.content store.now) v.0 (range_with_len first (end - first))) }
+{
+    let need = need_of(store, v, first, end);
+    if need > u64::from(store.free()) {
+        return None;
+    }
+    if need == 0 {
+        return Some(0);
+    }
+    Some(end - first)
+}
+
+/// Makes room for owning the pages of a range that was asked for. `HostMemory` only if one of them is not sole.
+#[inline(always)]
+pub(crate) fn room_to_own<P: Pages>(
+    store: &mut P,
+    v: Koid,
+    range: RangeToChange,
+    len: u64,
+) -> Result<(), HostMemory>
+    requires good { IsGood (P.content store.old) }
+    requires vmo { IsSome ((P.content store.old).count v.0) }
+    requires inside { range.at + len ≤ pages_of (P.content store.old) v.0 * PAGE }
+    requires rows { HasRows (P.content store.old) v.0 (touched range.at len) range.rows }
+    ensures same { P.content store.new ≡ P.content store.old }
+    ensures rows { OnOk result (HasRows (P.content store.old) v.0 (touched range.at len) (P.spare store.new)) }
+    ensures err { OnErr result (list_any (λ p. not (sole (P.content store.old) v.0 p)) (touched range.at len) ≡ true) }
+{
+    if range.rows == 0 {
+        return Ok(());
+    }
+    if let Ok(()) = store.reserve(range.rows) {
+        return Ok(());
+    }
+    are_sole(store, v, range.at, len)
+}
+
+// Returns whether each page that a range touches is sole, after there was no memory for rows. `HostMemory` if one is not.
+#[inline(never)]
+fn are_sole<P: Pages>(store: &P, v: Koid, at: u64, len: u64) -> Result<(), HostMemory>
+    requires good { IsGood (P.content store.now) }
+    requires vmo { IsSome ((P.content store.now).count v.0) }
+    requires inside { at + len ≤ pages_of (P.content store.now) v.0 * PAGE }
+    ensures ok { OnOk result (need (P.content store.now) v.0 (touched at len) ≡ 0) }
+    ensures err { OnErr result (list_any (λ p. not (sole (P.content store.now) v.0 p)) (touched at len) ≡ true) }
+{
+    let (first, end) = touched_pages(at, len);
+    if need_of(store, v, first, end) == 0 {
+        return Ok(());
+    }
+    Err(HostMemory)
 }
 
 /// Makes room for owning the pages that a range of a VMO touches. `NoMemory` if there are too few free frames, else
@@ -87,38 +216,11 @@ pub fn reserve_to_own<P: Pages>(
     ensures free { OnOk result (used (P.content store.old) + need (P.content store.old) v.0 (touched offset len)
         ≤ (P.content store.old).frames) }
 {
-    let (first, end) = touched_pages(offset, len);
-    if reserve_unseen(store, end - first) {
-        return Ok(());
-    }
-    reserve_needed(store, v, first, end)
-}
-
-/// Makes room for owning the pages from `first` to below `end`, by a look at those that are held. It is refused as
-/// `reserve_to_own` is.
-#[inline(never)]
-fn reserve_needed<P: Pages>(
-    store: &mut P,
-    v: Koid,
-    first: PageNo,
-    end: PageNo,
-) -> Result<(), Refusal>
-    requires good { IsGood (P.content store.old) }
-    requires vmo { IsSome ((P.content store.old).count v.0) }
-    requires order { first ≤ end }
-    requires pages { end ≤ pages_of (P.content store.old) v.0 }
-    ensures same { P.content store.new ≡ P.content store.old }
-    ensures err { IfErr result (LacksRoom (P.content store.old) v.0 (range_with_len first (end - first))) }
-    ensures rows { OnOk result (HasRows (P.content store.old) v.0 (range_with_len first (end - first)) (P.spare store.new)) }
-    ensures free { OnOk result (used (P.content store.old)
-        + need (P.content store.old) v.0 (range_with_len first (end - first)) ≤ (P.content store.old).frames) }
-{
-    let need = need_of(store, v, first, end);
-    if need > u64::from(store.free()) {
+    let Some(rows) = rows_to_own(store, v, offset, len) else {
         return Err(Refusal::NoMemory);
-    }
-    let Ok(()) = reserve_rows(store, need, end - first) else {
-        return Err(Refusal::HostMemory);
     };
-    Ok(())
+    match room_to_own(store, v, RangeToChange { at: offset, rows }, len) {
+        Ok(()) => Ok(()),
+        Err(_) => Err(Refusal::HostMemory),
+    }
 }

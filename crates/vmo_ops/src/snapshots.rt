@@ -1,7 +1,6 @@
 //! Making a snapshot of a VMO (`ZX_VMO_CHILD_SNAPSHOT`).
 
-ghost use Rattle.std.specs.Prelude.{◌≡◌, ◌+◌, ◌*◌, ◌/◌, ◌<◌, ◌≤◌, ◌⊎◌, length, None, Some, IsSome, IfNone, IfSome, IfOk, OnOk, OnErr};
-ghost use Rattle.vm_base.specs.Pages.{rounded};
+ghost use Rattle.std.specs.Prelude.{◌≡◌, ◌+◌, ◌%◌, ◌<◌, ◌≤◌, ◌==◌, ◌&&◌, ◌||◌, ◌⊎◌, not, length, None, Some, IsSome, IfOk, OnOk, OnErr, MatchResult};
 ghost use Rattle.vm_base.specs.declared.names.VmoName.{VmoName};
 ghost use Rattle.vm_base.specs.declared.limits.TheConstants.{KOIDS};
 ghost use Rattle.vm_model.specs.declared.command.Command.{Command};
@@ -16,15 +15,14 @@ ghost use Rattle.vm_model.specs.Machine.Step.{Step, seen_pages, reply_of};
 ghost use Rattle.pages.specs.Names.{IsInside};
 ghost use Rattle.vmo_table.specs.Table.{names_of, keepers_of, IsNamed};
 ghost use Rattle.pin_table.specs.Table.{pins_of};
-ghost use Rattle.vmo_ops.specs.inside.Copies.{copies_of};
-ghost use Rattle.vmo_ops.specs.Targets.{AreTogether, with_tables, koid_given};
+ghost use Rattle.vmo_ops.specs.inside.Copies.{copies_of, IsSeenPart};
+ghost use Rattle.vmo_ops.specs.Targets.{AreTogether, with_pins, with_tables, koid_given, IsRefusalOfChild};
 
 use crate::copies::{count_copies, own_copies};
+use crate::sizes::pages_within;
 use pages::{Pages, pages_of_name};
 use pin_table::PinTable;
-use vm_base::{
-    HostMemory, Koid, PAGE, PageNo, Refusal, VMO_PAGES, VmoName, in_page, page_of, round_up,
-};
+use vm_base::{HostMemory, Koid, PAGE, PageNo, Refusal, VMO_PAGES, VmoName, in_page, page_of};
 use vmo_table::{Origin, Target, VmoTable};
 
 /// Makes a VMO that shows the pages of what `t` stands for, from `offset` bytes into it on, as they are now
@@ -52,23 +50,15 @@ pub(crate) fn snapshot<P: Pages>(
     ensures keepers { keepers_of vmos.new ≡ keepers_of vmos.old }
     ensures koid { IfOk result (λ koid. koid ≡ koid_given Snapshot (P.content store.old).next) }
 {
-    if in_page(offset) != 0 || (resizable && no_write) {
-        return Err(Refusal::InvalidArgs);
-    }
-    let Some(pages) = pages_within(offset, size) else {
-        return Err(Refusal::OutOfRange);
+    let part = match ask_to_snapshot(store, pins, t, offset, size, resizable, no_write) {
+        Ok(part) => part,
+        Err(refusal) => return Err(refusal),
     };
-    let (first, seen) = seen_part(store, t, page_of(offset), pages);
-    let copied = count_copies(pins, t.koid, first, seen);
-    let free = u64::from(store.free());
-    if copied > free {
-        return Err(Refusal::NoMemory);
-    }
     // All memory is taken before anything is changed, so that nothing is left to undo.
     let Ok(()) = vmos.reserve() else {
         return Err(Refusal::HostMemory);
     };
-    let Ok(koid) = snapshot_owned(store, pins, t.koid, first, seen, pages, copied) else {
+    let Ok(koid) = snapshot_owned(store, pins, t.koid, part) else {
         return Err(Refusal::HostMemory);
     };
     vmos.enter(
@@ -82,54 +72,101 @@ pub(crate) fn snapshot<P: Pages>(
     Ok(Some(koid))
 }
 
-// Makes a snapshot of `pages` pages that owns its copies of pinned pages, and answers its koid. The snapshot sees
-// `seen` pages of `of` from the page `first` of `of` on. Of these, `copied` pages are pinned. `HostMemory`, with
-// nothing changed, if the host has too little memory.
+/// The part of a VMO that a snapshot sees: `seen` pages from the VMO's page `first` on, of which `copied` are pinned. The
+/// snapshot has `pages` pages.
+#[derive(Clone, Copy)]
+pub struct SeenPart {
+    pub first: PageNo,
+    pub seen: PageNo,
+    pub pages: PageNo,
+    pub copied: u64,
+}
+
+/// Finds what a snapshot that is to be made of what `t` stands for will see. Refusals, in their order:
+///
+/// - `InvalidArgs` if `offset` is not a multiple of the page size, or if `resizable` and `no_write` are both given;
+/// - `OutOfRange` if `offset` and the rounded size are over 2^48 bytes together;
+/// - `NoMemory` if the pinned pages that it copies are more than the free frames.
+///
+/// Nothing changes.
+pub fn ask_to_snapshot<P: Pages>(
+    store: &P,
+    pins: &PinTable,
+    t: &Target,
+    offset: u64,
+    size: u64,
+    resizable: bool,
+    no_write: bool,
+) -> Result<SeenPart, Refusal>
+    requires good { IsGood (P.content store.now) }
+    requires inside { IsInside (P.content store.now) t.now }
+    ensures ok { IfOk result (λ part. IsSeenPart (P.content store.now) (is_pinned (pins_of pins.now) t.now.koid.0) t.now
+        offset size resizable no_write part) }
+    ensures refusal { let parts = with_pins (P.content store.now) (pins_of pins.now) in
+        let command = λ (name parent : VmoName). Command.VmoChild name parent Snapshot offset size resizable no_write in
+        MatchResult result (λ part. IsRefusalOfChild parts t.now command None)
+        (λ refusal. IsRefusalOfChild parts t.now command (Some refusal)) }
+{
+    if is_misasked(offset, resizable, no_write) {
+        return Err(Refusal::InvalidArgs);
+    }
+    let Some(pages) = pages_within(offset, size) else {
+        return Err(Refusal::OutOfRange);
+    };
+    let (first, seen) = seen_part(store, t, page_of(offset), pages);
+    let copied = count_copies(pins, t.koid, first, seen);
+    if copied > u64::from(store.free()) {
+        return Err(Refusal::NoMemory);
+    }
+    Ok(SeenPart {
+        first,
+        seen,
+        pages,
+        copied,
+    })
+}
+
+// Whether a snapshot may not have these arguments.
+fn is_misasked(offset: u64, resizable: bool, no_write: bool) -> bool
+    ensures { result ≡ (not (offset % PAGE == 0) || (resizable && no_write)) }
+{
+    in_page(offset) != 0 || (resizable && no_write)
+}
+
+// Makes a snapshot that owns its copies of pinned pages, and answers its koid. `part` is what it sees of `of`. `HostMemory`,
+// with nothing changed, if the host has too little memory.
 fn snapshot_owned<P: Pages>(
     store: &mut P,
     pins: &PinTable,
     of: Koid,
-    first: PageNo,
-    seen: PageNo,
-    pages: PageNo,
-    copied: u64,
+    part: SeenPart,
 ) -> Result<Koid, HostMemory>
     requires good { IsGood (P.content store.old) }
     requires vmo { IsSome ((P.content store.old).count of.0) }
-    requires count { (seen ≤ pages) × (pages ≤ VMO_PAGES) }
-    requires range { first + seen ≤ pages_of (P.content store.old) of.0 }
+    requires count { (part.seen ≤ part.pages) × (part.pages ≤ VMO_PAGES) }
+    requires range { part.first + part.seen ≤ pages_of (P.content store.old) of.0 }
     requires next { (P.content store.old).next < KOIDS }
-    requires copied { copied ≡ length (copies_of (is_pinned (pins_of pins.now) of.0) first seen 0) }
-    requires free { used (P.content store.old) + copied ≤ (P.content store.old).frames }
+    requires copied { part.copied ≡ length (copies_of (is_pinned (pins_of pins.now) of.0) part.first part.seen 0) }
+    requires free { used (P.content store.old) + part.copied ≤ (P.content store.old).frames }
     ensures koid { IfOk result (λ koid. koid.0 ≡ (P.content store.old).next) }
-    ensures ok { OnOk result (OwnsAll (snapshotted (P.content store.old) of.0 first seen pages)
-        (P.content store.old).next (copies_of (is_pinned (pins_of pins.now) of.0) first seen 0) (P.content store.new)) }
+    ensures ok { OnOk result (OwnsAll (snapshotted (P.content store.old) of.0 part.first part.seen part.pages)
+        (P.content store.old).next (copies_of (is_pinned (pins_of pins.now) of.0) part.first part.seen 0)
+        (P.content store.new)) }
     ensures err { OnErr result (P.content store.new ≡ P.content store.old) }
 {
-    let Ok(()) = store.reserve(copied) else {
+    let Ok(()) = store.reserve(part.copied) else {
         return Err(HostMemory);
     };
-    let Ok(koid) = store.snapshot(of, first, seen, pages) else {
+    let Ok(koid) = store.snapshot(of, part.first, part.seen, part.pages) else {
         return Err(HostMemory);
     };
-    own_copies(store, pins, koid, of, first, seen);
+    own_copies(store, pins, koid, of, part.first, part.seen);
     Ok(koid)
 }
 
-/// Returns the page count of `size` bytes, if they end within the greatest size of a VMO, counted from `offset` on.
-pub fn pages_within(offset: u64, size: u64) -> Option<PageNo>
-    ensures some { IfSome result (λ pages. (pages ≡ rounded size / PAGE)
-        × (offset + rounded size ≤ VMO_PAGES * PAGE) × (pages ≤ VMO_PAGES)) }
-    ensures none { IfNone result (VMO_PAGES * PAGE < offset + rounded size) }
-{
-    let limit = (VMO_PAGES * PAGE).checked_sub(offset)?;
-    let whole = round_up(size, limit)?;
-    Some(page_of(whole))
-}
-
-/// Returns the pages that a snapshot sees of a name: the first one, counted in the VMO, and how many there are. They are
-/// at most `pages`, from the name's page `start` on. If the snapshot sees none, the first is 0.
-pub fn seen_part<P: Pages>(store: &P, t: &Target, start: PageNo, pages: PageNo) -> (PageNo, PageNo)
+// Returns the pages that a snapshot sees of a name: the first one, counted in the VMO, and how many there are. They are
+// at most `pages`, from the name's page `start` on. If the snapshot sees none, the first is 0.
+fn seen_part<P: Pages>(store: &P, t: &Target, start: PageNo, pages: PageNo) -> (PageNo, PageNo)
     requires good { IsGood (P.content store.now) }
     requires inside { IsInside (P.content store.now) t.now }
     ensures seen { result.1 ≡ seen_pages (P.content store.now) t.now start pages }

@@ -1,6 +1,7 @@
 //! Zeroing a range (`ZX_VMO_OP_ZERO`).
 
-ghost use Rattle.std.specs.Prelude.{◌≡◌, ◌+◌, ◌*◌, ◌/◌, ◌<◌, ◌≤◌, not, ◌&&◌, ◌==◌, true, IsSome, ◌⊎◌, IfErr, OnOk};
+ghost use Rattle.std.specs.Prelude.{◌≡◌, ◌+◌, ◌*◌, ◌/◌, ◌<◌, ◌≤◌, not, ◌&&◌, ◌==◌, true, None, Some, IsSome, ◌⊎◌, IfNone, IfSome, OnOk, OnErr, MatchResult};
+ghost use Rattle.vm_base.specs.declared.names.VmoName.{VmoName};
 ghost use Rattle.vm_model.specs.declared.command.Command.{Command};
 ghost use Rattle.vm_model.specs.declared.reply.Reply.{Reply};
 ghost use Rattle.vm_model.specs.Contents.Content.{pages_of, sole, used, IsGood};
@@ -11,17 +12,17 @@ ghost use Rattle.vm_model.specs.Contents.Zeroing.{is_cleared, owned_by_zero, Zer
 ghost use Rattle.vm_model.specs.Machine.Step.{reply_of};
 ghost use Rattle.pages.specs.Names.{IsInside};
 ghost use Rattle.pin_table.specs.Table.{pins_of};
-ghost use Rattle.vmo_ops.specs.Targets.{DoesWith};
-ghost use Rattle.vmo_ops.specs.Costs.{held_touched, LacksRoomToZero};
+ghost use Rattle.vmo_ops.specs.Targets.{with_pins, DoesWith, IsPlaced, IsRefusalIn};
+ghost use Rattle.vmo_ops.specs.Costs.{held_touched};
 
 use crate::filling::fill_part;
 use crate::held_pages::next_held_below;
-use crate::owning::{is_sole, reserve_rows, reserve_unseen, with_one};
+use crate::owning::{are_ample, is_sole, with_one};
 use crate::ranges::{PagePart, part_in_page, touched_pages};
-use crate::ready::place_to_change;
+use crate::ready::{RangeToChange, place_to_change};
 use pages::Pages;
 use pin_table::PinTable;
-use vm_base::{Koid, PAGE, PAGE_BYTES, PageNo, Refusal};
+use vm_base::{HostMemory, Koid, PAGE, PAGE_BYTES, PageNo, Refusal};
 use vmo_table::Target;
 
 /// Makes the bytes of a range zero (`ZX_VMO_OP_ZERO`): `len` bytes from `offset` bytes into the name on. A page that
@@ -45,52 +46,98 @@ pub fn zero<P: Pages>(
     ensures { DoesWith (pins_of pins.now) (λ name. Command.VmoZero name offset len) t.now (P.content store.old)
         (reply_of (λ _. Reply.Done) result) (P.content store.new) }
 {
+    let range = match ask_to_zero(store, pins, t, offset, len) {
+        Ok(range) => range,
+        Err(refusal) => return Err(refusal),
+    };
+    let Ok(()) = room_to_zero(store, pins, t.koid, range, len) else {
+        return Err(Refusal::HostMemory);
+    };
+    zero_pages(store, pins, t.koid, range.at, len);
+    Ok(())
+}
+
+/// Finds a range of a name that is to be made zero. Refusals as for `zero`, without `HostMemory`. Nothing changes.
+pub fn ask_to_zero<P: Pages>(
+    store: &P,
+    pins: &PinTable,
+    t: &Target,
+    offset: u64,
+    len: u64,
+) -> Result<RangeToChange, Refusal>
+    requires good { IsGood (P.content store.now) }
+    requires inside { IsInside (P.content store.now) t.now }
+    ensures { let parts = with_pins (P.content store.now) (pins_of pins.now) in
+        let command = λ (name : VmoName). Command.VmoZero name offset len in
+        MatchResult result (λ range. IsRefusalIn parts t.now command None
+        × IsPlaced (P.content store.now) t.now offset len range.at
+        × (held_touched (P.content store.now) t.now.koid.0 range.at len ≤ range.rows)
+        × (used (P.content store.now) + need (P.content store.now) t.now.koid.0
+        (owned_by_zero (P.content store.now) t.now.koid.0 (is_pinned (pins_of pins.now) t.now.koid.0) range.at len)
+        ≤ (P.content store.now).frames))
+        (λ refusal. IsRefusalIn parts t.now command (Some refusal)) }
+{
     let at = match place_to_change(store, t, offset, len) {
         Ok(at) => at,
         Err(refusal) => return Err(refusal),
     };
-    match reserve_to_zero(store, pins, t.koid, at, len) {
-        Ok(()) => {
-            zero_pages(store, pins, t.koid, at, len);
-            Ok(())
-        }
-        Err(refusal) => Err(refusal),
+    match rows_to_zero(store, pins, t.koid, at, len) {
+        Some(rows) => Ok(RangeToChange { at, rows }),
+        None => Err(Refusal::NoMemory),
     }
 }
 
-// Makes room for zeroing a range inside the VMO. `NoMemory` if owning takes more frames than are free, else
-// `HostMemory` only if a page that the range touches is held. If the range is short and frames are free for all of it,
-// no page is looked at.
-fn reserve_to_zero<P: Pages>(
-    store: &mut P,
-    pins: &PinTable,
-    v: Koid,
-    offset: u64,
-    len: u64,
-) -> Result<(), Refusal>
-    requires good { IsGood (P.content store.old) }
-    requires vmo { IsSome ((P.content store.old).count v.0) }
-    requires inside { offset + len ≤ pages_of (P.content store.old) v.0 * PAGE }
-    ensures same { P.content store.new ≡ P.content store.old }
-    ensures err { IfErr result (λ refusal. LacksRoomToZero (P.content store.old) v.0 (is_pinned (pins_of pins.now) v.0)
-        offset len refusal) }
-    ensures room { OnOk result (held_touched (P.content store.old) v.0 offset len ≤ P.spare store.new) }
-    ensures free { OnOk result (used (P.content store.old) + need (P.content store.old) v.0
-        (owned_by_zero (P.content store.old) v.0 (is_pinned (pins_of pins.now) v.0) offset len)
-        ≤ (P.content store.old).frames) }
+// Returns how many rows of the store are enough to zero a range inside a VMO. `None` if and only if owning takes more frames
+// than are free. If the range is short and frames are free for all of it, no page is looked at.
+fn rows_to_zero<P: Pages>(store: &P, pins: &PinTable, v: Koid, offset: u64, len: u64) -> Option<u64>
+    requires good { IsGood (P.content store.now) }
+    requires vmo { IsSome ((P.content store.now).count v.0) }
+    requires inside { offset + len ≤ pages_of (P.content store.now) v.0 * PAGE }
+    ensures some { IfSome result (λ rows. (held_touched (P.content store.now) v.0 offset len ≤ rows)
+        × (used (P.content store.now) + need (P.content store.now) v.0
+        (owned_by_zero (P.content store.now) v.0 (is_pinned (pins_of pins.now) v.0) offset len)
+        ≤ (P.content store.now).frames)) }
+    ensures none { IfNone result ((P.content store.now).frames < used (P.content store.now)
+        + need (P.content store.now) v.0
+        (owned_by_zero (P.content store.now) v.0 (is_pinned (pins_of pins.now) v.0) offset len)) }
 {
     let (first, end) = touched_pages(offset, len);
-    if reserve_unseen(store, end - first) {
-        return Ok(());
+    if are_ample(store, end - first) {
+        return Some(end - first);
     }
     let cost = cost_to_zero(store, pins, v, offset, len);
     if cost.owned > u64::from(store.free()) {
-        return Err(Refusal::NoMemory);
+        return None;
     }
-    let Ok(()) = reserve_rows(store, cost.held, cost.held) else {
-        return Err(Refusal::HostMemory);
-    };
-    Ok(())
+    Some(cost.held)
+}
+
+// Makes room for zeroing a range that was asked for. `HostMemory` only if a page that it touches is held.
+fn room_to_zero<P: Pages>(
+    store: &mut P,
+    pins: &PinTable,
+    v: Koid,
+    range: RangeToChange,
+    len: u64,
+) -> Result<(), HostMemory>
+    requires good { IsGood (P.content store.old) }
+    requires vmo { IsSome ((P.content store.old).count v.0) }
+    requires inside { range.at + len ≤ pages_of (P.content store.old) v.0 * PAGE }
+    requires rows { held_touched (P.content store.old) v.0 range.at len ≤ range.rows }
+    ensures same { P.content store.new ≡ P.content store.old }
+    ensures rows { OnOk result (held_touched (P.content store.old) v.0 range.at len ≤ P.spare store.new) }
+    ensures err { OnErr result (0 < held_touched (P.content store.old) v.0 range.at len) }
+{
+    if range.rows == 0 {
+        return Ok(());
+    }
+    if let Ok(()) = store.reserve(range.rows) {
+        return Ok(());
+    }
+    if cost_to_zero(store, pins, v, range.at, len).held == 0 {
+        return Ok(());
+    }
+    Err(HostMemory)
 }
 
 /// The cost of zeroing a range: the number of held pages that it touches, and the number of these that are to be owned

@@ -1,75 +1,51 @@
-use Rattle.std.proofs.Common.{◌<◌, sym, ◌∙◌, inl, inr, rules, arith}
+use Rattle.std.proofs.Common.{◌<◌, refl, sym, inl, inr, arith}
 use Rattle.vm_model.proofs.StepLaws.{Step-lacks}
-use Rattle.vm_model.specs.Machine.State.{target_of, lineage_of}
 use Rattle.vmo_ops.specs.Targets.{with_tables}
 use Rattle.vmo_ops.specs.Costs.{held_touched}
-use Rattle.vmo_ops.proofs.NameLaws.{named_inside, named_known}
+use Rattle.vmo_ops.proofs.AskLaws.{Step-refused}
+use Rattle.vmo_ops.proofs.NameLaws.{named_inside}
+use Rattle.vmo_ops.proofs.StepRows.{decommit_done}
 use Rattle.vmo_ops.proofs.ZeroLaws.{wants_held}
 use Rattle.vmo_ops.proofs.decommitting.decommit.Goals as goal
 
-pub returns-then-not-t : goal.returns-then-not-t
-unfolding target_of lineage_of
-returns-then-not-t g c = search rules
-
-pub returns-then-in_page-ne0 : goal.returns-then-in_page-ne0
-unfolding target_of lineage_of
-returns-then-in_page-ne0 g c = search rules
-
-pub returns-then-not-may_decommit : goal.returns-then-not-may_decommit
-unfolding target_of lineage_of
-returns-then-not-may_decommit g c = search rules
+pub returns-in-Err : goal.returns-in-Err
+returns-in-Err g c = λ s name named. Step-refused (with_tables s (g.P.Pages.content c.args.store.now) c.args.vmos.now c.args.pins.now) _ _ (c.in-Err.ensures s name named)
 
 pub returns-in_default : goal.returns-in_default
-unfolding target_of lineage_of
-returns-in_default g c = search rules
-
-pub returns-then-pinned : goal.returns-then-pinned
-unfolding target_of lineage_of
-returns-then-pinned g c = search rules
+returns-in_default g c = λ rest name named.
+    let s = with_tables rest (g.P.Pages.content c.args.store.now) c.args.vmos.now c.args.pins.now in
+    let some : 0 < held_touched s.content c.args.t.now.koid.0 c.in-Ok.at c.args.len = omega (arith, c.cost_to_zero-cost.ensures.held, c.in_default.ensures.err) in
+    rw c.reserve_rows.ensures.same (Step-lacks s _ (sym (c.in-Ok.ensures.0 rest name named))
+    (wants_held s name.0 c.args.offset c.args.len c.args.t.now c.in-Ok.at named c.in-Ok.ensures.1.place some))
 
 pub returns : goal.returns
-unfolding target_of lineage_of
-returns g c = search rules
-
-pub returns-in_default-reserve_rows : goal.returns-in_default-reserve_rows
-unfolding target_of lineage_of
-returns-in_default-reserve_rows g c = λ rest name named.
-    let some : 0 < held_touched (g.P.Pages.content c.args.store.now) c.args.t.now.koid.0 c.in-Some.at c.args.len =
-    omega (arith, c.cost_to_zero-cost.ensures.held, c.in_default-reserve_rows.ensures.err) in
+returns g c = λ rest name named.
     let s = with_tables rest (g.P.Pages.content c.args.store.now) c.args.vmos.now c.args.pins.now in
-    rw c.reserve_rows.ensures.same (Step-lacks _ _ (search rules)
-    (wants_held s name.0 c.args.offset c.args.len c.args.t.now c.in-Some.at named c.in-Some.ensures.some.place some))
-
-pub may_decommit-requires : goal.may_decommit-requires
-may_decommit-requires g c = named_known _ _ c.requires.parts.good c.requires.named
-
-pub place_in_vmo-requires-clause-inside : goal.place_in_vmo-requires-clause-inside
-place_in_vmo-requires-clause-inside g c = named_inside _ _ c.requires.parts.good c.requires.named
+    decommit_done s name.0 c.args.t.now named name refl c.args.offset c.args.len c.in-Ok.at c.in-Ok.ensures.1 (sym (c.in-Ok.ensures.0 rest name named)) _ (rw c.reserve_rows.ensures.same at c.clear_pages.ensures)
 
 pub cost_to_zero-cost-requires-clause-vmo : goal.cost_to_zero-cost-requires-clause-vmo
 cost_to_zero-cost-requires-clause-vmo g c = (named_inside _ _ c.requires.parts.good c.requires.named).vmo
 
 pub cost_to_zero-cost-requires-clause-inside : goal.cost_to_zero-cost-requires-clause-inside
-cost_to_zero-cost-requires-clause-inside g c = c.in-Some.ensures.some.inside
+cost_to_zero-cost-requires-clause-inside g c = c.in-Ok.ensures.1.inside
 
 pub clear_pages-requires-clause-good : goal.clear_pages-requires-clause-good
 clear_pages-requires-clause-good g c = rw c.reserve_rows.ensures.same c.requires.parts.good.content
 
 pub clear_pages-requires-clause-vmo : goal.clear_pages-requires-clause-vmo
-clear_pages-requires-clause-vmo g c =
-    rw c.reserve_rows.ensures.same (named_inside _ _ c.requires.parts.good c.requires.named).vmo
+clear_pages-requires-clause-vmo g c = rw c.reserve_rows.ensures.same (named_inside _ _ c.requires.parts.good c.requires.named).vmo
 
 pub clear_pages-requires-clause-inside : goal.clear_pages-requires-clause-inside
-clear_pages-requires-clause-inside g c = rw c.reserve_rows.ensures.same c.in-Some.ensures.some.inside
+clear_pages-requires-clause-inside g c = rw c.reserve_rows.ensures.same c.in-Ok.ensures.1.inside
 
 pub clear_pages-requires-clause-whole : goal.clear_pages-requires-clause-whole
-clear_pages-requires-clause-whole g c = (
-  omega (arith, c.in-Some.ensures.some.place, c.in_page.ensures, c.if-in_page-ne0.false),
-  sym c.in_page-else-in_page-ne0.ensures ∙ c.if-in_page-ne0-2.false,
-)
+clear_pages-requires-clause-whole g c = (c.in-Ok.ensures.2, c.in-Ok.ensures.3)
+
+pub clear_pages-requires-clause-free : goal.clear_pages-requires-clause-free
+clear_pages-requires-clause-free g c = c.in-Ok.ensures.4
 
 pub clear_pages-requires-clause-room : goal.clear_pages-requires-clause-room
-clear_pages-requires-clause-room g c = rw c.reserve_rows.ensures.same (elim c.in-Ok.ensures.room [
+clear_pages-requires-clause-room g c = rw c.reserve_rows.ensures.same (elim c.in-Ok-reserve_rows.ensures.room [
   | inl none ↦ omega (arith, c.cost_to_zero-cost.ensures.held, none)
   | inr many ↦ omega (arith, c.cost_to_zero-cost.ensures.held, many)
 ])

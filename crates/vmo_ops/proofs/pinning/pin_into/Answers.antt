@@ -1,35 +1,50 @@
+use Rattle.std.proofs.Common.{refl, sym}
+use Rattle.vm_model.proofs.StepLaws.{Step-lacks}
 use Rattle.vmo_ops.specs.Targets.{with_tables}
+use Rattle.vmo_ops.proofs.AskLaws.{Step-refused}
 use Rattle.vmo_ops.proofs.NameLaws.{named_inside, named_known}
-use Rattle.vmo_ops.proofs.PinLaws.{few_keepers, pinned_counts, pinned_step, placed_range, unpinnable_step}
+use Rattle.vmo_ops.proofs.PinLaws.{few_keepers, pinned_counts, pinned_step, placed_range}
 use Rattle.pin_table.specs.Table.{pins_of}
 use Rattle.vmo_ops.proofs.pinning.pin_into.Goals as goal
 
-pub ready_to_pin-requires-clause-good : goal.ready_to_pin-requires-clause-good
-ready_to_pin-requires-clause-good g c = c.requires.parts.1.good.content
+pub ask_to_pin-requires-clause-good : goal.ask_to_pin-requires-clause-good
+ask_to_pin-requires-clause-good g c = c.requires.parts.1.good.content
 
-pub ready_to_pin-requires-clause-inside : goal.ready_to_pin-requires-clause-inside
-ready_to_pin-requires-clause-inside g c = named_inside _ _ c.requires.parts.1.good c.requires.named
+pub ask_to_pin-requires-clause-inside : goal.ask_to_pin-requires-clause-inside
+ask_to_pin-requires-clause-inside g c = named_inside _ _ c.requires.parts.1.good c.requires.named
+
+pub room_to_pin-requires-clause-good : goal.room_to_pin-requires-clause-good
+room_to_pin-requires-clause-good g c = c.requires.parts.1.good.content
+
+pub room_to_pin-requires-clause-vmo : goal.room_to_pin-requires-clause-vmo
+room_to_pin-requires-clause-vmo g c = (named_inside _ _ c.requires.parts.1.good c.requires.named).vmo
+
+pub room_to_pin-requires-clause-inside : goal.room_to_pin-requires-clause-inside
+room_to_pin-requires-clause-inside g c = c.in-Ok.ensures.ok.placed.inside
+
+pub room_to_pin-requires-clause-rows : goal.room_to_pin-requires-clause-rows
+room_to_pin-requires-clause-rows g c = c.in-Ok.ensures.ok.rows
 
 pub add_pin-requires-clause-good : goal.add_pin-requires-clause-good
-add_pin-requires-clause-good g c = rw c.ready_to_pin.ensures.content c.requires.parts.1.good.content
+add_pin-requires-clause-good g c = rw c.room_to_pin.ensures.content c.requires.parts.1.good.content
 
 pub add_pin-requires-clause-inside : goal.add_pin-requires-clause-inside
-add_pin-requires-clause-inside g c = rw c.ready_to_pin.ensures.content c.in-Ok.ensures.ok.placed.inside
+add_pin-requires-clause-inside g c = rw c.room_to_pin.ensures.content c.in-Ok.ensures.ok.placed.inside
 
 pub add_pin-requires-clause-range : goal.add_pin-requires-clause-range
 add_pin-requires-clause-range g c = placed_range _ _ _ _ _ c.in-Ok.ensures.ok.placed c.in-Ok.ensures.ok.range
 
 pub add_pin-requires-clause-rows : goal.add_pin-requires-clause-rows
-add_pin-requires-clause-rows g c = rw c.ready_to_pin.ensures.content c.in-Ok.ensures.ok.rows
+add_pin-requires-clause-rows g c = rw c.room_to_pin.ensures.content c.in-Ok-room_to_pin.ensures.rows
 
 pub add_pin-requires-clause-frames : goal.add_pin-requires-clause-frames
-add_pin-requires-clause-frames g c = rw c.ready_to_pin.ensures.content c.in-Ok.ensures.ok.frames
+add_pin-requires-clause-frames g c = rw c.room_to_pin.ensures.content c.in-Ok.ensures.ok.frames
 
 pub add_pin-requires-clause-free : goal.add_pin-requires-clause-free
-add_pin-requires-clause-free g c = rw c.ready_to_pin.ensures.pins c.requires.free
+add_pin-requires-clause-free g c = rw c.room_to_pin.ensures.pins c.requires.free
 
 pub add_pin-requires-clause-pins : goal.add_pin-requires-clause-pins
-add_pin-requires-clause-pins g c = c.in-Ok.ensures.room
+add_pin-requires-clause-pins g c = c.in-Ok-room_to_pin.ensures.room
 
 pub add_pin-requires-clause-numbers : goal.add_pin-requires-clause-numbers
 add_pin-requires-clause-numbers g c = c.requires.room
@@ -40,25 +55,29 @@ add_pin-requires-clause-koid g c = named_known _ _ c.requires.parts.1.good c.req
 pub add_pin-requires-clause-few : goal.add_pin-requires-clause-few
 add_pin-requires-clause-few g c = few_keepers (with_tables c.requires.parts.0 (g.P.Pages.content c.args.store.now) c.args.vmos.now c.args.pins.now) c.args.vmos.now _ c.requires.parts.1.counted
 
-pub returns-in-Ok-clause-step : goal.returns-in-Ok-clause-step
-returns-in-Ok-clause-step g c = λ s name named.
+pub returns-clause-step : goal.returns-clause-step
+returns-clause-step g c = λ s name named.
     let added = c.add_pin.ensures in
-    rw (added.names, added.lineage, added.pins, c.ready_to_pin.ensures.pins) (
+    rw (added.names, added.lineage, added.pins, c.room_to_pin.ensures.pins) (
     pinned_step (with_tables s (g.P.Pages.content c.args.store.now) c.args.vmos.now c.args.pins.now) c.args.pin name c.args.offset c.args.len _ named c.requires.free
-    _ _ (g.P.Pages.content c.add_pin.new.store) _ c.in-Ok.ensures.ok (rw c.ready_to_pin.ensures.content at added.owns) added.numbers
+    _ _ (g.P.Pages.content c.add_pin.new.store) _ c.in-Ok.ensures.ok (rw c.room_to_pin.ensures.content at added.owns) added.numbers
     )
 
-pub returns-in-Ok-clause-counted : goal.returns-in-Ok-clause-counted
-returns-in-Ok-clause-counted g c = λ s counted.
+pub returns-clause-counted : goal.returns-clause-counted
+returns-clause-counted g c = λ s counted.
     let added = c.add_pin.ensures in
-    rw (added.pins, c.ready_to_pin.ensures.pins) (pinned_counts s c.args.vmos.now c.add_pin.new.vmos (pins_of c.args.pins.now) c.args.pin.0 _ added.pin c.requires.free added.keepers counted)
+    rw (added.pins, c.room_to_pin.ensures.pins) (pinned_counts s c.args.vmos.now c.add_pin.new.vmos (pins_of c.args.pins.now) c.args.pin.0 _ added.pin c.requires.free added.keepers counted)
 
 pub returns-in-Err-clause-step : goal.returns-in-Err-clause-step
 returns-in-Err-clause-step g c = λ s name named.
-    rw (c.ready_to_pin.ensures.content, c.ready_to_pin.ensures.pins) (
-    unpinnable_step (with_tables s (g.P.Pages.content c.args.store.now) c.args.vmos.now c.args.pins.now) c.args.pin name c.args.offset c.args.len _ named c.requires.free _
-    c.in-Err.ensures.err
-    )
+    Step-refused (with_tables s (g.P.Pages.content c.args.store.now) c.args.vmos.now c.args.pins.now) _ _
+    (c.in-Err.ensures.refusal c.args.pin (pins_of c.args.pins.now) c.requires.free (with_tables s (g.P.Pages.content c.args.store.now) c.args.vmos.now c.args.pins.now) name named)
 
-pub returns-in-Err-clause-counted : goal.returns-in-Err-clause-counted
-returns-in-Err-clause-counted g c = λ s counted. rw c.ready_to_pin.ensures.pins counted
+pub returns-in_default-clause-step : goal.returns-in_default-clause-step
+returns-in_default-clause-step g c = λ s name named.
+    let old = with_tables s (g.P.Pages.content c.args.store.now) c.args.vmos.now c.args.pins.now in
+    rw (c.room_to_pin.ensures.content, c.room_to_pin.ensures.pins)
+    (Step-lacks old _ (sym (c.in-Ok.ensures.refusal c.args.pin (pins_of c.args.pins.now) c.requires.free old name named)) refl)
+
+pub returns-in_default-clause-counted : goal.returns-in_default-clause-counted
+returns-in_default-clause-counted g c = λ s counted. rw c.room_to_pin.ensures.pins counted

@@ -3,7 +3,7 @@ use Rattle.vm_model.specs.declared.command.Command.TheVariants.{VmoClose}
 use Rattle.vm_model.specs.declared.reply.Reply.TheVariants.{Done}
 use Rattle.vm_model.specs.Machine.State.{target_of, lineage_of}
 use Rattle.checker_vmos.specs.Vmos.{state_with_vmos}
-use Rattle.checker_vmos.proofs.RowLaws.{open_name}
+use Rattle.vmo_ops.proofs.AskLaws.{open_name}
 use Rattle.checker_vmos.proofs.DoingLaws.{done}
 use Rattle.checker_vmos.proofs.checker_vmos.CheckerVmos.close.Goals as goal
 

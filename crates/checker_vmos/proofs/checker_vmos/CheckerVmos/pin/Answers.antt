@@ -3,7 +3,7 @@ use Rattle.vm_model.specs.declared.command.Command.TheVariants.{VmoPin}
 use Rattle.vm_base.proofs.EntryLaws.{none_is}
 use Rattle.vm_model.specs.Machine.State.{target_of, lineage_of}
 use Rattle.checker_vmos.specs.Vmos.{state_with_vmos}
-use Rattle.checker_vmos.proofs.RowLaws.{rows_off_at, pin_rows}
+use Rattle.vmo_ops.proofs.AskLaws.{rows_off_at, pin_rows}
 use Rattle.checker_vmos.proofs.DoingLaws.{done, kept}
 use Rattle.checker_vmos.proofs.checker_vmos.CheckerVmos.pin.Goals as goal
 

@@ -1,12 +1,13 @@
 use Rattle.std.proofs.Common.{sym, ◌∙◌}
-use Rattle.checker_vmos.proofs.FoundLaws.{found_vmo, own_rows}
+use Rattle.checker_vmos.specs.Vmos.{state_with_vmos}
+use Rattle.checker_vmos.proofs.FoundLaws.{name_inside}
 use Rattle.checker_vmos.proofs.checker_vmos.CheckerVmos.refusal_to_own.Goals as goal
 
-pub lacks_frames-requires-clause-vmo : goal.lacks_frames-requires-clause-vmo
-lacks_frames-requires-clause-vmo c = found_vmo c.in-Ok.ensures c.requires.counted
+pub ask_to_own-requires-clause-inside : goal.ask_to_own-requires-clause-inside
+ask_to_own-requires-clause-inside c = name_inside c.args.self.now c.requires.counted c.args.name.0 _ (sym c.requires.named ∙ c.in-Some.is)
 
-pub returns-then-lacks_frames : goal.returns-then-lacks_frames
-returns-then-lacks_frames c = λ s. sym (own_rows c.in-Ok.ensures s _ (sym c.if-lacks_frames.true ∙ c.lacks_frames.ensures))
+pub returns-in-Ok : goal.returns-in-Ok
+returns-in-Ok c = λ s. c.in-Ok.ensures.refusal (state_with_vmos s c.args.self.now) c.args.name (sym c.requires.named ∙ c.in-Some.is)
 
-pub returns : goal.returns
-returns c = λ s. sym (own_rows c.in-Ok.ensures s _ (sym c.if-lacks_frames.false ∙ c.lacks_frames.ensures))
+pub returns-in-Err : goal.returns-in-Err
+returns-in-Err c = λ s. c.in-Err.ensures.refusal (state_with_vmos s c.args.self.now) c.args.name (sym c.requires.named ∙ c.in-Some.is)

@@ -1,15 +1,13 @@
-use Rattle.std.proofs.Common.{sym, true, false, arith}
-use Rattle.std.proofs.lemmas.Bool.{lt-ltb, le-ltb}
-use Rattle.checker_vmos.proofs.FoundLaws.{found_vmo, zero_rows}
+use Rattle.std.proofs.Common.{sym, ◌∙◌}
+use Rattle.checker_vmos.specs.Vmos.{state_with_vmos}
+use Rattle.checker_vmos.proofs.FoundLaws.{name_inside}
 use Rattle.checker_vmos.proofs.checker_vmos.CheckerVmos.refusal_to_zero.Goals as goal
 
-pub cost_to_zero-cost-requires-clause-vmo : goal.cost_to_zero-cost-requires-clause-vmo
-cost_to_zero-cost-requires-clause-vmo c = found_vmo c.in-Ok.ensures c.requires.counted
+pub ask_to_zero-requires-clause-inside : goal.ask_to_zero-requires-clause-inside
+ask_to_zero-requires-clause-inside c = name_inside c.args.self.now c.requires.counted c.args.name.0 _ (sym c.requires.named ∙ c.in-Some.is)
 
-pub returns-then-cost-from : goal.returns-then-cost-from
-returns-then-cost-from c = λ s.
-    sym (zero_rows c.in-Ok.ensures s true (sym (lt-ltb _ _ (omega (arith, c.cost_to_zero-cost.ensures.owned, c.free.ensures, c.from.ensures, c.if-cost-from.true)))))
+pub returns-in-Ok : goal.returns-in-Ok
+returns-in-Ok c = λ s. c.in-Ok.ensures.0 (state_with_vmos s c.args.self.now) c.args.name (sym c.requires.named ∙ c.in-Some.is)
 
-pub returns : goal.returns
-returns c = λ s.
-    sym (zero_rows c.in-Ok.ensures s false (sym (le-ltb _ _ (omega (arith, c.cost_to_zero-cost.ensures.owned, c.free.ensures, c.from.ensures, c.if-cost-from.false)))))
+pub returns-in-Err : goal.returns-in-Err
+returns-in-Err c = λ s. c.in-Err.ensures (state_with_vmos s c.args.self.now) c.args.name (sym c.requires.named ∙ c.in-Some.is)

@@ -1,5 +1,5 @@
--- Which row of the refusals of a command is first.
-use Rattle.std.proofs.Common.{◌≡◌, ℕ, ◌+◌, ◌*◌, ◌/◌, ◌%◌, ◌==◌, ◌&&◌, ◌||◌, Bool, true, false, not, cond, List, [], ◌∷◌, Option, None, Some, length, refl, sym, ap, subst, ◌∙◌, arith}
+-- Which row of the refusals of a command is first, and what follows from it.
+use Rattle.std.proofs.Common.{◌≡◌, ℕ, ◌+◌, ◌*◌, ◌/◌, ◌%◌, ◌==◌, ◌&&◌, ◌||◌, ◌<◌, ◌≤◌, Bool, true, false, not, cond, List, [], ◌∷◌, Option, None, Some, length, refl, sym, ap, subst, ◌∙◌, inl, inr, arith}
 use Rattle.std.specs.Prelude.{nat_lt, is_some, IsSome, IfSome}
 use Rattle.vm_base.specs.Pages.{rounded}
 use Rattle.vm_base.specs.declared.limits.TheConstants.{PAGE, VMO_PAGES, PIN_PAGES, DATA_BYTES}
@@ -14,7 +14,7 @@ use Rattle.vm_model.specs.Naming.Names.{is_kind, may_decommit}
 use Rattle.vm_model.specs.Naming.Pins.{any_pinned}
 use Rattle.vm_model.specs.Machine.State.{State, is_open, target_of, name_pages, lineage_of}
 use Rattle.vm_model.specs.Machine.Refusals.{first_of}
-use Rattle.vm_model.specs.declared.command.Command.TheVariants.{VmoChild}
+use Rattle.vm_model.specs.declared.command.Command.TheVariants.{VmoChild, VmoCreate}
 use Rattle.vm_model.specs.declared.command.ChildKind.TheVariants.{Snapshot}
 use Rattle.vm_base.specs.declared.names.VmoName.{VmoName}
 use Rattle.vm_base.proofs.EntryLaws.{some_is}
@@ -24,9 +24,14 @@ use Rattle.vm_model.specs.Naming.Pins.{Pin, is_pinned}
 use Rattle.vm_model.specs.Machine.Refusals.{refusals}
 use Rattle.vm_model.proofs.NamesLaws.{target_of-at, lineage_of-at}
 use Rattle.vm_model.proofs.StepLaws.{AllOff, AllOff-from_none}
-use Rattle.vmo_ops.specs.inside.Copies.{copies_of}
+use Rattle.vmo_ops.specs.inside.Copies.{copies_of, IsSeenPart}
+use Rattle.vmo_ops.specs.declared.snapshots.SeenPart.{SeenPart}
+use Rattle.vm_model.specs.declared.command.Command.{Command}
+use Rattle.vm_model.specs.declared.reply.Reply.TheVariants.{Refused}
+use Rattle.vm_model.specs.Machine.Step.{Step, StepAfter}
+use Rattle.vmo_ops.specs.Targets.{IsBarred}
 use Rattle.vmo_ops.proofs.CopyRows.{IsAsked, rows-are, copies-all}
-use Rattle.std.proofs.lemmas.Bool.{and_parts, eqb-true, not-false}
+use Rattle.std.proofs.lemmas.Bool.{and_parts, eqb-true, not-false, lt-ltb, le-ltb}
 
 -- a row whose condition holds is first, and one whose condition does not hold is passed over
 pub hit : (a : Bool) (r : Refusal) (rest : Option Refusal) → a ≡ true → Some r ≡ cond a (Some r) rest
@@ -41,7 +46,55 @@ pub by_name : (s : State) (name : ℕ) (target : Target) → s.names name ≡ So
 by_name s name target named rows answer e =
     skip _ _ _ _ (ap (λ (o : Option Target). not (is_some o)) named) (e ∙ ap (λ (t : Target). first_of (rows t)) (sym (target_of-at s name target named)))
 
+-- a command that is refused changes nothing
+pub Step-refused : (old : State) (command : Command) (refusal : Refusal) → Some refusal ≡ first_of (refusals old command) → Step old command (Refused refusal) old
+Step-refused old command refusal is = record { outcome = subst (λ (o : Option Refusal). StepAfter o old command (Refused refusal) old) is (record { answer = refl; same = refl }) }
+
 -- ---- the rows of each command
+
+-- of making a VMO under a name that is not open
+module _ (s : State) (name : VmoName) (size : ℕ) (resizable : Bool) (closed : s.names name.0 ≡ None) where
+  pub create_refused : VMO_PAGES * PAGE < rounded size → Some OutOfRange ≡ first_of (refusals s (VmoCreate name size resizable))
+  create_refused past = skip (is_open s name.0) NameInUse _ (Some OutOfRange) (ap is_some closed) (hit (nat_lt (VMO_PAGES * PAGE) (rounded size)) OutOfRange None (lt-ltb (VMO_PAGES * PAGE) (rounded size) past))
+
+  pub create_fits : rounded size ≤ VMO_PAGES * PAGE → None ≡ first_of (refusals s (VmoCreate name size resizable))
+  create_fits within = skip (is_open s name.0) NameInUse _ None (ap is_some closed) (skip (nat_lt (VMO_PAGES * PAGE) (rounded size)) OutOfRange None None (le-ltb (VMO_PAGES * PAGE) (rounded size) within) refl)
+
+-- of a change to a range, which owns these pages of what the name stands for
+abbrev pub change_rows : State → (offset len : ℕ) → (Target → List ℕ) → Target → List (Bool × Refusal)
+change_rows s offset len owned t =
+    (not t.may_write, AccessDenied)
+    ∷ (nat_lt (name_pages s.content t * PAGE) (offset + len), OutOfRange)
+    ∷ (nat_lt s.content.frames (used s.content + need s.content t.koid.0 (owned t)), NoMemory)
+    ∷ []
+
+module _ (s : State) (name : ℕ) (t : Target) (named : s.names name ≡ Some t) (offset len : ℕ) (owned : Target → List ℕ) where
+  abbrev all_rows : List (Bool × Refusal)
+  all_rows = (not (is_open s name), BadHandle) ∷ change_rows s offset len owned (target_of s name)
+
+  -- refused by the name or the range
+  pub change_barred : (refusal : Refusal) → IsBarred s.content t offset len refusal → Some refusal ≡ first_of all_rows
+  change_barred refusal is = by_name s name t named (change_rows s offset len owned) (Some refusal) (elim is [
+    | inl denied ↦ rw denied.0 (hit _ _ _ (ap not denied.1))
+    | inr past ↦ rw past.0 (skip _ _ _ _ (ap not past.1) (hit _ _ _ (lt-ltb _ _ past.2)))
+  ])
+
+  module _ (may : t.may_write ≡ true) (range : offset + len ≤ name_pages s.content t * PAGE) (ps : List ℕ) (are : owned t ≡ ps) where
+    abbrev is_lacking : Bool
+    is_lacking = nat_lt s.content.frames (used s.content + need s.content t.koid.0 (owned t))
+
+    lacking : (b : Bool) → nat_lt s.content.frames (used s.content + need s.content t.koid.0 ps) ≡ b → is_lacking ≡ b
+    lacking b e = ap (λ (qs : List ℕ). nat_lt s.content.frames (used s.content + need s.content t.koid.0 qs)) are ∙ e
+
+    -- refused for want of frames
+    pub change_lacks : s.content.frames < used s.content + need s.content t.koid.0 ps → Some NoMemory ≡ first_of all_rows
+    change_lacks less = by_name s name t named (change_rows s offset len owned) (Some NoMemory)
+        (skip _ _ _ _ (ap not may) (skip _ _ _ _ (le-ltb _ _ range) (hit _ _ _ (lacking true (lt-ltb _ _ less)))))
+
+    -- not refused
+    pub change_fits : used s.content + need s.content t.koid.0 ps ≤ s.content.frames → None ≡ first_of all_rows
+    change_fits enough = by_name s name t named (change_rows s offset len owned) None
+        (skip _ _ _ _ (ap not may) (skip _ _ _ _ (le-ltb _ _ range) (skip _ _ _ _ (lacking false (le-ltb _ _ enough)) refl)))
 
 abbrev pub decommit_rows : State → (offset len : ℕ) → Target → List (Bool × Refusal)
 decommit_rows s offset len t =
@@ -72,13 +125,6 @@ pin_rows s pin offset len t =
     ∷ (not (offset % PAGE == 0 && len % PAGE == 0) || (len == 0 || nat_lt (PIN_PAGES * PAGE) len), InvalidArgs)
     ∷ (nat_lt (name_pages s.content t * PAGE) (offset + len), OutOfRange)
     ∷ (nat_lt s.content.frames (used s.content + need s.content t.koid.0 (touched (t.first * PAGE + offset) len)), NoMemory)
-    ∷ []
-
-abbrev pub slice_rows : State → (name offset size : ℕ) (resizable : Bool) → Target → List (Bool × Refusal)
-slice_rows s name offset size resizable t =
-    (is_open s name, NameInUse)
-    ∷ (not (offset % PAGE == 0) || (resizable || nat_lt (name_pages s.content t * PAGE) (offset + rounded size)), InvalidArgs)
-    ∷ ((lineage_of s t.koid.0).resizable, NotSupported)
     ∷ []
 
 abbrev pub reference_rows : State → (name offset size : ℕ) (resizable no_write : Bool) → Target → List (Bool × Refusal)
@@ -134,3 +180,10 @@ open_name s name rows none = not-false (is_open s name) (AllOff-from_none ((not 
 pub rows_off_at : (s : State) (name : ℕ) (target : Target) → s.names name ≡ Some target → (rows : Target → List (Bool × Refusal))
     → first_of ((not (is_open s name), BadHandle) ∷ rows (target_of s name)) ≡ None → AllOff (rows target)
 rows_off_at s name target named rows none = AllOff-from_none (rows target) (by_name s name target named rows (first_of (rows target)) refl ∙ none)
+
+-- ---- a snapshot that is asked for, by what it was found to see
+
+pub asked-of : {s : State} {name parent : VmoName} {t : Target} {offset size : ℕ} {resizable no_write : Bool} {part : SeenPart}
+    → IsSeenPart s.content (is_pinned s.pins t.koid.0) t offset size resizable no_write part → s.names parent.0 ≡ Some t → s.names name.0 ≡ None
+    → IsAsked s name parent t offset size resizable no_write part.first part.seen
+asked-of is named closed = record { named = named; closed = closed; asked = is.asked; few = is.few; sees = is.sees; at = is.at }

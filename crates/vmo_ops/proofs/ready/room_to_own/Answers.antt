@@ -1,0 +1,14 @@
+use Rattle.std.proofs.Common.{inl, inr, arith}
+use Rattle.vmo_ops.proofs.ready.room_to_own.Goals as goal
+
+pub returns-then-range-eq0-clause-rows : goal.returns-then-range-eq0-clause-rows
+returns-then-range-eq0-clause-rows g c = elim c.requires.rows [
+  | inl none ↦ inl none
+  | inr many ↦ inr (omega (arith, many, c.if-range-eq0.true))
+]
+
+pub returns-in-Ok-clause-rows : goal.returns-in-Ok-clause-rows
+returns-in-Ok-clause-rows g c = elim c.requires.rows [
+  | inl none ↦ inl none
+  | inr many ↦ inr (omega (arith, many, c.in-Ok.ensures.room))
+]

@@ -1,0 +1,16 @@
+use Rattle.std.proofs.Common.{◌-◌, inr, arith}
+use Rattle.std.proofs.lemmas.List.FromFn.{length-range_with_len}
+use Rattle.vmo_ops.proofs.NeedLaws.{need-most}
+use Rattle.vmo_ops.proofs.ready.rows_to_own.Goals as goal
+
+pub returns-then-are_ample-clause-some : goal.returns-then-are_ample-clause-some
+returns-then-are_ample-clause-some g c =
+    let pages = c.touched_pages-first.result in
+    rw c.touched_pages-first.ensures.pages (
+      inr (rw length-range_with_len (omega arith)),
+      omega (
+        arith,
+        c.are_ample.ensures c.if-are_ample.true,
+        need-most (g.P.Pages.content c.args.store.now) c.args.v.0 pages.0 (pages.1 - pages.0),
+      ),
+    )
