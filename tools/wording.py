@@ -77,6 +77,24 @@ def say(tool, words):
     print(f"{tool}: {words}", file=sys.stderr, flush=True)
 
 
+def stop_of(error):
+    """Returns what stopped a test, in one line, with the last line of the test's file at which that was."""
+    last = error.__traceback__.tb_next or error.__traceback__
+    while last.tb_next and last.tb_next.tb_frame.f_code.co_filename == last.tb_frame.f_code.co_filename:
+        last = last.tb_next
+    return f"line {last.tb_lineno}, {type(error).__name__}: {str(error).splitlines()[0] if str(error) else 'no words'}"
+
+
+def tried(failures, test, *words):
+    """Runs a test, and returns what it returns. What stops it goes to the failures, so that those before are told too, and the next
+    test runs."""
+    try:
+        return test(*words)
+    except Exception as error:
+        failures.append(f"{test.__name__} is stopped: {stop_of(error)}")
+        return None
+
+
 def run_tool(tool, main):
     """Runs a tool on the words of its command line, and ends with the status that it returns, or with that of a trouble."""
     try:
