@@ -14,6 +14,7 @@ use line_server::{Interpreter, push_syntax};
 use page_store::PageStore;
 use script_io::Sink;
 use std::alloc::Global;
+use std::marker::Model;
 use vm_base::{DATA_BYTES, Failed, KOIDS, PIN_PAGES, TEXT_ROOM};
 
 /// Room for the data of one line, made once for a whole script, so that no command and no reply moves its own. Each line
@@ -30,22 +31,33 @@ struct LineRoom {
     reply: [u8; TEXT_ROOM],
 }
 
-/// A machine with jobs, and the room for the data of a line that it answers.
+/// A machine with jobs that answers the lines of a script, and the room for the data of a line. Clauses see the parts of the machine and
+/// the jobs.
 #[derive(Drop)]
-pub(crate) struct BatchInterpreter {
+pub struct BatchInterpreter {
     batch: Batch,
     room: LineRoom,
 }
 
+impl Model for BatchInterpreter {
+    ghost use Rattle.batch_vm.specs.Batch.{BatchParts};
+
+    ghost Value = { BatchParts };
+
+    ghost view = { λ x. x.batch };
+}
+
 impl BatchInterpreter {
-    ghost use Rattle.std.specs.Prelude.{◌≡◌};
-    ghost use Rattle.vm_model.specs.Contents.Content.{Content, HasNoVmo};
+    ghost use Rattle.std.specs.Prelude.{◌≡◌, ℕ};
+    ghost use Rattle.vm_model.specs.Contents.Content.{nothing};
     ghost use Rattle.batch_model.specs.Batch.{empty_batch};
 
-    /// Makes a machine with no jobs and nothing else.
-    pub(crate) fn new(alloc: Global) -> BatchInterpreter
-        ensures agrees { (c : Content) → HasNoVmo c → 1 ≤ c.next → AgreesBatch c result.batch }
-        ensures empty { (c : Content) → HasNoVmo c → c.next ≡ 1 → batch_of c result.batch ≡ empty_batch c.frames }
+    /// Makes a machine with no jobs and nothing else. Over a store with nothing but page frames it is the empty machine with jobs, which
+    /// is good.
+    pub fn new(alloc: Global) -> BatchInterpreter
+        ensures agrees { (frames : ℕ) → AgreesBatch (record nothing { frames = frames }) result }
+        ensures empty { (frames : ℕ) → batch_of (record nothing { frames = frames }) result ≡ empty_batch frames }
+        ensures good { (frames : ℕ) → IsGoodBatch (empty_batch frames) }
     {
         BatchInterpreter {
             batch: Batch::new(alloc),
@@ -68,9 +80,9 @@ impl<P: PageStore> Interpreter<P> for BatchInterpreter {
 
     ghost rules = { batch_rules };
 
-    ghost state = { λ x c. batch_of c x.batch };
+    ghost state = { λ x c. batch_of c x };
 
-    ghost Agrees = { λ x c. AgreesBatch c x.batch };
+    ghost Agrees = { λ x c. AgreesBatch c x };
 
     fn answer_line<K: Sink>(
         &mut self,
