@@ -54,7 +54,14 @@ impl<P: PageStore> HeldVm<P> {
         requires empty { P.content store ≡ nothing }
         ensures machine { IfOk result (λ h. held_machine P.content h ≡ empty_machine frames) }
     {
-        HeldVm::hold(alloc, frames, store, VmInterpreter::new(alloc))
+        let mut store = store;
+        store.fill(frames)?;
+        // By no call of `hold`: with the interpreter handed to it, the drop of each of its tables would be proved here.
+        Ok(HeldVm {
+            interpreter: VmInterpreter::new(alloc),
+            store,
+            reply: BoundedSink::new(alloc),
+        })
     }
 }
 

@@ -1,15 +1,14 @@
-use Rattle.std.proofs.Common.{refl, arith}
+use Rattle.std.proofs.Common.{sym, subst, arith}
+use Rattle.vm_model.specs.Machine.Machine.{IsGoodMachine}
 use Rattle.vm_model.proofs.MachineLaws.{IsGoodMachine-empty}
 use Rattle.vm_core.proofs.StartLaws.{filled_fresh, machine_of-filled}
 use Rattle.held_vm.proofs.held.HeldVm+P.new.Goals as goal
 
-pub hold-requires-clause-agrees : goal.hold-requires-clause-agrees
-hold-requires-clause-agrees g c =
-    let fresh = filled_fresh c.args.frames _ _ refl refl in
-    c.new.ensures.agrees _ fresh.0 (omega (arith, fresh.1))
+pub invariant_of-result : goal.invariant_of-result
+invariant_of-result g c =
+    let fresh = filled_fresh c.args.frames _ _ c.in_ok-fill.ensures.ok c.requires.empty in
+    let is = machine_of-filled c.args.frames _ _ c.new.result c.new.ensures.bare c.in_ok-fill.ensures.ok c.requires.empty in
+    record { agrees = c.new.ensures.agrees _ fresh.0 (omega (arith, fresh.1)); good = subst IsGoodMachine (sym is) (IsGoodMachine-empty c.args.frames) }
 
-pub hold-requires-clause-start : goal.hold-requires-clause-start
-hold-requires-clause-start g c = machine_of-filled c.args.frames _ _ c.new.result c.new.ensures.bare refl refl
-
-pub hold-requires-clause-good : goal.hold-requires-clause-good
-hold-requires-clause-good g c = IsGoodMachine-empty c.args.frames
+pub returns : goal.returns
+returns g c = record { machine = machine_of-filled c.args.frames _ _ c.new.result c.new.ensures.bare c.in_ok-fill.ensures.ok c.requires.empty }
