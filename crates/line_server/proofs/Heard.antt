@@ -1,33 +1,17 @@
 -- Lines that a machine answers.
 use Rattle.std.proofs.Common.{◌≡◌, ℕ, ◌≤◌, inl, inr, List, [], ◌∷◌, ◌++◌, take, Option, Result, Ok, Err, refl, sym, ap, subst, take_all, arith}
-use Rattle.std.specs.Prelude.{MatchResult}
 use Rattle.std.specs.Io.KnownBytes.{Appends}
 use Rattle.std.proofs.KnownBytes.{Appends-nil, Appends-trans}
 use Rattle.script_io.specs.declared.status.Status.{Status}
 use Rattle.script_io.specs.declared.status.Status.TheVariants.{Done, Usage, HostMemory, ReadFault, WriteFault, ScriptLimit}
-use Rattle.script_io.specs.Faults.{HasFailed, HasCause}
+use Rattle.script_io.specs.Faults.{HasFailed}
 use Rattle.vm_model.specs.Contents.Content.{Content}
 use Rattle.vm_model.specs.Scripts.Run.{lines_of, whole_lines}
 use Rattle.line_server.specs.Answering.{Answering, AnsweringRun}
-use Rattle.line_server.specs.Outcome.{AnswersLine, AnswersAll, AnswersPart, EndsAs}
+use Rattle.line_server.specs.Outcome.{AnswersAll, AnswersPart, EndsAs}
 use Rattle.line_server.specs.Reading.{TakesAll, TakesPart, ReadsAs}
-use Rattle.line_server.specs.Serving.{Heard, HearsLine, answering, served_as}
+use Rattle.line_server.specs.Serving.{Heard, answering, served_as}
 use Rattle.line_server.proofs.Beginning.{HasFailed-earlier}
-
--- the line was answered, whether or not the sink failed
-pub hears : {S T E : Type 0} (m : Answering S) (line : List ℕ) (old new : Heard S) (result : Result T E) →
-    AnswersLine m line old.machine new.machine old.taken new.taken result → m.IsGood new.machine → HasCause old.faults new.faults result →
-    MatchResult result (λ x. HearsLine {T = Unit {0}} {E = Unit {0}} m line old new (Ok tt)) (λ x. HearsLine {T = Unit {0}} {E = Unit {0}} m line old new (Err tt))
-hears m line old new (Ok x) answer good cause = record {
-  answer = record { text = answer.text; gives = answer.gives; written = answer.written };
-  good = good;
-  cause = record { later = cause.later; failed = tt };
-}
-hears m line old new (Err x) answer good cause = record {
-  answer = record { text = answer.text; gives = answer.gives; written = answer.written };
-  good = good;
-  cause = record { later = cause.later; failed = cause.failed };
-}
 
 module _ {S : Type 0} (m : Answering S) where
   -- what the lines lead to
