@@ -3,7 +3,7 @@
 ghost use Rattle.std.specs.Prelude.{◌≡◌, ◌+◌, ◌<◌, ◌≤◌, length, None};
 ghost use Rattle.vm_base.specs.declared.limits.TheConstants.{DATA_BYTES, KOIDS, PIN_PAGES};
 
-use crate::beginning::begin;
+use crate::beginning::{JobRequest, begin};
 use crate::job_table::JobTable;
 use crate::stepping::{do_piece, drop_job};
 use batch_model::{BatchAnswer, BatchCall, BatchCommand, BatchReply};
@@ -99,18 +99,16 @@ impl Batch {
                 name,
                 offset,
                 len,
-            } => begin(
-                store,
-                &mut self.vm,
-                &mut self.jobs,
-                *job,
-                *kind,
-                *name,
-                *offset,
-                *len,
-                bytes,
-                numbers,
-            ),
+            } => {
+                let request = JobRequest {
+                    job: *job,
+                    kind: *kind,
+                    name: *name,
+                    offset: *offset,
+                    len: *len,
+                };
+                begin(store, &mut self.vm, &mut self.jobs, request, bytes, numbers)
+            }
             BatchCall::Step { job, pages } => {
                 do_piece(
                     store,

@@ -71,32 +71,35 @@ fn begin_refusal(is_there: bool, offset: u64, len: u64, size: u64) -> Option<Ref
     None
 }
 
+/// A job that is asked for, on `len` bytes of what a name stands for, from an offset in bytes on.
+#[derive(Clone, Copy, Debug)]
+pub struct JobRequest {
+    pub job: JobName,
+    pub kind: JobKind,
+    pub name: VmoName,
+    pub offset: u64,
+    pub len: u64,
+}
+
 /// Begins a job on a name that is open and has this size in bytes.
-fn begin_open(
-    table: &mut JobTable,
-    job: JobName,
-    kind: JobKind,
-    name: VmoName,
-    offset: u64,
-    len: u64,
-    size: u64,
-) -> BatchAnswer<'static>
-    ensures { (m : Machine) → is_open m.state name.0 ≡ true → size ≡ size_of m.state name.0 →
-        BatchStep (record { machine = m; jobs = jobs_of table.old }) (BatchCommand.Begin job kind name offset len)
+fn begin_open(table: &mut JobTable, request: JobRequest, size: u64) -> BatchAnswer<'static>
+    ensures { (m : Machine) → is_open m.state request.name.0 ≡ true → size ≡ size_of m.state request.name.0 →
+        BatchStep (record { machine = m; jobs = jobs_of table.old })
+        (BatchCommand.Begin request.job request.kind request.name request.offset request.len)
         (batch_reply_for result) (record { machine = m; jobs = jobs_of table.new }) }
 {
-    let is_there = table.find(job).is_some();
-    if let Some(refusal) = begin_refusal(is_there, offset, len, size) {
+    let is_there = table.find(request.job).is_some();
+    if let Some(refusal) = begin_refusal(is_there, request.offset, request.len, size) {
         return BatchAnswer::Plain(Answer::Refused(refusal));
     }
     let begun = Job {
-        kind,
-        name,
-        next: offset,
-        end: offset + len,
+        kind: request.kind,
+        name: request.name,
+        next: request.offset,
+        end: request.offset + request.len,
     };
-    match table.add(job, begun) {
-        Ok(()) => BatchAnswer::Left(len / PAGE),
+    match table.add(request.job, begun) {
+        Ok(()) => BatchAnswer::Left(request.len / PAGE),
         Err(_) => BatchAnswer::Plain(Answer::Refused(Refusal::HostMemory)),
     }
 }
@@ -106,11 +109,7 @@ pub fn begin<P: PageStore>(
     store: &mut P,
     vm: &mut Vm,
     table: &mut JobTable,
-    job: JobName,
-    kind: JobKind,
-    name: VmoName,
-    offset: u64,
-    len: u64,
+    request: JobRequest,
     bytes: &mut [u8],
     numbers: &mut [u64],
 ) -> BatchAnswer<'static>
@@ -118,11 +117,12 @@ pub fn begin<P: PageStore>(
     requires next { (P.content store.old).next < KOIDS }
     requires bytes { DATA_BYTES ≤ length bytes.old }
     requires numbers { PIN_PAGES ≤ length numbers.old }
-    ensures { DoesBatch (P.content store.old) (record { vm = vm.old; jobs = table.old }) (BatchCommand.Begin job kind name offset len)
+    ensures { DoesBatch (P.content store.old) (record { vm = vm.old; jobs = table.old })
+        (BatchCommand.Begin request.job request.kind request.name request.offset request.len)
         (batch_reply_for result) (P.content store.new) (record { vm = vm.new; jobs = table.new }) }
 {
-    let Some(size) = size_of(store, vm, name, bytes, numbers) else {
+    let Some(size) = size_of(store, vm, request.name, bytes, numbers) else {
         return BatchAnswer::Plain(Answer::Refused(Refusal::BadHandle));
     };
-    begin_open(table, job, kind, name, offset, len, size)
+    begin_open(table, request, size)
 }

@@ -13,7 +13,7 @@ returns g c =
     let told = c.in-Some.ensures.size in
     let step = c.begin_open.ensures old told.0 told.1 in
     record {
-      step = subst (λ (m : Machine). BatchStep (record { machine = old; jobs = jobs_of c.args.table.now }) (Begin c.args.job c.args.kind c.args.name c.args.offset c.args.len)
+      step = subst (λ (m : Machine). BatchStep (record { machine = old; jobs = jobs_of c.args.table.now }) (Begin c.args.request.job c.args.request.kind c.args.request.name c.args.request.offset c.args.request.len)
           (batch_reply_for c.begin_open.result) (record { machine = m; jobs = jobs_of c.begin_open.new.table })) (sym c.size_of.ensures.same) step;
       agrees = c.size_of.ensures.agrees;
       good = c.size_of.ensures.good;
