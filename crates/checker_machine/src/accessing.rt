@@ -22,8 +22,9 @@ use checker_access::{
 use checker_ready::ReadyMap;
 use checker_vmos::CheckerVmos;
 use mapping_set::MappingSet;
+use region_ops::RegionRange;
 use region_tree::Regions;
-use vm_base::{HostMemory, Refusal, RegionName};
+use vm_base::{HostMemory, Refusal};
 use vm_model::{Answer, Call, LentBytes};
 
 /// Returns what refuses an access.
@@ -90,9 +91,14 @@ pub(crate) fn on_memory<'a>(
         vmos.new (spaces_of (regions_of regions.now) (table_of maps.now)) (rows_of ready.new)) }
 {
     match call {
-        Call::MemRead { region, addr, len } => mem_read(
-            vmos, regions, maps, ready, *region, *addr, *len, bytes,
-        ),
+        Call::MemRead { region, addr, len } => {
+            let range = RegionRange {
+                region: *region,
+                addr: *addr,
+                len: *len,
+            };
+            mem_read(vmos, regions, maps, ready, range, bytes)
+        }
         Call::MemWrite {
             region,
             addr,
@@ -112,29 +118,28 @@ pub(crate) fn on_memory<'a>(
     }
 }
 
-// Reads `len` bytes from an address on through the mappings of an address space.
+// Reads the bytes of a range through the mappings of an address space.
 fn mem_read<'a>(
     vmos: &CheckerVmos,
     regions: &Regions,
     maps: &MappingSet,
     ready: &mut ReadyMap,
-    region: RegionName,
-    addr: u64,
-    len: u64,
+    range: RegionRange,
     room: &'a mut [u8],
 ) -> Result<Answer<'a>, HostMemory>
     requires sound { AreSound vmos.now (spaces_of (regions_of regions.now) (table_of maps.now)) (rows_of ready.old) }
-    requires may { MayDoAll vmos.now (spaces_of (regions_of regions.now) (table_of maps.now)) (Command.MemRead region addr len) }
+    requires may { MayDoAll vmos.now (spaces_of (regions_of regions.now) (table_of maps.now))
+        (Command.MemRead range.region range.addr range.len) }
     requires room { DATA_BYTES ≤ length room.old }
     ensures { MatchResult result
         (λ answer. Acts vmos.now (spaces_of (regions_of regions.now) (table_of maps.now)) (rows_of ready.old)
-        (Command.MemRead region addr len) (reply_for answer)
+        (Command.MemRead range.region range.addr range.len) (reply_for answer)
         vmos.now (spaces_of (regions_of regions.now) (table_of maps.now)) (rows_of ready.new))
         (λ lack. AreAllKept vmos.now (spaces_of (regions_of regions.now) (table_of maps.now)) (rows_of ready.old)
         vmos.now (spaces_of (regions_of regions.now) (table_of maps.now)) (rows_of ready.new)) }
 {
-    let out = &mut room[..len as usize];
-    match checker_access::read(&vmos.pages, maps, ready, region, addr, out) {
+    let out = &mut room[..range.len as usize];
+    match checker_access::read(&vmos.pages, maps, ready, range.region, range.addr, out) {
         Ok(faults) => Ok(Answer::Access {
             faults,
             bytes: LentBytes::new(out),

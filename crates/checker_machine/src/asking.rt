@@ -22,6 +22,7 @@ use crate::asking_spaces::{
 use crate::groups::{Group, group_of};
 use checker_vmos::CheckerVmos;
 use mapping_set::MappingSet;
+use region_ops::{AllocateRequest, MapRequest, RegionRange};
 use region_tree::Regions;
 use vm_base::{Refusal, VmoName};
 use vm_model::{Call, ChildKind, Target};
@@ -152,9 +153,16 @@ fn refusal_in_region(
             len,
             flags,
             caps,
-        } => refusal_to_allocate(
-            regions, maps, *region, *parent, *offset, *len, *flags, *caps,
-        ),
+        } => {
+            let request = AllocateRequest {
+                parent: *parent,
+                offset: *offset,
+                len: *len,
+                flags: *flags,
+                caps: *caps,
+            };
+            refusal_to_allocate(regions, maps, *region, request)
+        }
         Call::VmarMap {
             region,
             offset,
@@ -163,26 +171,39 @@ fn refusal_in_region(
             len,
             perm,
             flags,
-        } => refusal_to_map(
-            &vmos.pages,
-            &vmos.vmos,
-            regions,
-            maps,
-            *region,
-            *offset,
-            *name,
-            *vmo_offset,
-            *len,
-            *perm,
-            *flags,
-        ),
-        Call::VmarUnmap { region, addr, len } => refusal_to_unmap(regions, *region, *addr, *len),
+        } => {
+            let request = MapRequest {
+                region: *region,
+                offset: *offset,
+                mapped: *name,
+                vmo_offset: *vmo_offset,
+                len: *len,
+                perm: *perm,
+                flags: *flags,
+            };
+            refusal_to_map(&vmos.pages, &vmos.vmos, regions, maps, request)
+        }
+        Call::VmarUnmap { region, addr, len } => {
+            let range = RegionRange {
+                region: *region,
+                addr: *addr,
+                len: *len,
+            };
+            refusal_to_unmap(regions, range)
+        }
         Call::VmarProtect {
             region,
             addr,
             len,
             perm,
-        } => refusal_to_protect(regions, maps, *region, *addr, *len, *perm),
+        } => {
+            let range = RegionRange {
+                region: *region,
+                addr: *addr,
+                len: *len,
+            };
+            refusal_to_protect(regions, maps, range, *perm)
+        }
         Call::VmarDestroy { region } => refusal_by_region(regions, *region),
         _ => unreachable!(),
     }

@@ -12,9 +12,12 @@ ghost use Rattle.checker_pages.specs.Eager.{eager_content};
 
 use checker_pages::CheckerPages;
 use mapping_set::MappingSet;
-use region_ops::{ask_for_region, ask_to_allocate, ask_to_map, ask_to_protect, ask_to_unmap};
+use region_ops::{
+    AllocateRequest, MapRequest, RegionRange, SearchedRegion, ask_for_region, ask_to_allocate,
+    ask_to_map, ask_to_protect, ask_to_unmap,
+};
 use region_tree::Regions;
-use vm_base::{MapFlags, Perm, Refusal, RegionName, VmoName};
+use vm_base::{Perm, Refusal, RegionName, VmoName};
 use vmo_table::VmoTable;
 
 /// Returns the refusal to create a root region under a name: `NameInUse` if the name was ever given.
@@ -52,17 +55,13 @@ pub(crate) fn refusal_to_allocate(
     regions: &Regions,
     maps: &MappingSet,
     name: RegionName,
-    parent: RegionName,
-    offset: u64,
-    len: u64,
-    flags: MapFlags,
-    caps: Perm,
+    request: AllocateRequest,
 ) -> Option<Refusal>
     requires { AreNoted (regions_of regions.now) (places_of maps.now) }
     ensures { IsRefusalOf (spaces_of (regions_of regions.now) (table_of maps.now))
-        (Command.VmarAllocate name parent offset len flags caps) result }
+        (Command.VmarAllocate name request.parent request.offset request.len request.flags request.caps) result }
 {
-    let Some(above) = regions.get(parent) else {
+    let Some(above) = regions.get(request.parent) else {
         return Some(Refusal::BadHandle);
     };
     if regions.get(name).is_some() {
@@ -71,7 +70,11 @@ pub(crate) fn refusal_to_allocate(
     if !above.live {
         return Some(Refusal::BadState);
     }
-    match ask_to_allocate(regions, maps, parent, above, offset, len, flags, caps, true) {
+    let searched = SearchedRegion {
+        region: above,
+        noted: true,
+    };
+    match ask_to_allocate(regions, maps, searched, request) {
         Ok(_) => None,
         Err(refusal) => Some(refusal),
     }
@@ -88,30 +91,27 @@ pub(crate) fn refusal_to_map(
     vmos: &VmoTable,
     regions: &Regions,
     maps: &MappingSet,
-    region: RegionName,
-    offset: u64,
-    name: VmoName,
-    vmo_offset: u64,
-    len: u64,
-    perm: Perm,
-    flags: MapFlags,
+    request: MapRequest<VmoName>,
 ) -> Option<Refusal>
     requires well { AreAllWell (eager_content pages.now) vmos.now (spaces_of (regions_of regions.now) (table_of maps.now)) }
     requires noted { AreNoted (regions_of regions.now) (places_of maps.now) }
     ensures { (s : State) → result ≡ first_of (refusals
         (with_all s (eager_content pages.now) vmos.now (spaces_of (regions_of regions.now) (table_of maps.now)))
-        (Command.VmarMap region offset name vmo_offset len perm flags)) }
+        (Command.VmarMap request.region request.offset request.mapped request.vmo_offset request.len request.perm
+        request.flags)) }
 {
-    let Some(t) = vmos.resolve(name) else {
+    let Some(target) = vmos.resolve(request.mapped) else {
         return Some(Refusal::BadHandle);
     };
-    let above = match ask_for_region(regions, region) {
+    let above = match ask_for_region(regions, request.region) {
         Ok(above) => above,
         Err(refusal) => return Some(refusal),
     };
-    match ask_to_map(
-        pages, regions, maps, region, above, offset, &t, vmo_offset, len, perm, flags, true,
-    ) {
+    let searched = SearchedRegion {
+        region: above,
+        noted: true,
+    };
+    match ask_to_map(pages, regions, maps, searched, request.of(target)) {
         Ok(_) => None,
         Err(refusal) => Some(refusal),
     }
@@ -119,20 +119,15 @@ pub(crate) fn refusal_to_map(
 
 /// Returns the refusal to unmap a range of a region, in this order: `BadHandle` if the name was never given, `BadState` if
 /// the region is dead, `InvalidArgs` as for `unmap`.
-pub(crate) fn refusal_to_unmap(
-    regions: &Regions,
-    region: RegionName,
-    addr: u64,
-    len: u64,
-) -> Option<Refusal>
-    ensures { (table : ℕ → ℕ → Option Entry) →
-        IsRefusalOf (spaces_of (regions_of regions.now) table) (Command.VmarUnmap region addr len) result }
+pub(crate) fn refusal_to_unmap(regions: &Regions, range: RegionRange) -> Option<Refusal>
+    ensures { (table : ℕ → ℕ → Option Entry) → IsRefusalOf (spaces_of (regions_of regions.now) table)
+        (Command.VmarUnmap range.region range.addr range.len) result }
 {
-    let above = match ask_for_region(regions, region) {
+    let above = match ask_for_region(regions, range.region) {
         Ok(above) => above,
         Err(refusal) => return Some(refusal),
     };
-    match ask_to_unmap(regions, region, above, addr, len) {
+    match ask_to_unmap(regions, above, range) {
         Ok(_) => None,
         Err(refusal) => Some(refusal),
     }
@@ -144,19 +139,17 @@ pub(crate) fn refusal_to_unmap(
 pub(crate) fn refusal_to_protect(
     regions: &Regions,
     maps: &MappingSet,
-    region: RegionName,
-    addr: u64,
-    len: u64,
+    range: RegionRange,
     perm: Perm,
 ) -> Option<Refusal>
     ensures { IsRefusalOf (spaces_of (regions_of regions.now) (table_of maps.now))
-        (Command.VmarProtect region addr len perm) result }
+        (Command.VmarProtect range.region range.addr range.len perm) result }
 {
-    let above = match ask_for_region(regions, region) {
+    let above = match ask_for_region(regions, range.region) {
         Ok(above) => above,
         Err(refusal) => return Some(refusal),
     };
-    match ask_to_protect(regions, maps, region, above, addr, len, perm) {
+    match ask_to_protect(regions, maps, above, range, perm) {
         Ok(_) => None,
         Err(refusal) => Some(refusal),
     }

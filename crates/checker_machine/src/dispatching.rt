@@ -26,6 +26,7 @@ use crate::telling::on_telling;
 use checker_ready::ReadyMap;
 use checker_vmos::CheckerVmos;
 use mapping_set::MappingSet;
+use region_ops::{AllocateRequest, MapRequest, RegionRange};
 use region_tree::Regions;
 use std::alloc::Global;
 use vm_base::HostMemory;
@@ -115,12 +116,17 @@ fn on_region(
             len,
             flags,
             caps,
-        } => at_place(
-            vmar_allocate(
-                vmos, regions, maps, *region, *parent, *offset, *len, *flags, *caps, told,
-            ),
-            told,
-        ),
+        } => {
+            let request = AllocateRequest {
+                parent: *parent,
+                offset: *offset,
+                len: *len,
+                flags: *flags,
+                caps: *caps,
+            };
+            let outcome = vmar_allocate(vmos, regions, maps, *region, request, told);
+            at_place(outcome, told)
+        }
         Call::VmarMap {
             region,
             offset,
@@ -129,32 +135,39 @@ fn on_region(
             len,
             perm,
             flags,
-        } => at_place(
-            vmar_map(
-                vmos,
-                regions,
-                maps,
-                ready,
-                *region,
-                *offset,
-                *name,
-                *vmo_offset,
-                *len,
-                *perm,
-                *flags,
-                told,
-            ),
-            told,
-        ),
-        Call::VmarUnmap { region, addr, len } => at_no_place(vmar_unmap(
-            vmos, regions, maps, ready, *region, *addr, *len,
-        )),
+        } => {
+            let request = MapRequest {
+                region: *region,
+                offset: *offset,
+                mapped: *name,
+                vmo_offset: *vmo_offset,
+                len: *len,
+                perm: *perm,
+                flags: *flags,
+            };
+            at_place(vmar_map(vmos, regions, maps, ready, request, told), told)
+        }
+        Call::VmarUnmap { region, addr, len } => {
+            let range = RegionRange {
+                region: *region,
+                addr: *addr,
+                len: *len,
+            };
+            at_no_place(vmar_unmap(vmos, regions, maps, ready, range))
+        }
         Call::VmarProtect {
             region,
             addr,
             len,
             perm,
-        } => at_no_place(vmar_protect(vmos, regions, maps, ready, *region, *addr, *len, *perm)),
+        } => {
+            let range = RegionRange {
+                region: *region,
+                addr: *addr,
+                len: *len,
+            };
+            at_no_place(vmar_protect(vmos, regions, maps, ready, range, *perm))
+        }
         Call::VmarDestroy { region } => {
             vmar_destroy(vmos, regions, maps, ready, *region);
             Ok(Some(Answer::Done))

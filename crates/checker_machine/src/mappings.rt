@@ -13,9 +13,9 @@ use crate::spaces::live_region;
 use checker_ready::ReadyMap;
 use checker_vmos::CheckerVmos;
 use mapping_set::MappingSet;
-use region_ops::{Wanted, is_map_place, map_at, piece_at};
+use region_ops::{MapRequest, RegionRange, Wanted, is_map_place, map_at, piece_at};
 use region_tree::Regions;
-use vm_base::{HostMemory, MapFlags, Perm, RegionName, VmoName, in_page, page_count, page_of};
+use vm_base::{HostMemory, Perm, VmoName, in_page, page_count, page_of};
 
 /// Maps a part of what a name stands for into a region, at the address `told`. `None` if it can't be there.
 pub(crate) fn vmar_map(
@@ -23,43 +23,39 @@ pub(crate) fn vmar_map(
     regions: &Regions,
     maps: &mut MappingSet,
     ready: &mut ReadyMap,
-    region: RegionName,
-    offset: u64,
-    name: VmoName,
-    vmo_offset: u64,
-    len: u64,
-    perm: Perm,
-    flags: MapFlags,
+    request: MapRequest<VmoName>,
     told: u64,
 ) -> Result<Option<()>, HostMemory>
     requires may { MayDoAll vmos.old (spaces_of (regions_of regions.now) (table_of maps.old))
-        (Command.VmarMap region offset name vmo_offset len perm flags) }
+        (Command.VmarMap request.region request.offset request.mapped request.vmo_offset request.len request.perm
+        request.flags) }
     requires noted { AreNoted (regions_of regions.now) (places_of maps.old) }
     ensures does { MatchResult result (λ place. MatchOption place
         (HasNoSuch vmos.old (spaces_of (regions_of regions.now) (table_of maps.old)) (rows_of ready.old)
-        (Command.VmarMap region offset name vmo_offset len perm flags) told
+        (Command.VmarMap request.region request.offset request.mapped request.vmo_offset request.len request.perm
+        request.flags) told
         vmos.new (spaces_of (regions_of regions.now) (table_of maps.new)) (rows_of ready.new))
         (λ _. DoesAll vmos.old (spaces_of (regions_of regions.now) (table_of maps.old)) (rows_of ready.old)
-        (Command.VmarMap region offset name vmo_offset len perm flags) (Reply.Address told)
+        (Command.VmarMap request.region request.offset request.mapped request.vmo_offset request.len request.perm
+        request.flags) (Reply.Address told)
         vmos.new (spaces_of (regions_of regions.now) (table_of maps.new)) (rows_of ready.new)))
         (λ lack. AreAllKept vmos.old (spaces_of (regions_of regions.now) (table_of maps.old)) (rows_of ready.old)
         vmos.new (spaces_of (regions_of regions.now) (table_of maps.new)) (rows_of ready.new)) }
     ensures noted { AreNoted (regions_of regions.now) (places_of maps.new) }
 {
-    let above = live_region(regions, region);
-    let Some(target) = vmos.vmos.resolve(name) else {
+    let above = live_region(regions, request.region);
+    let Some(target) = vmos.vmos.resolve(request.mapped) else {
         unreachable!()
     };
     if in_page(told) != 0 {
         return Ok(None);
     }
     let first = page_of(told);
-    let count = page_count(len);
-    let wanted = Wanted::by(flags, offset);
-    if !is_map_place(regions, maps, region, above, wanted, count, first) {
+    let wanted = Wanted::by(request.flags, request.offset, request.len);
+    if !is_map_place(regions, maps, request.region, above, wanted, first) {
         return Ok(None);
     }
-    let piece = piece_at(above, region, &target, vmo_offset, len, perm, first);
+    let piece = piece_at(above, request.of(target), first);
     match map_at(
         &mut vmos.pages,
         &mut vmos.vmos,
@@ -69,7 +65,7 @@ pub(crate) fn vmar_map(
         wanted.overwriting,
     ) {
         Ok(()) => {
-            ready.drop_range(above.root, first, first + count);
+            ready.drop_range(above.root, first, first + wanted.count);
             Ok(Some(()))
         }
         Err(lack) => Err(lack),
@@ -82,34 +78,24 @@ pub(crate) fn vmar_unmap(
     regions: &mut Regions,
     maps: &mut MappingSet,
     ready: &mut ReadyMap,
-    region: RegionName,
-    addr: u64,
-    len: u64,
+    range: RegionRange,
 ) -> Result<(), HostMemory>
-    requires may { MayDoAll vmos.old (spaces_of (regions_of regions.old) (table_of maps.old)) (Command.VmarUnmap region addr len) }
+    requires may { MayDoAll vmos.old (spaces_of (regions_of regions.old) (table_of maps.old))
+        (Command.VmarUnmap range.region range.addr range.len) }
     requires noted { AreNoted (regions_of regions.old) (places_of maps.old) }
     ensures does { MatchResult result
         (λ _. DoesAll vmos.old (spaces_of (regions_of regions.old) (table_of maps.old)) (rows_of ready.old)
-        (Command.VmarUnmap region addr len) Reply.Done
+        (Command.VmarUnmap range.region range.addr range.len) Reply.Done
         vmos.new (spaces_of (regions_of regions.new) (table_of maps.new)) (rows_of ready.new))
         (λ lack. AreAllKept vmos.old (spaces_of (regions_of regions.old) (table_of maps.old)) (rows_of ready.old)
         vmos.new (spaces_of (regions_of regions.new) (table_of maps.new)) (rows_of ready.new)) }
     ensures noted { AreNoted (regions_of regions.new) (places_of maps.new) }
 {
-    let above = live_region(regions, region);
-    match region_ops::unmap_in(
-        &mut vmos.pages,
-        &mut vmos.vmos,
-        regions,
-        maps,
-        region,
-        above,
-        addr,
-        len,
-    ) {
+    let above = live_region(regions, range.region);
+    match region_ops::unmap_in(&mut vmos.pages, &mut vmos.vmos, regions, maps, above, range) {
         Ok(()) => {
-            let first = page_of(addr);
-            ready.drop_range(above.root, first, first + page_count(len));
+            let first = page_of(range.addr);
+            ready.drop_range(above.root, first, first + page_count(range.len));
             Ok(())
         }
         Err(_) => Err(HostMemory),
@@ -122,27 +108,25 @@ pub(crate) fn vmar_protect(
     regions: &Regions,
     maps: &mut MappingSet,
     ready: &mut ReadyMap,
-    region: RegionName,
-    addr: u64,
-    len: u64,
+    range: RegionRange,
     perm: Perm,
 ) -> Result<(), HostMemory>
     requires may { MayDoAll vmos.now (spaces_of (regions_of regions.now) (table_of maps.old))
-        (Command.VmarProtect region addr len perm) }
+        (Command.VmarProtect range.region range.addr range.len perm) }
     requires noted { AreNoted (regions_of regions.now) (places_of maps.old) }
     ensures does { MatchResult result
         (λ _. DoesAll vmos.now (spaces_of (regions_of regions.now) (table_of maps.old)) (rows_of ready.old)
-        (Command.VmarProtect region addr len perm) Reply.Done
+        (Command.VmarProtect range.region range.addr range.len perm) Reply.Done
         vmos.now (spaces_of (regions_of regions.now) (table_of maps.new)) (rows_of ready.new))
         (λ lack. AreAllKept vmos.now (spaces_of (regions_of regions.now) (table_of maps.old)) (rows_of ready.old)
         vmos.now (spaces_of (regions_of regions.now) (table_of maps.new)) (rows_of ready.new)) }
     ensures noted { AreNoted (regions_of regions.now) (places_of maps.new) }
 {
-    let above = live_region(regions, region);
-    match region_ops::protect_in(regions, maps, region, above, addr, len, perm) {
+    let above = live_region(regions, range.region);
+    match region_ops::protect_in(regions, maps, above, range, perm) {
         Ok(()) => {
-            let first = page_of(addr);
-            ready.drop_range(above.root, first, first + page_count(len));
+            let first = page_of(range.addr);
+            ready.drop_range(above.root, first, first + page_count(range.len));
             Ok(())
         }
         Err(_) => Err(HostMemory),

@@ -14,9 +14,9 @@ ghost use Rattle.checker_machine.specs.inside.Acting.{MayDoAll, DoesAll, AreAllK
 use checker_ready::ReadyMap;
 use checker_vmos::CheckerVmos;
 use mapping_set::MappingSet;
-use region_ops::{Wanted, allocate_at, is_place};
+use region_ops::{AllocateRequest, Wanted, allocate_at, is_place};
 use region_tree::{Region, Regions};
-use vm_base::{HostMemory, MapFlags, Perm, RegionName, in_page, page_count, page_of};
+use vm_base::{HostMemory, RegionName, in_page, page_of};
 
 /// Returns the live region of a name.
 pub(crate) fn live_region(regions: &Regions, name: RegionName) -> Region
@@ -59,38 +59,33 @@ pub(crate) fn vmar_allocate(
     regions: &mut Regions,
     maps: &mut MappingSet,
     region: RegionName,
-    parent: RegionName,
-    offset: u64,
-    len: u64,
-    flags: MapFlags,
-    caps: Perm,
+    request: AllocateRequest,
     told: u64,
 ) -> Result<Option<()>, HostMemory>
     requires may { MayDoAll vmos.now (spaces_of (regions_of regions.old) (table_of maps.old))
-        (Command.VmarAllocate region parent offset len flags caps) }
+        (Command.VmarAllocate region request.parent request.offset request.len request.flags request.caps) }
     requires noted { AreNoted (regions_of regions.old) (places_of maps.old) }
     ensures does { (rows : ReadyRows) → MatchResult result (λ place. MatchOption place
         (HasNoSuch vmos.now (spaces_of (regions_of regions.old) (table_of maps.old)) rows
-        (Command.VmarAllocate region parent offset len flags caps) told
+        (Command.VmarAllocate region request.parent request.offset request.len request.flags request.caps) told
         vmos.now (spaces_of (regions_of regions.new) (table_of maps.new)) rows)
         (λ _. DoesAll vmos.now (spaces_of (regions_of regions.old) (table_of maps.old)) rows
-        (Command.VmarAllocate region parent offset len flags caps) (Reply.Address told)
+        (Command.VmarAllocate region request.parent request.offset request.len request.flags request.caps) (Reply.Address told)
         vmos.now (spaces_of (regions_of regions.new) (table_of maps.new)) rows))
         (λ lack. AreAllKept vmos.now (spaces_of (regions_of regions.old) (table_of maps.old)) rows
         vmos.now (spaces_of (regions_of regions.new) (table_of maps.new)) rows) }
     ensures noted { AreNoted (regions_of regions.new) (places_of maps.new) }
 {
-    let above = live_region(regions, parent);
+    let above = live_region(regions, request.parent);
     if in_page(told) != 0 {
         return Ok(None);
     }
     let first = page_of(told);
-    let count = page_count(len);
-    let wanted = Wanted::by(flags, offset);
-    if !is_place(regions, maps, parent, above, wanted, count, first) {
+    let wanted = Wanted::by(request.flags, request.offset, request.len);
+    if !is_place(regions, maps, request.parent, above, wanted, first) {
         return Ok(None);
     }
-    match allocate_at(regions, maps, region, parent, above, first, count, caps) {
+    match allocate_at(regions, maps, region, above, request, first) {
         Ok(()) => Ok(Some(())),
         Err(lack) => Err(lack),
     }

@@ -1,6 +1,7 @@
 //! The region that a call is about, what it allows, and where in it a place is.
 
 ghost use Rattle.std.specs.Prelude.{◌≡◌, ℕ, ◌+◌, ◌/◌, ◌≤◌, ◌↔◌, true, false, not, min, is_some, if◌then◌else◌, Option, Some, IsTrue, MatchResult};
+ghost use Rattle.vm_base.specs.Pages.{rounded};
 ghost use Rattle.vm_base.specs.declared.limits.TheConstants.{PAGE, ROOT_END};
 ghost use Rattle.vm_base.specs.declared.refusal.Refusal.{Refusal};
 ghost use Rattle.vm_base.specs.declared.refusal.Refusal.TheVariants.{BadHandle, BadState};
@@ -40,6 +41,15 @@ pub(crate) fn allows(region: Region, caps: Perm) -> bool
     region.caps.contains(caps)
 }
 
+/// The live region of a name, in which a place is looked for.
+#[derive(Clone, Copy, Debug)]
+pub struct SearchedRegion {
+    pub region: Region,
+    /// The set of mappings has noted the live children of each region. A place costs one search then, also where there is
+    /// none.
+    pub noted: bool,
+}
+
 /// The place that is asked for.
 #[derive(Clone, Copy, Debug)]
 pub struct Wanted {
@@ -52,16 +62,19 @@ pub struct Wanted {
     pub overwriting: bool,
     /// The offset, in bytes from the start of the region.
     pub offset: u64,
+    /// The number of its pages.
+    pub count: u64,
 }
 
 impl Wanted {
-    /// Returns the place for which the options ask, with an offset.
-    pub fn by(flags: MapFlags, offset: u64) -> Wanted
+    /// Returns the place for which the options ask, with an offset, and for `len` bytes, rounded up to whole pages.
+    pub fn by(flags: MapFlags, offset: u64, len: u64) -> Wanted
         ensures { result ≡ record {
           fixed = has flags.0 specific;
           limited = has flags.0 upper_limit;
           overwriting = has flags.0 overwrite;
           offset = offset;
+          count = rounded len / PAGE;
         } }
     {
         Wanted {
@@ -69,6 +82,7 @@ impl Wanted {
             limited: flags.contains(MapFlags::UPPER_LIMIT),
             overwriting: flags.contains(MapFlags::OVERWRITE),
             offset,
+            count: page_count(len),
         }
     }
 }
@@ -87,34 +101,31 @@ pub(crate) fn is_misplaced(above: Region, wanted: Wanted, len: u64) -> bool
     wanted.limited || page_of(wanted.offset) + page_count(len) > above.count
 }
 
-/// Returns the first page of a free place of `count` pages in a live region, which is `above`. A fixed place ends in the
-/// region. Refusals: `AlreadyExists` if the fixed place is not free, `NoResources` if no free place fits. If the live
-/// children of each region are noted, the call costs one search.
+/// Returns the first page of a free place in a live region. A fixed place ends in the region. Refusals: `AlreadyExists` if the
+/// fixed place is not free, `NoResources` if no free place fits.
 pub(crate) fn find_place(
     regions: &Regions,
     maps: &MappingSet,
     name: RegionName,
-    above: Region,
+    searched: SearchedRegion,
     wanted: Wanted,
-    count: u64,
-    noted: bool,
 ) -> Result<PageNo, Refusal>
-    requires noted { noted ≡ true → AreNoted (regions_of regions.now) (places_of maps.now) }
-    requires above { regions_of regions.now name.0 ≡ Some above }
-    requires live { above.live ≡ true }
-    requires end { above.first + above.count ≤ ROOT_END }
-    requires some { 1 ≤ count }
+    requires noted { searched.noted ≡ true → AreNoted (regions_of regions.now) (places_of maps.now) }
+    requires above { regions_of regions.now name.0 ≡ Some searched.region }
+    requires live { searched.region.live ≡ true }
+    requires end { searched.region.first + searched.region.count ≤ ROOT_END }
+    requires some { 1 ≤ wanted.count }
     requires way { wanted.fixed ≡ true → wanted.limited ≡ false }
-    requires inside { wanted.fixed ≡ true → wanted.offset / PAGE + count ≤ above.count }
+    requires inside { wanted.fixed ≡ true → wanted.offset / PAGE + wanted.count ≤ searched.region.count }
     ensures { MatchResult result
         (λ first. IsPlace (spaces_of (regions_of regions.now) (table_of maps.now)) name.0 wanted.fixed wanted.limited
-        wanted.offset count first)
+        wanted.offset wanted.count first)
         (λ refusal. HasNoPlace (spaces_of (regions_of regions.now) (table_of maps.now)) name.0 wanted.fixed
-        wanted.limited wanted.offset count refusal) }
+        wanted.limited wanted.offset wanted.count refusal) }
 {
     if wanted.fixed {
-        let first = above.first + page_of(wanted.offset);
-        return if is_free(regions, maps, name, above, first, count, noted) {
+        let first = searched.region.first + page_of(wanted.offset);
+        return if is_free(regions, maps, name, searched, first, wanted.count) {
             Ok(first)
         } else {
             Err(Refusal::AlreadyExists)
@@ -123,73 +134,69 @@ pub(crate) fn find_place(
     let limit = if wanted.limited {
         page_of(wanted.offset)
     } else {
-        above.count
+        searched.region.count
     };
-    match find_gap(regions, maps, name, above, count, limit, noted) {
+    match find_gap(regions, maps, name, searched, wanted.count, limit) {
         Some(first) => Ok(first),
         None => Err(Refusal::NoResources),
     }
 }
 
-/// Returns whether `count` pages from `first` on are a free place in a live region, which is `above`.
+/// Returns whether `count` pages from `first` on are a free place in a live region.
 fn is_free(
     regions: &Regions,
     maps: &MappingSet,
     name: RegionName,
-    above: Region,
+    searched: SearchedRegion,
     first: PageNo,
     count: u64,
-    noted: bool,
 ) -> bool
-    requires noted { noted ≡ true → AreNoted (regions_of regions.now) (places_of maps.now) }
-    requires above { regions_of regions.now name.0 ≡ Some above }
-    requires live { above.live ≡ true }
+    requires noted { searched.noted ≡ true → AreNoted (regions_of regions.now) (places_of maps.now) }
+    requires above { regions_of regions.now name.0 ≡ Some searched.region }
+    requires live { searched.region.live ≡ true }
     requires pages { first + count ≤ PAGES_END }
     ensures { result ≡
         is_free (spaces_of (regions_of regions.now) (table_of maps.now)) name.0 first (first + count) }
 {
-    if noted {
-        regions.is_free_noted(maps, name, above, first, count)
+    if searched.noted {
+        regions.is_free_noted(maps, name, searched.region, first, count)
     } else {
         regions.is_free(maps, name, first, count)
     }
 }
 
-/// Returns the first page of a free place of `count` pages in a live region, which is `above`, as `Regions::find_gap`
-/// finds it.
+/// Returns the first page of a free place of `count` pages in a live region, as `Regions::find_gap` finds it.
 fn find_gap(
     regions: &Regions,
     maps: &MappingSet,
     name: RegionName,
-    above: Region,
+    searched: SearchedRegion,
     count: u64,
     limit: u64,
-    noted: bool,
 ) -> Option<PageNo>
-    requires noted { noted ≡ true → AreNoted (regions_of regions.now) (places_of maps.now) }
-    requires above { regions_of regions.now name.0 ≡ Some above }
-    requires live { above.live ≡ true }
+    requires noted { searched.noted ≡ true → AreNoted (regions_of regions.now) (places_of maps.now) }
+    requires above { regions_of regions.now name.0 ≡ Some searched.region }
+    requires live { searched.region.live ≡ true }
     requires some { 1 ≤ count }
     ensures { let spaces = spaces_of (regions_of regions.now) (table_of maps.now) in
         MatchOption result (has_place spaces name.0 count limit ≡ false) (λ (first : ℕ).
         (is_free spaces name.0 first (first + count) ≡ true) ×
         (first + count ≤ (region_of (regions_of regions.now) name.0).first + limit)) }
 {
-    if noted {
-        regions.find_gap_noted(maps, name, above, count, limit)
+    if searched.noted {
+        regions.find_gap_noted(maps, name, searched.region, count, limit)
     } else {
         regions.find_gap(maps, name, count, limit)
     }
 }
 
-/// Returns whether a page begins a free place of `count` pages in a live region, which is `above`, that suits the request.
+/// Returns whether a page begins a free place in a live region, which is `above`, that suits the request.
 pub fn is_place(
     regions: &Regions,
     maps: &MappingSet,
     name: RegionName,
     above: Region,
     wanted: Wanted,
-    count: u64,
     first: PageNo,
 ) -> bool
     requires noted { AreNoted (regions_of regions.now) (places_of maps.now) }
@@ -197,8 +204,9 @@ pub fn is_place(
     requires live { above.live ≡ true }
     requires end { above.first + above.count ≤ ROOT_END }
     ensures { IsTrue result ↔ IsPlace (spaces_of (regions_of regions.now) (table_of maps.now)) name.0
-        wanted.fixed wanted.limited wanted.offset count first }
+        wanted.fixed wanted.limited wanted.offset wanted.count first }
 {
+    let count = wanted.count;
     let end = above.first + longest(above, wanted);
     if first > end || count > end - first {
         return false;

@@ -16,7 +16,7 @@ ghost use Rattle.region_ops.specs.Spaces.{with_spaces, IsRefusalOf};
 ghost use Rattle.region_ops.specs.inside.Covers.{IsCovered};
 
 use crate::placing::{allows, live_region};
-use crate::ranges::{PageRange, is_outside, lacks_reading, pages_at};
+use crate::ranges::{PageRange, RegionRange, is_outside, lacks_reading, pages_at};
 use bitflags::Flags;
 use mapping_set::MappingSet;
 use region_tree::{Region, Regions};
@@ -47,37 +47,36 @@ pub fn protect(
         ≡ mapped_count (spaces_of (regions_of regions.now) (table_of maps.old)) v }
 {
     let above = live_region(regions, region);
-    protect_in(regions, maps, region, above, addr, len, perm)
+    let range = RegionRange { region, addr, len };
+    protect_in(regions, maps, above, range, perm)
 }
 
-/// Does what `protect` does, in a live region, which is `above`. What is noted in the regions stays as it is.
+/// Does what `protect` does, in the live region of the range, which is `above`. What is noted in the regions stays as it is.
 pub fn protect_in(
     regions: &Regions,
     maps: &mut MappingSet,
-    region: RegionName,
     above: Region,
-    addr: u64,
-    len: u64,
+    range: RegionRange,
     perm: Perm,
 ) -> Result<(), Refusal>
-    requires above { regions_of regions.now region.0 ≡ Some above }
+    requires above { regions_of regions.now range.region.0 ≡ Some above }
     requires live { above.live ≡ true }
     requires end { above.first + above.count ≤ ROOT_END }
     ensures step { (s : State) → Step (with_spaces s (spaces_of (regions_of regions.now) (table_of maps.old)))
-        (Command.VmarProtect region addr len perm) (reply_of (λ done. Reply.Done) result)
+        (Command.VmarProtect range.region range.addr range.len perm) (reply_of (λ done. Reply.Done) result)
         (with_spaces s (spaces_of (regions_of regions.now) (table_of maps.new))) }
     ensures mapped { (v : ℕ) → mapped_count (spaces_of (regions_of regions.now) (table_of maps.new)) v
         ≡ mapped_count (spaces_of (regions_of regions.now) (table_of maps.old)) v }
     ensures places { places_of maps.new ≡ places_of maps.old }
 {
-    let range = match ask_to_protect(regions, maps, region, above, addr, len, perm) {
-        Ok(range) => range,
+    let pages = match ask_to_protect(regions, maps, above, range, perm) {
+        Ok(pages) => pages,
         Err(refusal) => return Err(refusal),
     };
     let Ok(()) = maps.reserve(2) else {
         return Err(Refusal::HostMemory);
     };
-    maps.restrict(above.root, range.first, range.count, perm);
+    maps.restrict(above.root, pages.first, pages.count, perm);
     Ok(())
 }
 
@@ -87,40 +86,39 @@ pub fn protect_in(
 pub fn ask_to_protect(
     regions: &Regions,
     maps: &MappingSet,
-    region: RegionName,
     above: Region,
-    addr: u64,
-    len: u64,
+    range: RegionRange,
     perm: Perm,
 ) -> Result<PageRange, Refusal>
-    requires above { regions_of regions.now region.0 ≡ Some above }
+    requires above { regions_of regions.now range.region.0 ≡ Some above }
     requires live { above.live ≡ true }
     requires end { above.first + above.count ≤ ROOT_END }
-    ensures { let spaces = spaces_of (regions_of regions.now) (table_of maps.now) in MatchResult result
-        (λ range. (range ≡ record { first = addr / PAGE; count = rounded len / PAGE })
-        × (has_hole (table_of maps.now above.root.0) region.0 range.first (range.first + range.count) ≡ false)
-        × IsRefusalOf spaces (Command.VmarProtect region addr len perm) None)
-        (λ refusal. IsRefusalOf spaces (Command.VmarProtect region addr len perm) (Some refusal)) }
+    ensures { let spaces = spaces_of (regions_of regions.now) (table_of maps.now) in
+        let command = Command.VmarProtect range.region range.addr range.len perm in MatchResult result
+        (λ pages. (pages ≡ record { first = range.addr / PAGE; count = rounded range.len / PAGE })
+        × (has_hole (table_of maps.now above.root.0) range.region.0 pages.first (pages.first + pages.count) ≡ false)
+        × IsRefusalOf spaces command None)
+        (λ refusal. IsRefusalOf spaces command (Some refusal)) }
 {
     if !allows(above, perm) {
         return Err(Refusal::AccessDenied);
     }
-    if is_outside(above, addr, len) {
+    if is_outside(above, range) {
         return Err(Refusal::InvalidArgs);
     }
-    let range = pages_at(addr, len);
-    if regions.meets(region, range.first, range.count) || lacks_reading(perm) {
+    let pages = pages_at(range);
+    if regions.meets(range.region, pages.first, pages.count) || lacks_reading(perm) {
         return Err(Refusal::InvalidArgs);
     }
-    let end = range.first + range.count;
-    let cover = cover_of(maps, above.root, region, range.first, end, perm);
+    let end = pages.first + pages.count;
+    let cover = cover_of(maps, above.root, range.region, pages.first, end, perm);
     if !cover.whole {
         return Err(Refusal::NotFound);
     }
     if !cover.allowed {
         return Err(Refusal::AccessDenied);
     }
-    Ok(range)
+    Ok(pages)
 }
 
 /// A region's cover of a range of pages whose permissions are to be changed.

@@ -7,7 +7,7 @@ ghost use Rattle.vm_model.specs.Space.Mappings.{is_outside, lacks_reading};
 
 use bitflags::Flags;
 use region_tree::Region;
-use vm_base::{PageNo, Perm, in_page, page_count, page_of};
+use vm_base::{PageNo, Perm, RegionName, in_page, page_count, page_of};
 
 /// The pages of a range of an address space: the first one, and how many there are.
 #[derive(Clone, Copy, Debug)]
@@ -16,27 +16,35 @@ pub struct PageRange {
     pub count: u64,
 }
 
-/// Returns the pages of `len` bytes from an address on, rounded up to whole pages.
-pub(crate) fn pages_at(addr: u64, len: u64) -> PageRange
-    ensures { result ≡ record { first = addr / PAGE; count = rounded len / PAGE } }
+/// A range of bytes of a region that a call is given: `len` bytes from an address on.
+#[derive(Clone, Copy, Debug)]
+pub struct RegionRange {
+    pub region: RegionName,
+    pub addr: u64,
+    pub len: u64,
+}
+
+/// Returns the pages of a range, rounded up to whole pages.
+pub(crate) fn pages_at(range: RegionRange) -> PageRange
+    ensures { result ≡ record { first = range.addr / PAGE; count = rounded range.len / PAGE } }
 {
     PageRange {
-        first: page_of(addr),
-        count: page_count(len),
+        first: page_of(range.addr),
+        count: page_count(range.len),
     }
 }
 
-/// Returns whether `len` bytes from an address on, rounded up to whole pages, are no range of a region. That is so if the
-/// address is not at a page, `len` is 0, or the bytes pass an end of the region.
-pub(crate) fn is_outside(region: Region, addr: u64, len: u64) -> bool
+/// Returns whether the bytes of a range, rounded up to whole pages, are no range of a region. That is so if the address is not
+/// at a page, the length is 0, or the bytes pass an end of the region.
+pub(crate) fn is_outside(region: Region, range: RegionRange) -> bool
     requires { region.first + region.count ≤ ROOT_END }
-    ensures { result ≡ is_outside region addr len (rounded len / PAGE) }
+    ensures { result ≡ is_outside region range.addr range.len (rounded range.len / PAGE) }
 {
-    if in_page(addr) != 0 || len == 0 {
+    if in_page(range.addr) != 0 || range.len == 0 {
         return true;
     }
-    let first = page_of(addr);
-    first < region.first || first + page_count(len) > region.first + region.count
+    let first = page_of(range.addr);
+    first < region.first || first + page_count(range.len) > region.first + region.count
 }
 
 /// Returns whether permissions allow writing or executing without reading, which no mapping may.

@@ -17,7 +17,7 @@ ghost use Rattle.region_ops.specs.Spaces.{AreWell, AreAllWell, LetsGo, Does, IsR
 
 use crate::leaving::{clear_range, clear_region};
 use crate::placing::live_region;
-use crate::ranges::{PageRange, is_outside, pages_at};
+use crate::ranges::{PageRange, RegionRange, is_outside, pages_at};
 use mapping_set::MappingSet;
 use pages::Pages;
 use region_tree::{Region, Regions};
@@ -47,39 +47,38 @@ pub fn unmap<P: Pages>(
         (P.content store.new) vmos.new (spaces_of (regions_of regions.new) (table_of maps.new)) }
 {
     let above = live_region(regions, region);
-    unmap_in(store, vmos, regions, maps, region, above, addr, len)
+    let range = RegionRange { region, addr, len };
+    unmap_in(store, vmos, regions, maps, above, range)
 }
 
-/// Does what `unmap` does, in a live region, which is `above`. If the live children of each region are noted, they are
+/// Does what `unmap` does, in the live region of the range, which is `above`. If the live children of each region are noted, they are
 /// noted afterwards too.
 pub fn unmap_in<P: Pages>(
     store: &mut P,
     vmos: &mut VmoTable,
     regions: &mut Regions,
     maps: &mut MappingSet,
-    region: RegionName,
     above: Region,
-    addr: u64,
-    len: u64,
+    range: RegionRange,
 ) -> Result<(), Refusal>
-    requires above { regions_of regions.old region.0 ≡ Some above }
+    requires above { regions_of regions.old range.region.0 ≡ Some above }
     requires live { above.live ≡ true }
     requires end { above.first + above.count ≤ ROOT_END }
     requires well { AreAllWell (P.content store.old) vmos.old (spaces_of (regions_of regions.old) (table_of maps.old)) }
     ensures does { Does (P.content store.old) vmos.old (spaces_of (regions_of regions.old) (table_of maps.old))
-        (Command.VmarUnmap region addr len) (reply_of (λ done. Reply.Done) result)
+        (Command.VmarUnmap range.region range.addr range.len) (reply_of (λ done. Reply.Done) result)
         (P.content store.new) vmos.new (spaces_of (regions_of regions.new) (table_of maps.new)) }
     ensures noted { AreNoted (regions_of regions.old) (places_of maps.old)
         → AreNoted (regions_of regions.new) (places_of maps.new) }
 {
-    let range = match ask_to_unmap(regions, region, above, addr, len) {
-        Ok(range) => range,
+    let pages = match ask_to_unmap(regions, above, range) {
+        Ok(pages) => pages,
         Err(refusal) => return Err(refusal),
     };
-    let Ok(()) = clear_mapped(store, vmos, maps, above.root, range.first, range.count) else {
+    let Ok(()) = clear_mapped(store, vmos, maps, above.root, pages.first, pages.count) else {
         return Err(Refusal::HostMemory);
     };
-    destroy_within(regions, maps, region, range.first, range.count);
+    destroy_within(regions, maps, range.region, pages.first, pages.count);
     Ok(())
 }
 
@@ -87,29 +86,27 @@ pub fn unmap_in<P: Pages>(
 /// Nothing changes.
 pub fn ask_to_unmap(
     regions: &Regions,
-    region: RegionName,
     above: Region,
-    addr: u64,
-    len: u64,
+    range: RegionRange,
 ) -> Result<PageRange, Refusal>
-    requires above { regions_of regions.now region.0 ≡ Some above }
+    requires above { regions_of regions.now range.region.0 ≡ Some above }
     requires live { above.live ≡ true }
     requires end { above.first + above.count ≤ ROOT_END }
     ensures { MatchResult result
-        (λ range. (range ≡ record { first = addr / PAGE; count = rounded len / PAGE })
+        (λ pages. (pages ≡ record { first = range.addr / PAGE; count = rounded range.len / PAGE })
         × ((table : ℕ → ℕ → Option Entry)
-        → IsRefusalOf (spaces_of (regions_of regions.now) table) (Command.VmarUnmap region addr len) None))
-        (λ refusal. (table : ℕ → ℕ → Option Entry)
-        → IsRefusalOf (spaces_of (regions_of regions.now) table) (Command.VmarUnmap region addr len) (Some refusal)) }
+        → IsRefusalOf (spaces_of (regions_of regions.now) table) (Command.VmarUnmap range.region range.addr range.len) None))
+        (λ refusal. (table : ℕ → ℕ → Option Entry) → IsRefusalOf (spaces_of (regions_of regions.now) table)
+        (Command.VmarUnmap range.region range.addr range.len) (Some refusal)) }
 {
-    if is_outside(above, addr, len) {
+    if is_outside(above, range) {
         return Err(Refusal::InvalidArgs);
     }
-    let range = pages_at(addr, len);
-    if regions.cuts(region, range.first, range.count) {
+    let pages = pages_at(range);
+    if regions.cuts(range.region, pages.first, pages.count) {
         return Err(Refusal::InvalidArgs);
     }
-    Ok(range)
+    Ok(pages)
 }
 
 /// Destroys a live region and all below it, with their mappings (`zx_vmar_destroy`). A VMO that nothing keeps any more

@@ -13,41 +13,40 @@ ghost use Rattle.vm_core.specs.inside.Calls.{DoesAccess};
 use fault::Translations;
 use mapping_set::MappingSet;
 use page_store::PageStore;
+use region_ops::RegionRange;
 use region_tree::Regions;
 use vm_base::{DATA_BYTES, Refusal, RegionName};
 use vm_model::Answer;
 
-/// Reads `len` bytes from an address on through the mappings of an address space, into `room`, which has at least
-/// `DATA_BYTES` bytes. `BadHandle` if the region was never given, `BadState` if it is destroyed, `InvalidArgs` if it is
-/// no root region or `len` is over `DATA_BYTES`. Otherwise the refusals are those of `fault`.
+/// Reads the bytes of a range through the mappings of an address space, into `room`, which has at least `DATA_BYTES` bytes.
+/// `BadHandle` if the region was never given, `BadState` if it is destroyed, `InvalidArgs` if it is no root region or the
+/// length is over `DATA_BYTES`. Otherwise the refusals are those of `fault`.
 #[tactic(auto, unfolding(vm_model::specs::Space::Regions::region_of))]
 pub(crate) fn mem_read<'a, P: PageStore>(
     store: &P,
     regions: &Regions,
     maps: &MappingSet,
     translations: &mut Translations,
-    region: RegionName,
-    addr: u64,
-    len: u64,
+    range: RegionRange,
     room: &'a mut [u8],
 ) -> Answer<'a>
     requires backed { AreBacked (P.content store.now) (table_of maps.now) }
     requires translations { AreTrue (P.content store.now) (table_of maps.now) (translations_of translations.old) }
     requires room { DATA_BYTES ≤ length room.old }
     ensures { DoesAccess (spaces_of (regions_of regions.now) (table_of maps.now)) (P.content store.now)
-        (translations_of translations.old) (Command.MemRead region addr len) (reply_for result) (P.content store.now)
+        (translations_of translations.old) (Command.MemRead range.region range.addr range.len) (reply_for result) (P.content store.now)
         (translations_of translations.new) }
 {
-    let Some(root) = regions.get(region) else {
+    let Some(root) = regions.get(range.region) else {
         return Answer::Refused(Refusal::BadHandle);
     };
     if !root.live {
         return Answer::Refused(Refusal::BadState);
     }
-    if root.parent.is_some() || len > DATA_BYTES as u64 {
+    if root.parent.is_some() || range.len > DATA_BYTES as u64 {
         return Answer::Refused(Refusal::InvalidArgs);
     }
-    match translations.mem_read_into(store, maps, region, addr, len, room) {
+    match translations.mem_read_into(store, maps, range.region, range.addr, range.len, room) {
         Ok((faults, bytes)) => Answer::Access { faults, bytes },
         Err(refusal) => Answer::Refused(refusal),
     }

@@ -26,6 +26,7 @@ use fault::Translations;
 use mapping_set::MappingSet;
 use page_store::PageStore;
 use pin_table::PinTable;
+use region_ops::{AllocateRequest, MapRequest, RegionRange};
 use region_tree::Regions;
 use std::alloc::Global;
 use vm_model::{Answer, Call};
@@ -169,9 +170,16 @@ pub(crate) fn on_region<P: PageStore>(
             len,
             flags,
             caps,
-        } => vmar_allocate(
-            regions, maps, *region, *parent, *offset, *len, *flags, *caps,
-        ),
+        } => {
+            let request = AllocateRequest {
+                parent: *parent,
+                offset: *offset,
+                len: *len,
+                flags: *flags,
+                caps: *caps,
+            };
+            vmar_allocate(regions, maps, *region, request)
+        }
         Call::VmarMap {
             region,
             offset,
@@ -180,29 +188,39 @@ pub(crate) fn on_region<P: PageStore>(
             len,
             perm,
             flags,
-        } => vmar_map(
-            store,
-            vmos,
-            regions,
-            maps,
-            ready,
-            *region,
-            *offset,
-            *name,
-            *vmo_offset,
-            *len,
-            *perm,
-            *flags,
-        ),
-        Call::VmarUnmap { region, addr, len } => vmar_unmap(
-            store, vmos, regions, maps, ready, *region, *addr, *len,
-        ),
+        } => {
+            let request = MapRequest {
+                region: *region,
+                offset: *offset,
+                mapped: *name,
+                vmo_offset: *vmo_offset,
+                len: *len,
+                perm: *perm,
+                flags: *flags,
+            };
+            vmar_map(store, vmos, regions, maps, ready, request)
+        }
+        Call::VmarUnmap { region, addr, len } => {
+            let range = RegionRange {
+                region: *region,
+                addr: *addr,
+                len: *len,
+            };
+            vmar_unmap(store, vmos, regions, maps, ready, range)
+        }
         Call::VmarProtect {
             region,
             addr,
             len,
             perm,
-        } => vmar_protect(regions, maps, ready, *region, *addr, *len, *perm),
+        } => {
+            let range = RegionRange {
+                region: *region,
+                addr: *addr,
+                len: *len,
+            };
+            vmar_protect(regions, maps, ready, range, *perm)
+        }
         Call::VmarDestroy { region } => vmar_destroy(store, vmos, regions, maps, ready, *region),
         Call::Maps { region } => list_maps(alloc, regions, maps, *region),
         _ => unreachable!(),
@@ -238,16 +256,14 @@ pub(crate) fn on_memory<'a, P: PageStore>(
         (translations_of translations.new) }
 {
     match call {
-        Call::MemRead { region, addr, len } => mem_read(
-            store,
-            regions,
-            maps,
-            translations,
-            *region,
-            *addr,
-            *len,
-            bytes,
-        ),
+        Call::MemRead { region, addr, len } => {
+            let range = RegionRange {
+                region: *region,
+                addr: *addr,
+                len: *len,
+            };
+            mem_read(store, regions, maps, translations, range, bytes)
+        }
         Call::MemWrite {
             region,
             addr,

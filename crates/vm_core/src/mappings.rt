@@ -17,9 +17,10 @@ use crate::resets::forget_pages;
 use fault::Translations;
 use mapping_set::MappingSet;
 use page_store::PageStore;
+use region_ops::{MapRequest, RegionRange, SearchedRegion};
 use region_tree::Regions;
 use std::alloc::Global;
-use vm_base::{MapFlags, Perm, Refusal, RegionName, VmoName, page_count, page_of};
+use vm_base::{Perm, Refusal, RegionName, VmoName, page_count, page_of};
 use vm_model::Answer;
 use vmo_table::VmoTable;
 
@@ -31,38 +32,35 @@ pub(crate) fn vmar_map<P: PageStore>(
     regions: &Regions,
     maps: &mut MappingSet,
     translations: &mut Translations,
-    region: RegionName,
-    offset: u64,
-    name: VmoName,
-    vmo_offset: u64,
-    len: u64,
-    perm: Perm,
-    flags: MapFlags,
+    request: MapRequest<VmoName>,
 ) -> Answer<'static>
     requires well { AreAllWell (P.content store.old) vmos.old (spaces_of (regions_of regions.now) (table_of maps.old)) }
     requires noted { AreNoted (regions_of regions.now) (notes_of maps.old) }
     ensures step { Does (P.content store.old) vmos.old (spaces_of (regions_of regions.now) (table_of maps.old))
-        (Command.VmarMap region offset name vmo_offset len perm flags) (reply_for result)
-        (P.content store.new) vmos.new (spaces_of (regions_of regions.now) (table_of maps.new)) }
+        (Command.VmarMap request.region request.offset request.mapped request.vmo_offset request.len request.perm request.flags)
+        (reply_for result) (P.content store.new) vmos.new (spaces_of (regions_of regions.now) (table_of maps.new)) }
     ensures left { LeavesSpaces (spaces_of (regions_of regions.now) (table_of maps.old)) (translations_of translations.old)
-        (Command.VmarMap region offset name vmo_offset len perm flags) (reply_for result) (translations_of translations.new) }
+        (Command.VmarMap request.region request.offset request.mapped request.vmo_offset request.len request.perm request.flags)
+        (reply_for result) (translations_of translations.new) }
     ensures noted { AreNoted (regions_of regions.now) (notes_of maps.new) }
 {
-    let Some(above) = regions.get(region) else {
+    let Some(above) = regions.get(request.region) else {
         return Answer::Refused(Refusal::BadHandle);
     };
-    let Some(target) = vmos.resolve(name) else {
+    let Some(target) = vmos.resolve(request.mapped) else {
         return Answer::Refused(Refusal::BadHandle);
     };
     if !above.live {
         return Answer::Refused(Refusal::BadState);
     }
-    match region_ops::map_in(
-        store, vmos, regions, maps, region, above, offset, &target, vmo_offset, len, perm, flags,
-        true,
-    ) {
+    let searched = SearchedRegion {
+        region: above,
+        noted: true,
+    };
+    match region_ops::map_in(store, vmos, regions, maps, searched, request.of(target)) {
         Ok(address) => {
-            forget_pages(translations, above.root, page_of(address), page_count(len));
+            let count = page_count(request.len);
+            forget_pages(translations, above.root, page_of(address), count);
             Answer::Address(address)
         }
         Err(refusal) => Answer::Refused(refusal),
@@ -76,26 +74,25 @@ pub(crate) fn vmar_unmap<P: PageStore>(
     regions: &mut Regions,
     maps: &mut MappingSet,
     translations: &mut Translations,
-    region: RegionName,
-    addr: u64,
-    len: u64,
+    range: RegionRange,
 ) -> Answer<'static>
     requires well { AreAllWell (P.content store.old) vmos.old (spaces_of (regions_of regions.old) (table_of maps.old)) }
     requires noted { AreNoted (regions_of regions.old) (notes_of maps.old) }
     ensures step { Does (P.content store.old) vmos.old (spaces_of (regions_of regions.old) (table_of maps.old))
-        (Command.VmarUnmap region addr len) (reply_for result)
+        (Command.VmarUnmap range.region range.addr range.len) (reply_for result)
         (P.content store.new) vmos.new (spaces_of (regions_of regions.new) (table_of maps.new)) }
     ensures left { LeavesSpaces (spaces_of (regions_of regions.old) (table_of maps.old)) (translations_of translations.old)
-        (Command.VmarUnmap region addr len) (reply_for result) (translations_of translations.new) }
+        (Command.VmarUnmap range.region range.addr range.len) (reply_for result) (translations_of translations.new) }
     ensures noted { AreNoted (regions_of regions.new) (notes_of maps.new) }
 {
-    let above = match region_ops::ask_for_region(regions, region) {
+    let above = match region_ops::ask_for_region(regions, range.region) {
         Ok(above) => above,
         Err(refusal) => return Answer::Refused(refusal),
     };
-    match region_ops::unmap_in(store, vmos, regions, maps, region, above, addr, len) {
+    match region_ops::unmap_in(store, vmos, regions, maps, above, range) {
         Ok(()) => {
-            forget_pages(translations, above.root, page_of(addr), page_count(len));
+            let count = page_count(range.len);
+            forget_pages(translations, above.root, page_of(range.addr), count);
             Answer::Done
         }
         Err(refusal) => Answer::Refused(refusal),
@@ -107,29 +104,28 @@ pub(crate) fn vmar_protect(
     regions: &Regions,
     maps: &mut MappingSet,
     translations: &mut Translations,
-    region: RegionName,
-    addr: u64,
-    len: u64,
+    range: RegionRange,
     perm: Perm,
 ) -> Answer<'static>
     requires good { (s : State) × IsGoodState (record s { spaces = spaces_of (regions_of regions.now) (table_of maps.old) }) }
     requires noted { AreNoted (regions_of regions.now) (notes_of maps.old) }
     ensures step { StepsSpaces (spaces_of (regions_of regions.now) (table_of maps.old))
-        (Command.VmarProtect region addr len perm) (reply_for result)
+        (Command.VmarProtect range.region range.addr range.len perm) (reply_for result)
         (spaces_of (regions_of regions.now) (table_of maps.new)) }
     ensures left { LeavesSpaces (spaces_of (regions_of regions.now) (table_of maps.old)) (translations_of translations.old)
-        (Command.VmarProtect region addr len perm) (reply_for result) (translations_of translations.new) }
+        (Command.VmarProtect range.region range.addr range.len perm) (reply_for result) (translations_of translations.new) }
     ensures mapped { (v : ℕ) → mapped_count (spaces_of (regions_of regions.now) (table_of maps.new)) v
         ≡ mapped_count (spaces_of (regions_of regions.now) (table_of maps.old)) v }
     ensures noted { AreNoted (regions_of regions.now) (notes_of maps.new) }
 {
-    let above = match region_ops::ask_for_region(regions, region) {
+    let above = match region_ops::ask_for_region(regions, range.region) {
         Ok(above) => above,
         Err(refusal) => return Answer::Refused(refusal),
     };
-    match region_ops::protect_in(regions, maps, region, above, addr, len, perm) {
+    match region_ops::protect_in(regions, maps, above, range, perm) {
         Ok(()) => {
-            forget_pages(translations, above.root, page_of(addr), page_count(len));
+            let count = page_count(range.len);
+            forget_pages(translations, above.root, page_of(range.addr), count);
             Answer::Done
         }
         Err(refusal) => Answer::Refused(refusal),

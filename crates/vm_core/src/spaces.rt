@@ -15,8 +15,9 @@ use crate::resets::forget_pages;
 use fault::Translations;
 use mapping_set::MappingSet;
 use page_store::PageStore;
+use region_ops::AllocateRequest;
 use region_tree::Regions;
-use vm_base::{MapFlags, Perm, Refusal, RegionName};
+use vm_base::{Refusal, RegionName};
 use vm_model::Answer;
 use vmo_table::VmoTable;
 
@@ -45,21 +46,17 @@ pub(crate) fn vmar_allocate(
     regions: &mut Regions,
     maps: &mut MappingSet,
     region: RegionName,
-    parent: RegionName,
-    offset: u64,
-    len: u64,
-    flags: MapFlags,
-    caps: Perm,
+    request: AllocateRequest,
 ) -> Answer<'static>
     requires noted { AreNoted (regions_of regions.old) (notes_of maps.old) }
     ensures step { StepsSpaces (spaces_of (regions_of regions.old) (table_of maps.old))
-        (Command.VmarAllocate region parent offset len flags caps) (reply_for result)
+        (Command.VmarAllocate region request.parent request.offset request.len request.flags request.caps) (reply_for result)
         (spaces_of (regions_of regions.new) (table_of maps.new)) }
     ensures table { table_of maps.new ≡ table_of maps.old }
     ensures name { region.0 < NAMES }
     ensures noted { AreNoted (regions_of regions.new) (notes_of maps.new) }
 {
-    let Some(above) = regions.get(parent) else {
+    let Some(above) = regions.get(request.parent) else {
         return Answer::Refused(Refusal::BadHandle);
     };
     if regions.get(region).is_some() {
@@ -68,9 +65,7 @@ pub(crate) fn vmar_allocate(
     if !above.live {
         return Answer::Refused(Refusal::BadState);
     }
-    match region_ops::allocate_noted(
-        regions, maps, region, parent, above, offset, len, flags, caps,
-    ) {
+    match region_ops::allocate_noted(regions, maps, region, above, request) {
         Ok(address) => Answer::Address(address),
         Err(refusal) => Answer::Refused(refusal),
     }

@@ -9,12 +9,12 @@ use Rattle.checker_machine.proofs.accessing.mem_read.Goals as goal
 
 pub read-requires-clause-may : goal.read-requires-clause-may
 read-requires-clause-may c =
-    let few = read_few (state_in c.args.vmos.now (spaces_of (regions_of c.args.regions.now) (table_of c.args.maps.now))) c.args.region c.args.addr c.args.len c.requires.may.none in
-    let same : length (take c.args.len c.args.room.now) ≡ c.args.len = omega (arith, few, c.requires.room, length-take c.args.len c.args.room.now) in
-    read_allowed c.args.vmos.now (spaces_of (regions_of c.args.regions.now) (table_of c.args.maps.now)) c.args.region c.args.addr c.args.len _ same c.requires.may
+    let few = read_few (state_in c.args.vmos.now (spaces_of (regions_of c.args.regions.now) (table_of c.args.maps.now))) c.args.range.region c.args.range.addr c.args.range.len c.requires.may.none in
+    let same : length (take c.args.range.len c.args.room.now) ≡ c.args.range.len = omega (arith, few, c.requires.room, length-take c.args.range.len c.args.room.now) in
+    read_allowed c.args.vmos.now (spaces_of (regions_of c.args.regions.now) (table_of c.args.maps.now)) c.args.range.region c.args.range.addr c.args.range.len _ same c.requires.may
 
 pub returns-in-Ok : goal.returns-in-Ok
 returns-in-Ok c =
-    let few = read_few (state_in c.args.vmos.now (spaces_of (regions_of c.args.regions.now) (table_of c.args.maps.now))) c.args.region c.args.addr c.args.len c.requires.may.none in
-    let same : length (take c.args.len c.args.room.now) ≡ c.args.len = omega (arith, few, c.requires.room, length-take c.args.len c.args.room.now) in
-    read_acts c.args.vmos.now (spaces_of (regions_of c.args.regions.now) (table_of c.args.maps.now)) (rows_of c.args.ready.now) (rows_of c.read.new.ready) c.args.region c.args.addr c.args.len _ c.in-Ok.faults c.new.result c.read.new.out c.requires.sound same c.new.ensures c.in-Ok.ensures.read c.in-Ok.ensures.true_rows
+    let few = read_few (state_in c.args.vmos.now (spaces_of (regions_of c.args.regions.now) (table_of c.args.maps.now))) c.args.range.region c.args.range.addr c.args.range.len c.requires.may.none in
+    let same : length (take c.args.range.len c.args.room.now) ≡ c.args.range.len = omega (arith, few, c.requires.room, length-take c.args.range.len c.args.room.now) in
+    read_acts c.args.vmos.now (spaces_of (regions_of c.args.regions.now) (table_of c.args.maps.now)) (rows_of c.args.ready.now) (rows_of c.read.new.ready) c.args.range.region c.args.range.addr c.args.range.len _ c.in-Ok.faults c.new.result c.read.new.out c.requires.sound same c.new.ensures c.in-Ok.ensures.read c.in-Ok.ensures.true_rows

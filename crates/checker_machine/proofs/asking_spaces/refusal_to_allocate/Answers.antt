@@ -9,7 +9,7 @@ use Rattle.checker_machine.proofs.asking_spaces.refusal_to_allocate.Goals as goa
 pub ask_to_allocate-requires-clause-end : goal.ask_to_allocate-requires-clause-end
 ask_to_allocate-requires-clause-end c =
     let given = sym c.get.ensures.region ∙ c.in-Some.is in
-    live_end _ _ _ c.get.ensures.good given (passes-some (λ (r : Region). r.live) (regions_of c.args.regions.now c.args.parent.0) _ given ∙ not-false _ c.if-not-above.false)
+    live_end _ _ _ c.get.ensures.good given (passes-some (λ (r : Region). r.live) (regions_of c.args.regions.now c.args.request.parent.0) _ given ∙ not-false _ c.if-not-above.false)
 
 pub returns-in-Ok : goal.returns-in-Ok
 returns-in-Ok c = c.in-Ok.ensures.0 c.args.name (search rules)

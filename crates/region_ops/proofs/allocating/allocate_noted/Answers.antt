@@ -14,7 +14,7 @@ returns-in-Err-clause-step c = λ s.
     Step-refused (with_spaces s (spaces_of (regions_of c.args.regions.now) (table_of c.args.maps.now))) _ _ (sym (c.in-Err.ensures c.args.name c.requires.name s))
 
 pub allocate_at-requires-clause-free : goal.allocate_at-requires-clause-free
-allocate_at-requires-clause-free c = rw c.page_count.ensures c.in-Ok.ensures.1.free
+allocate_at-requires-clause-free c = c.in-Ok.ensures.1.free
 
 pub overflow_mul-result : goal.overflow_mul-result
 overflow_mul-result c =
@@ -26,10 +26,10 @@ overflow_mul-result c =
 
 pub returns-in-Ok-allocate_at-clause-step : goal.returns-in-Ok-allocate_at-clause-step
 returns-in-Ok-allocate_at-clause-step c = λ s.
-    rw c.allocate_at.ensures.table (allocate_done (with_spaces s (spaces_of (regions_of c.args.regions.now) (table_of c.args.maps.now))) c.args.name c.args.parent c.args.offset c.args.len c.args.flags c.args.caps
-    (sym (c.in-Ok.ensures.0 c.args.name c.requires.name s)) _ c.in-Ok.ensures.1 _ (rw c.page_count.ensures at c.in-Ok-allocate_at.ensures.allocated))
+    rw c.allocate_at.ensures.table (allocate_done (with_spaces s (spaces_of (regions_of c.args.regions.now) (table_of c.args.maps.now))) c.args.name c.args.request.parent c.args.request.offset c.args.request.len c.args.request.flags c.args.request.caps
+    (sym (c.in-Ok.ensures.0 c.args.name c.requires.name s)) _ c.in-Ok.ensures.1 _ c.in-Ok-allocate_at.ensures.allocated)
 
 pub returns-in-Err-allocate_at-clause-step : goal.returns-in-Err-allocate_at-clause-step
 returns-in-Err-allocate_at-clause-step c = λ s.
-    rw c.allocate_at.ensures.table (allocate_lacks (with_spaces s (spaces_of (regions_of c.args.regions.now) (table_of c.args.maps.now))) c.args.name c.args.parent c.args.offset c.args.len c.args.flags c.args.caps
+    rw c.allocate_at.ensures.table (allocate_lacks (with_spaces s (spaces_of (regions_of c.args.regions.now) (table_of c.args.maps.now))) c.args.name c.args.request.parent c.args.request.offset c.args.request.len c.args.request.flags c.args.request.caps
     (sym (c.in-Ok.ensures.0 c.args.name c.requires.name s)) _ c.in-Err-allocate_at.ensures.allocated)

@@ -7,15 +7,15 @@ use Rattle.region_ops.proofs.allocating.ask_to_allocate.Goals as goal
 
 pub returns-in-Ok : goal.returns-in-Ok
 returns-in-Ok c =
-    let place = rw c.by-wanted.ensures at (rw c.page_count.ensures at c.in-Ok.ensures) in (
+    let place = rw c.by-wanted.ensures at c.in-Ok.ensures in (
       λ name free s.
-          sym (allocate_fits (with_spaces s (spaces_of (regions_of c.args.regions.now) (table_of c.args.maps.now))) name c.args.parent c.args.offset c.args.len c.args.flags c.args.caps c.args.above
+          sym (allocate_fits (with_spaces s (spaces_of (regions_of c.args.regions.now) (table_of c.args.maps.now))) name c.args.request.parent c.args.request.offset c.args.request.len c.args.request.flags c.args.request.caps c.args.searched.region
           c.requires.above free c.requires.live (sym c.allows.ensures ∙ c.if-not-allows.false) (rw c.by-wanted.ensures at (sym c.is_misplaced.ensures ∙ c.if-is_misplaced.false)) _ place),
       place,
     )
 
 pub returns-in-Err : goal.returns-in-Err
 returns-in-Err c = λ name free s.
-    sym (allocate_full (with_spaces s (spaces_of (regions_of c.args.regions.now) (table_of c.args.maps.now))) name c.args.parent c.args.offset c.args.len c.args.flags c.args.caps c.args.above
+    sym (allocate_full (with_spaces s (spaces_of (regions_of c.args.regions.now) (table_of c.args.maps.now))) name c.args.request.parent c.args.request.offset c.args.request.len c.args.request.flags c.args.request.caps c.args.searched.region
     c.requires.above free c.requires.live (sym c.allows.ensures ∙ c.if-not-allows.false) (rw c.by-wanted.ensures at (sym c.is_misplaced.ensures ∙ c.if-is_misplaced.false)) _
-    (rw c.by-wanted.ensures at (rw c.page_count.ensures at c.in-Err.ensures)))
+    (rw c.by-wanted.ensures at c.in-Err.ensures))

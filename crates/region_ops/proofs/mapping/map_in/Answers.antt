@@ -25,7 +25,7 @@ pub piece_at-piece-requires : goal.piece_at-piece-requires
 piece_at-piece-requires g c =
     let old = (with_all c.requires.well.rest (g.P.Pages.content c.args.store.now) c.args.vmos.now (spaces_of (regions_of c.args.regions.now) (table_of c.args.maps.now))) in
     let good = c.requires.well.well.good in
-    omega (arith, name_few old.content c.args.t.now good.content (IsInside-good old c.requires.named.0 _ good c.requires.named.1))
+    omega (arith, name_few old.content c.args.request.mapped good.content (IsInside-good old c.requires.named.0 _ good c.requires.named.1))
 
 pub map_at-requires-clause-well : goal.map_at-requires-clause-well
 map_at-requires-clause-well g c = AreWell-all _ _ (spaces_of (regions_of c.args.regions.now) (table_of c.args.maps.now)) c.requires.well
@@ -34,13 +34,13 @@ pub map_at-requires-clause-place : goal.map_at-requires-clause-place
 map_at-requires-clause-place g c =
     let old = (with_all c.requires.well.rest (g.P.Pages.content c.args.store.now) c.args.vmos.now (spaces_of (regions_of c.args.regions.now) (table_of c.args.maps.now))) in
     rw (c.piece_at-piece.ensures, c.contains-overwriting.ensures tt)
-    (puttable old c.args.region c.args.offset (record { 0 = c.requires.named.0 }) c.args.vmo_offset c.args.len c.args.perm c.args.flags _ _
+    (puttable old c.args.request.region c.args.request.offset (record { 0 = c.requires.named.0 }) c.args.request.vmo_offset c.args.request.len c.args.request.perm c.args.request.flags _ _
     c.requires.above c.requires.live c.requires.named.1 _ (sym (c.in-Ok.ensures.0 old (record { 0 = c.requires.named.0 }) c.requires.named.1)) c.in-Ok.ensures.1 c.requires.well.well.good)
 
 pub overflow_mul-result : goal.overflow_mul-result
 overflow_mul-result g c =
     let old = (with_all c.requires.well.rest (g.P.Pages.content c.args.store.now) c.args.vmos.now (spaces_of (regions_of c.args.regions.now) (table_of c.args.maps.now))) in
-    let may = puttable old c.args.region c.args.offset (record { 0 = c.requires.named.0 }) c.args.vmo_offset c.args.len c.args.perm c.args.flags _ _
+    let may = puttable old c.args.request.region c.args.request.offset (record { 0 = c.requires.named.0 }) c.args.request.vmo_offset c.args.request.len c.args.request.perm c.args.request.flags _ _
     c.requires.above c.requires.live c.requires.named.1 _ (sym (c.in-Ok.ensures.0 old (record { 0 = c.requires.named.0 }) c.requires.named.1)) c.in-Ok.ensures.1 c.requires.well.well.good in
     omega (arith, may.end)
 
@@ -61,7 +61,7 @@ pub returns-in-Ok-map_at-clause-places : goal.returns-in-Ok-map_at-clause-places
 returns-in-Ok-map_at-clause-places g c = λ on.
     let old = (with_all c.requires.well.rest (g.P.Pages.content c.args.store.now) c.args.vmos.now (spaces_of (regions_of c.args.regions.now) (table_of c.args.maps.now))) in
     let good = c.requires.well.well.good.spaces.regions in
-    let apart = placed_apart old c.args.region c.args.offset (record { 0 = c.requires.named.0 }) c.args.vmo_offset c.args.len c.args.perm c.args.flags _ _
+    let apart = placed_apart old c.args.request.region c.args.request.offset (record { 0 = c.requires.named.0 }) c.args.request.vmo_offset c.args.request.len c.args.request.perm c.args.request.flags _ _
     c.requires.above c.requires.live c.requires.named.1 _ (sym (c.in-Ok.ensures.0 old (record { 0 = c.requires.named.0 }) c.requires.named.1)) c.in-Ok.ensures.1 in
     c.map_at.ensures.places (rw c.piece_at-piece.ensures
     (apart-vacant _ good _ (c.requires.noted on) _ _ _ _ (region_bounds _ good _ _ c.requires.above c.requires.live).1 apart))

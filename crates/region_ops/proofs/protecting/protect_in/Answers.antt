@@ -14,16 +14,16 @@ returns-in-Err-clause-step c = λ s. Step-refused (with_spaces s (spaces_of (reg
 
 pub returns-in_default-clause-step : goal.returns-in_default-clause-step
 returns-in_default-clause-step c = λ s.
-    rw c.in_default.ensures.table (Step-lacks (with_spaces s (spaces_of (regions_of c.args.regions.now) (table_of c.args.maps.now))) (VmarProtect c.args.region c.args.addr c.args.len c.args.perm)
+    rw c.in_default.ensures.table (Step-lacks (with_spaces s (spaces_of (regions_of c.args.regions.now) (table_of c.args.maps.now))) (VmarProtect c.args.range.region c.args.range.addr c.args.range.len c.args.perm)
     (sym (c.in-Ok.ensures.2 s)) refl)
 
 pub returns-clause-step : goal.returns-clause-step
 returns-clause-step c = λ s.
-    protect_done (with_spaces s (spaces_of (regions_of c.args.regions.now) (table_of c.args.maps.now))) c.args.region c.args.addr c.args.len c.args.perm c.args.above c.requires.above
+    protect_done (with_spaces s (spaces_of (regions_of c.args.regions.now) (table_of c.args.maps.now))) c.args.range.region c.args.range.addr c.args.range.len c.args.perm c.args.above c.requires.above
     (sym (c.in-Ok.ensures.2 s)) (table_of c.restrict.new.self) (rw (c.in-Ok.ensures.0, c.in-Ok-reserve.ensures.table) at c.restrict.ensures.table)
 
 pub restrict-requires-clause-full : goal.restrict-requires-clause-full
-restrict-requires-clause-full c = rw c.in-Ok-reserve.ensures.table (full _ c.args.region.0 c.args.perm.0 _ _ c.in-Ok.ensures.1)
+restrict-requires-clause-full c = rw c.in-Ok-reserve.ensures.table (full _ c.args.range.region.0 c.args.perm.0 _ _ c.in-Ok.ensures.1)
 
 pub returns-clause-mapped : goal.returns-clause-mapped
 returns-clause-mapped c = λ v.

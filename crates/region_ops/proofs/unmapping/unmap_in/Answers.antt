@@ -21,7 +21,7 @@ returns-in_default-clause-does g c =
     rw (c.in_default.ensures.store, c.in_default.ensures.vmos, c.in_default.ensures.table) (record {
       step = λ s well.
           unmap_lacks (g.P.Pages.content c.args.store.now) c.args.vmos.now (spaces_of (regions_of c.args.regions.now) (table_of c.args.maps.now))
-          c.args.region c.args.addr c.args.len c.args.above c.requires.above
+          c.args.range.region c.args.range.addr c.args.range.len c.args.above c.requires.above
           (λ t. sym (asked.1 (table_of c.args.maps.now) (with_vmos t (g.P.Pages.content c.args.store.now) c.args.vmos.now)))
           (rw asked.0 at c.in_default.ensures.mapped) s;
       counted = λ s well. well.counted;
@@ -34,7 +34,7 @@ pub returns-clause-does : goal.returns-clause-does
 returns-clause-does g c =
     let asked = c.in-Ok.ensures in
     unmap_done (g.P.Pages.content c.args.store.now) c.args.vmos.now (spaces_of (regions_of c.args.regions.now) (table_of c.args.maps.now))
-    c.args.region c.args.addr c.args.len c.args.above c.requires.above
+    c.args.range.region c.args.range.addr c.args.range.len c.args.above c.requires.above
     (λ s. sym (asked.1 (table_of c.args.maps.now) (with_vmos s (g.P.Pages.content c.args.store.now) c.args.vmos.now)))
     _ _ (table_of c.destroy_within.new.maps) _
     (c.destroy_within.ensures.table ∙ rw asked.0 at c.in-Ok-clear_mapped.ensures.cleared)

@@ -22,9 +22,9 @@ map_in-requires-clause-end g c = (region_bounds _ c.requires.well.well.good.spac
 pub forget_pages-requires : goal.forget_pages-requires
 forget_pages-requires g c =
     let s = with_all c.requires.well.rest (g.P.PageStore.content c.args.store.now) c.args.vmos.now (spaces_of (regions_of c.args.regions.now) (table_of c.args.maps.now)) in
-    let does = c.in-Ok.ensures.does c.args.name (sym c.in-Some-resolve.ensures) in
-    let bound = done_bounds s (VmarMap c.args.region c.args.offset c.args.name c.args.vmo_offset c.args.len c.args.perm c.args.flags) (Address c.in-Ok.address) _ c.requires.well.well.good (does.step c.requires.well.rest c.requires.well.well) (λ refusal e. cc) c.in-Ok.address refl in
-    omega (arith, bound, c.page_of.ensures, c.page_count.ensures)
+    let does = c.in-Ok.ensures.does c.args.request.mapped (sym c.in-Some-resolve.ensures) in
+    let bound = done_bounds s (VmarMap c.args.request.region c.args.request.offset c.args.request.mapped c.args.request.vmo_offset c.args.request.len c.args.request.perm c.args.request.flags) (Address c.in-Ok.address) _ c.requires.well.well.good (does.step c.requires.well.rest c.requires.well.well) (λ refusal e. cc) c.in-Ok.address refl in
+    omega (arith, bound, c.page_of.ensures, c.page_count-count.ensures)
 
 pub returns-in_default : goal.returns-in_default
 returns-in_default g c = record { step = refused_spaces (λ s. rw (← c.in_default.ensures.region) refl); left = left_spaces; noted = c.requires.noted }
@@ -38,7 +38,7 @@ returns-in_default-resolve g c = record {
 
 pub returns-then-not-above : goal.returns-then-not-above
 returns-then-not-above g c =
-    let not_live = dead (regions_of c.args.regions.now) c.args.region.0 c.in-Some.ensures.region c.if-not-above.true in
+    let not_live = dead (regions_of c.args.regions.now) c.args.request.region.0 c.in-Some.ensures.region c.if-not-above.true in
     record {
       step = refused_spaces (λ s. rw (← c.in-Some.ensures.region) (rw (← c.in-Some-resolve.ensures) (rw not_live refl)));
       left = left_spaces;
@@ -46,16 +46,16 @@ returns-then-not-above g c =
     }
 
 pub returns-in-Err : goal.returns-in-Err
-returns-in-Err g c = record { step = c.in-Err.ensures.does c.args.name (sym c.in-Some-resolve.ensures); left = left_spaces; noted = rw (c.in-Err.ensures.places refl) c.requires.noted }
+returns-in-Err g c = record { step = c.in-Err.ensures.does c.args.request.mapped (sym c.in-Some-resolve.ensures); left = left_spaces; noted = rw (c.in-Err.ensures.places refl) c.requires.noted }
 
 pub returns-in-Ok : goal.returns-in-Ok
 returns-in-Ok g c = record {
-  step = c.in-Ok.ensures.does c.args.name (sym c.in-Some-resolve.ensures);
+  step = c.in-Ok.ensures.does c.args.request.mapped (sym c.in-Some-resolve.ensures);
   noted = rw (c.in-Ok.ensures.places refl) c.requires.noted;
   left = record {
     left = λ s d.
-        left_region (with_spaces s (spaces_of (regions_of c.args.regions.now) (table_of c.args.maps.now))) c.args.region.0
-        (λ (above : Region). without_pages above.root (c.in-Ok.address / PAGE) (rounded c.args.len / PAGE) (translations_of c.args.translations.now)) c.in-Some.ensures.region
-        (rw (c.page_of.ensures, c.page_count.ensures) at c.forget_pages.ensures);
+        left_region (with_spaces s (spaces_of (regions_of c.args.regions.now) (table_of c.args.maps.now))) c.args.request.region.0
+        (λ (above : Region). without_pages above.root (c.in-Ok.address / PAGE) (rounded c.args.request.len / PAGE) (translations_of c.args.translations.now)) c.in-Some.ensures.region
+        (rw (c.page_of.ensures, c.page_count-count.ensures) at c.forget_pages.ensures);
   };
 }

@@ -17,8 +17,8 @@ use Rattle.vm_core.proofs.mappings.vmar_protect.Goals as goal
 pub forget_pages-requires : goal.forget_pages-requires
 forget_pages-requires c =
     let s = with_spaces c.requires.good.0 (spaces_of (regions_of c.args.regions.now) (table_of c.args.maps.now)) in
-    let bound = done_bounds s (VmarProtect c.args.region c.args.addr c.args.len c.args.perm) Done _ c.requires.good.1 (c.in-Ok-protect_in.ensures.step c.requires.good.0) (λ refusal e. cc) in
-    omega (arith, bound, c.page_of.ensures, c.page_count.ensures)
+    let bound = done_bounds s (VmarProtect c.args.range.region c.args.range.addr c.args.range.len c.args.perm) Done _ c.requires.good.1 (c.in-Ok-protect_in.ensures.step c.requires.good.0) (λ refusal e. cc) in
+    omega (arith, bound, c.page_of.ensures, c.page_count-count.ensures)
 
 pub returns-in-Err : goal.returns-in-Err
 returns-in-Err c = record { step = refused_steps (λ s. sym (c.in-Err.ensures _)); left = left_spaces; mapped = λ v. refl; noted = c.requires.noted }
@@ -31,9 +31,9 @@ returns-in-Ok-protect_in c = record {
   step = record { step = λ s good. c.in-Ok-protect_in.ensures.step s };
   left = record {
     left = λ s d.
-        left_region (with_spaces s (spaces_of (regions_of c.args.regions.now) (table_of c.args.maps.now))) c.args.region.0
-        (λ (above : Region). without_pages above.root (c.args.addr / PAGE) (rounded c.args.len / PAGE) (translations_of c.args.translations.now)) (sym c.in-Ok.ensures.0)
-        (rw (c.page_of.ensures, c.page_count.ensures) at c.forget_pages.ensures);
+        left_region (with_spaces s (spaces_of (regions_of c.args.regions.now) (table_of c.args.maps.now))) c.args.range.region.0
+        (λ (above : Region). without_pages above.root (c.args.range.addr / PAGE) (rounded c.args.range.len / PAGE) (translations_of c.args.translations.now)) (sym c.in-Ok.ensures.0)
+        (rw (c.page_of.ensures, c.page_count-count.ensures) at c.forget_pages.ensures);
   };
   mapped = c.in-Ok-protect_in.ensures.mapped;
   noted = rw c.in-Ok-protect_in.ensures.places c.requires.noted;

@@ -17,8 +17,8 @@ use Rattle.vm_core.proofs.mappings.vmar_unmap.Goals as goal
 pub forget_pages-requires : goal.forget_pages-requires
 forget_pages-requires g c =
     let s = with_all c.requires.well.rest (g.P.PageStore.content c.args.store.now) c.args.vmos.now (spaces_of (regions_of c.args.regions.now) (table_of c.args.maps.now)) in
-    let bound = done_bounds s (VmarUnmap c.args.region c.args.addr c.args.len) Done _ c.requires.well.well.good (c.in-Ok-unmap_in.ensures.does.step c.requires.well.rest c.requires.well.well) (λ refusal e. cc) in
-    omega (arith, bound, c.page_of.ensures, c.page_count.ensures)
+    let bound = done_bounds s (VmarUnmap c.args.range.region c.args.range.addr c.args.range.len) Done _ c.requires.well.well.good (c.in-Ok-unmap_in.ensures.does.step c.requires.well.rest c.requires.well.well) (λ refusal e. cc) in
+    omega (arith, bound, c.page_of.ensures, c.page_count-count.ensures)
 
 pub returns-in-Err : goal.returns-in-Err
 returns-in-Err g c = record { step = refused_spaces (λ s. sym (c.in-Err.ensures _)); left = left_spaces; noted = c.requires.noted }
@@ -32,8 +32,8 @@ returns-in-Ok-unmap_in g c = record {
   noted = c.in-Ok-unmap_in.ensures.noted c.requires.noted;
   left = record {
     left = λ s d.
-        left_region (with_spaces s (spaces_of (regions_of c.args.regions.now) (table_of c.args.maps.now))) c.args.region.0
-        (λ (above : Region). without_pages above.root (c.args.addr / PAGE) (rounded c.args.len / PAGE) (translations_of c.args.translations.now)) (sym c.in-Ok.ensures.0)
-        (rw (c.page_of.ensures, c.page_count.ensures) at c.forget_pages.ensures);
+        left_region (with_spaces s (spaces_of (regions_of c.args.regions.now) (table_of c.args.maps.now))) c.args.range.region.0
+        (λ (above : Region). without_pages above.root (c.args.range.addr / PAGE) (rounded c.args.range.len / PAGE) (translations_of c.args.translations.now)) (sym c.in-Ok.ensures.0)
+        (rw (c.page_of.ensures, c.page_count-count.ensures) at c.forget_pages.ensures);
   };
 }
