@@ -14,11 +14,11 @@ returns-in-Err c = λ s. other_open _ _ _ _ _ (ap (λ (o : Option Target). is_so
 
 pub ask_to_map-requires-clause-inside : goal.ask_to_map-requires-clause-inside
 ask_to_map-requires-clause-inside c =
-    IsInside-good (with_all c.requires.well.rest (eager_content c.args.pages.now) c.args.vmos.now (spaces_of (regions_of c.args.regions.now) (table_of c.args.maps.now)))
-    c.args.request.mapped.0 _ c.requires.well.well.good (sym c.resolve.ensures ∙ c.in-Some.is)
+    rw c.of.ensures (IsInside-good (with_all c.requires.well.rest (eager_content c.args.pages.now) c.args.vmos.now (spaces_of (regions_of c.args.regions.now) (table_of c.args.maps.now)))
+    c.args.request.mapped.0 _ c.requires.well.well.good (sym c.resolve.ensures ∙ c.in-Some.is))
 
 pub returns-in-Ok-ask_to_map : goal.returns-in-Ok-ask_to_map
-returns-in-Ok-ask_to_map c = λ s. c.in-Ok-ask_to_map.ensures.0 (with_all s (eager_content c.args.pages.now) c.args.vmos.now (spaces_of (regions_of c.args.regions.now) (table_of c.args.maps.now))) c.args.request.mapped (sym c.resolve.ensures ∙ c.in-Some.is)
+returns-in-Ok-ask_to_map c = λ s. (rw c.of.ensures at c.in-Ok-ask_to_map.ensures.0) (with_all s (eager_content c.args.pages.now) c.args.vmos.now (spaces_of (regions_of c.args.regions.now) (table_of c.args.maps.now))) c.args.request.mapped (sym c.resolve.ensures ∙ c.in-Some.is)
 
 pub returns-in-Err-ask_to_map : goal.returns-in-Err-ask_to_map
-returns-in-Err-ask_to_map c = λ s. c.in-Err-ask_to_map.ensures (with_all s (eager_content c.args.pages.now) c.args.vmos.now (spaces_of (regions_of c.args.regions.now) (table_of c.args.maps.now))) c.args.request.mapped (sym c.resolve.ensures ∙ c.in-Some.is)
+returns-in-Err-ask_to_map c = λ s. (rw c.of.ensures at c.in-Err-ask_to_map.ensures) (with_all s (eager_content c.args.pages.now) c.args.vmos.now (spaces_of (regions_of c.args.regions.now) (table_of c.args.maps.now))) c.args.request.mapped (sym c.resolve.ensures ∙ c.in-Some.is)

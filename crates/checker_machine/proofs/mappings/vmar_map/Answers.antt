@@ -33,14 +33,14 @@ pub piece_at-piece-requires : goal.piece_at-piece-requires
 piece_at-piece-requires c =
     let s = state_in c.args.vmos.now (spaces_of (regions_of c.args.regions.now) (table_of c.args.maps.now)) in
     let good = c.requires.may.well.good in
-    omega (arith, name_few s.content c.in-Some.target good.content (IsInside-good s c.args.request.mapped.0 _ good (sym c.in-Some.ensures)))
+    rw c.of.ensures (omega (arith, name_few s.content c.in-Some.target good.content (IsInside-good s c.args.request.mapped.0 _ good (sym c.in-Some.ensures))))
 
 pub map_at-requires-clause-well : goal.map_at-requires-clause-well
 map_at-requires-clause-well c = AreWell-all _ _ (spaces_of (regions_of c.args.regions.now) (table_of c.args.maps.now)) (all_well c.args.vmos.now (spaces_of (regions_of c.args.regions.now) (table_of c.args.maps.now)) c.requires.may.well)
 
 pub map_at-requires-clause-place : goal.map_at-requires-clause-place
 map_at-requires-clause-place c =
-    rw (c.piece_at-piece.ensures, c.by-wanted.ensures)
+    rw (c.piece_at-piece.ensures, c.of.ensures, c.by-wanted.ensures)
     (puttable (state_in c.args.vmos.now (spaces_of (regions_of c.args.regions.now) (table_of c.args.maps.now))) c.args.request.region c.args.request.offset c.args.request.mapped c.args.request.vmo_offset c.args.request.len c.args.request.perm c.args.request.flags _ _
     c.live_region-above.ensures.given c.live_region-above.ensures.live (sym c.in-Some.ensures) _ c.requires.may.none (rw c.by-wanted.ensures at (c.is_map_place.ensures.0 c.if-not-is_map_place.false)) c.requires.may.well.good)
 
@@ -67,7 +67,7 @@ returns-in-Ok-clause-does c =
     (subst (λ (r : Reply). Does (content_in c.args.vmos.now) c.args.vmos.now.vmos (spaces_of (regions_of c.args.regions.now) (table_of c.args.maps.now)) (VmarMap c.args.request.region c.args.request.offset c.args.request.mapped c.args.request.vmo_offset c.args.request.len c.args.request.perm c.args.request.flags) r (eager_content c.map_at.new.store) c.map_at.new.vmos (spaces_of (regions_of c.args.regions.now) (table_of c.map_at.new.maps)))
     (address_of c.args.told c.in_page.result c.page_of-first.result c.page_of-first.result c.in_page.ensures c.if-in_page-ne0.false c.page_of-first.ensures refl)
     (map_does (content_in c.args.vmos.now) c.args.vmos.now.vmos (spaces_of (regions_of c.args.regions.now) (table_of c.args.maps.now)) c.args.request.region c.args.request.offset c.args.request.mapped c.args.request.vmo_offset c.args.request.len c.args.request.perm c.args.request.flags _ _
-    c.live_region-above.ensures.given c.live_region-above.ensures.live (sym c.in-Some.ensures) _ (λ s. c.requires.may.none) (rw c.by-wanted.ensures at (c.is_map_place.ensures.0 c.if-not-is_map_place.false)) _ _ _ (rw c.piece_at-piece.ensures at c.in-Ok.ensures.puts)))
+    c.live_region-above.ensures.given c.live_region-above.ensures.live (sym c.in-Some.ensures) _ (λ s. c.requires.may.none) (rw c.by-wanted.ensures at (c.is_map_place.ensures.0 c.if-not-is_map_place.false)) _ _ _ (rw (c.piece_at-piece.ensures, c.of.ensures) at c.in-Ok.ensures.puts)))
     (dropped (regions_of c.args.regions.now) c.args.request.region.0 c.live_region-above.result c.live_region-above.ensures.given (rows_of c.args.ready.now) _ c.args.told c.args.request.len _ _ c.drop_range.ensures.rows c.page_of-first.ensures (ap (λ (w : Wanted). w.count) c.by-wanted.ensures))
 
 pub returns-in-Err-clause-does : goal.returns-in-Err-clause-does
@@ -80,7 +80,7 @@ returns-in-Ok-clause-noted c =
     let good = c.requires.may.well.good.spaces.regions in
     let apart = placed_apart (state_in c.args.vmos.now (spaces_of (regions_of c.args.regions.now) (table_of c.args.maps.now))) c.args.request.region c.args.request.offset c.args.request.mapped c.args.request.vmo_offset c.args.request.len c.args.request.perm c.args.request.flags _ _
     c.live_region-above.ensures.given c.live_region-above.ensures.live (sym c.in-Some.ensures) _ c.requires.may.none (rw c.by-wanted.ensures at (c.is_map_place.ensures.0 c.if-not-is_map_place.false)) in
-    rw (c.map_at.ensures.places (rw c.piece_at-piece.ensures
+    rw (c.map_at.ensures.places (rw (c.piece_at-piece.ensures, c.of.ensures)
     (apart-vacant _ good _ c.requires.noted _ _ _ _ (region_bounds _ good _ _ c.live_region-above.ensures.given c.live_region-above.ensures.live).1 apart))) c.requires.noted
 
 pub returns-in-Err-clause-noted : goal.returns-in-Err-clause-noted

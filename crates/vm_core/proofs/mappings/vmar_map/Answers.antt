@@ -22,7 +22,7 @@ map_in-requires-clause-end g c = (region_bounds _ c.requires.well.well.good.spac
 pub forget_pages-requires : goal.forget_pages-requires
 forget_pages-requires g c =
     let s = with_all c.requires.well.rest (g.P.PageStore.content c.args.store.now) c.args.vmos.now (spaces_of (regions_of c.args.regions.now) (table_of c.args.maps.now)) in
-    let does = c.in-Ok.ensures.does c.args.request.mapped (sym c.in-Some-resolve.ensures) in
+    let does = (rw c.of.ensures at c.in-Ok.ensures.does) c.args.request.mapped (sym c.in-Some-resolve.ensures) in
     let bound = done_bounds s (VmarMap c.args.request.region c.args.request.offset c.args.request.mapped c.args.request.vmo_offset c.args.request.len c.args.request.perm c.args.request.flags) (Address c.in-Ok.address) _ c.requires.well.well.good (does.step c.requires.well.rest c.requires.well.well) (λ refusal e. cc) c.in-Ok.address refl in
     omega (arith, bound, c.page_of.ensures, c.page_count-count.ensures)
 
@@ -46,11 +46,11 @@ returns-then-not-above g c =
     }
 
 pub returns-in-Err : goal.returns-in-Err
-returns-in-Err g c = record { step = c.in-Err.ensures.does c.args.request.mapped (sym c.in-Some-resolve.ensures); left = left_spaces; noted = rw (c.in-Err.ensures.places refl) c.requires.noted }
+returns-in-Err g c = record { step = (rw c.of.ensures at c.in-Err.ensures.does) c.args.request.mapped (sym c.in-Some-resolve.ensures); left = left_spaces; noted = rw (c.in-Err.ensures.places refl) c.requires.noted }
 
 pub returns-in-Ok : goal.returns-in-Ok
 returns-in-Ok g c = record {
-  step = c.in-Ok.ensures.does c.args.request.mapped (sym c.in-Some-resolve.ensures);
+  step = (rw c.of.ensures at c.in-Ok.ensures.does) c.args.request.mapped (sym c.in-Some-resolve.ensures);
   noted = rw (c.in-Ok.ensures.places refl) c.requires.noted;
   left = record {
     left = λ s d.
