@@ -170,7 +170,7 @@ module _ (f : Forest) (arena : Arena) (rows : Rows Row) (pool : Pool) (nodes own
   pub store-left : IsStore (with_less f arena rows pool nodes owners)
   store-left = record {
     exact = c.exact;
-    linked = c.linked s.linked;
+    linked = c.accounts.linked s.linked;
     named = λ w at is.
         let was = without_key-some (node_in f.nodes) v w at (ap (λ m. m w) (sym left) ∙ is) in (node-stays w at.0 (s.named w at was.1) was.0).now;
     nodes = λ w j node is. let it = node-was w j node is in entry-stays w it.apart ∙ node-of f s w j it.was;
@@ -214,7 +214,7 @@ module _ (f : Forest) (arena : Arena) (rows : Rows Row) (pool : Pool) (nodes own
           ∙ (elim (cases_lt q now.now.node.count) [
             | inl less ↦
                 let page : IsPage (tree g) at.0 q = record { node = now.now.node; visible = visible; below = less } in
-                showing-given (tree g) f.pool pool c.exact c.pool at.0 q (frame_shown (tree f) at.0 q) (c.shows at.0 q page)
+                showing-given (tree g) f.pool pool c.exact c.accounts.gives at.0 q (frame_shown (tree f) at.0 q) (c.shows at.0 q page)
             | inr past ↦
                 ap (page_showing pool) (frame-past g store-left at.0 q now.now.node visible past)
                 ∙ sym (ap (page_showing f.pool) (frame-past f s at.0 q its.node (node-visible f s w at.0 its) (omega (arith, now.count))))
@@ -223,4 +223,4 @@ module _ (f : Forest) (arena : Arena) (rows : Rows Row) (pool : Pool) (nodes own
 
   pub content-left : forest_content (with_less f arena rows pool nodes owners) ≡ without (forest_content f) v
   unfolding only
-  content-left = same_content _ _ c.pool.frames refl counts-now pages-now
+  content-left = same_content _ _ c.accounts.gives.frames refl counts-now pages-now

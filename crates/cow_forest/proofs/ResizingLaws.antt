@@ -31,6 +31,7 @@ use Rattle.cow_merge.specs.Ranges.{GivesBack}
 use Rattle.cow_merge.specs.Merging.{with_count, HasShrunk}
 use Rattle.cow_merge.proofs.CountLaws.{walk-grown, exact-grown}
 use Rattle.cow_merge.proofs.ShrinkLaws.{tree-now}
+use Rattle.cow_merge.proofs.RangeLaws.{accounts-same}
 use Rattle.vm_model.proofs.ContentLaws.{same_content}
 use Rattle.vm_model.proofs.CountLaws.{vmos_of-same}
 use Rattle.cow_forest.specs.Tables.{node_in}
@@ -94,10 +95,7 @@ shrunk-grown old new rows pool k count node exact visible more nodes lists hidde
             | inl here ↦ ap frame_found (walk-grown t k count node visible more g exact.forest w q node (ap (nodes_of old) here.0 ∙ visible.at))
             | inr apart ↦ ap frame_found (walk-grown t k count node visible more g exact.forest w q page.node apart.1)
           ]);
-      pool = record { frames = refl; kept = λ t. inl refl };
-      linked = λ linked. linked;
-      spare = omega arith;
-      fewer = omega arith;
+      accounts = accounts-same rows pool;
       part = part-same (slots_of rows);
     }
 
@@ -216,7 +214,7 @@ module _ (f : Forest) (arena : Arena) (rows : Rows Row) (pool : Pool) (v k count
   pub store-resized : count ≤ VMO_PAGES → IsStore (with_tree f arena rows pool)
   store-resized few = record {
     exact = c.exact;
-    linked = c.linked s.linked;
+    linked = c.accounts.linked s.linked;
     named = λ w at is. (node-now w at.0 (s.named w at is)).now;
     nodes = λ w j node is. s.nodes w j (node-was j node is.at).before (named-was w j node is);
     owners = λ j node at.
@@ -271,11 +269,11 @@ module _ (f : Forest) (arena : Arena) (rows : Rows Row) (pool : Pool) (v k count
             | inl less ↦
                 let page : IsPage (tree g) at.0 q =
                 record { node = now.now.node; visible = node-visible g (store-resized few) w at.0 now.now; below = less } in
-                showing-given (tree g) f.pool pool c.exact c.pool at.0 q (frame_shown (tree f) at.0 q) (c.shows at.0 q page)
+                showing-given (tree g) f.pool pool c.exact c.accounts.gives at.0 q (frame_shown (tree f) at.0 q) (c.shows at.0 q page)
                 ∙ (sym (page-of f s w at.0 q its)
                 ∙ left (λ same. elim (now.which) [ inl new ↦ inl (omega arith) | inr other ↦ absurd (other.0 same) ]))
           ]
 
   pub content-resized : count ≤ VMO_PAGES → forest_content (with_tree f arena rows pool) ≡ resized (forest_content f) v count
   unfolding resized zeroed with_key
-  content-resized few = same_content _ _ c.pool.frames refl counts-now (pages-now few)
+  content-resized few = same_content _ _ c.accounts.gives.frames refl counts-now (pages-now few)

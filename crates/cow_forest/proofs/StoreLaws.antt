@@ -139,7 +139,3 @@ pub record IsUnchanged (f : Forest) (rows : Rows Row) (pool : Pool) : Type 0 whe
   pub frames : pool.frames ≡ f.pool.frames
   pub shows : (w q : ℕ) → IsPage (tree f) w q → frame_shown (tree_of f.arena rows) w q ≡ frame_shown (tree f) w q
   pub bytes : (w q t : ℕ) → IsPage (tree f) w q → frame_shown (tree f) w q ≡ Some t → frame_bytes pool t ≡ frame_bytes f.pool t
-
-pub content-unchanged : (f : Forest) (rows : Rows Row) (pool : Pool) → IsStore f → IsUnchanged f rows pool → forest_content (with_rows f rows pool) ≡ forest_content f
-content-unchanged f rows pool s c = same_content _ _ c.frames refl (λ w. refl) (λ w q.
-    page-same f rows pool s (store-kept f rows pool s c.exact c.linked) w q (λ k its page. record { frame = c.shows k q page; bytes = λ t e. c.bytes k q t page e }))

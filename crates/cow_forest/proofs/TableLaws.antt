@@ -69,14 +69,6 @@ module _ (nodes : Nodes) (lists : ℕ) (f : IsForest nodes lists) where
     pub disowned-root : IsDisowned nodes old between v
     disowned-root = record { kept = λ k node also apart _. ap (λ g. g node.list.0) gone ∙ other-list old v k own node at also apart }
 
-    pub disowned-pair : (new : ℕ → Option NodeId) (h : ℕ) (above : Node) → own.parent ≡ link_to h → nodes h ≡ Some above →
-        new ≡ without_key between above.list.0 → IsDisowned nodes old new v
-    disowned-pair new h above parent there left = record {
-      kept = λ k node also apart below.
-          let higher : k ≢ h = λ same. below (record { node = own; at = at; parent = parent ∙ ap link_to (sym same) }) in
-          ap (λ g. g node.list.0) left ∙ (other-list between h k above node there also higher ∙ disowned-root.kept k node also apart below);
-    }
-
 -- ---- the list of the parent goes to the sibling
 
 -- the list of another node than the one that is out is still that of the node

@@ -24,19 +24,18 @@ use Rattle.cow_split.specs.declared.answers.Holder.{Holder}
 use Rattle.cow_split.specs.declared.answers.Holder.TheVariants as holder
 use Rattle.cow_split.specs.Trees.{tree_of, holder_of}
 use Rattle.cow_split.specs.Sight.{IsPage}
-use Rattle.cow_split.specs.Exact.{leaving_out}
 use Rattle.cow_split.proofs.CutLaws.{cut-nothing}
 use Rattle.cow_split.proofs.HolderLaws.{held-row, held-way, own-cut, nothing-cut}
 use Rattle.cow_split.proofs.RowLaws.{left_out-in_sight}
 use Rattle.cow_split.proofs.PartLaws.{part-none}
 use Rattle.cow_merge.specs.declared.witness.Way.{Way}
 use Rattle.cow_merge.specs.inside.Lifting.{IsFamilyOf}
-use Rattle.cow_merge.specs.Ranges.{no_pages, CameTo, IsSpared, IsPassing, IsOnlyWay, HasPassedRow, HasLeftPageOut, HasKept, IsExactFor, KeepsList, KeepsOthers}
+use Rattle.cow_merge.specs.Ranges.{no_pages, CameTo, IsSpared, IsPassing, IsOnlyWay, HasPassedRow, HasLeftPageOut, IsExactFor, KeepsList, KeepsOthers, HasLost}
 use Rattle.cow_merge.specs.inside.Witness.{IsWayWithin, IsEntered, ComesBeside, IsBeside, SeesRowOf, HasLeftPage, IsPageCut}
 use Rattle.cow_arena.proofs.SpliceWalkLaws.{family-parent}
 use Rattle.cow_merge.proofs.LiftedLaws.{family-other}
-use Rattle.cow_merge.proofs.RangeLaws.{gives-same, arrives-part, leaving-more, leaving-again, leaving-kept}
-use Rattle.cow_merge.proofs.PassingLaws.{spared-stays}
+use Rattle.cow_merge.proofs.RangeLaws.{arrives-part, kept-same, bare-kept, bare-lost, bare-more, lost-kept}
+use Rattle.cow_merge.proofs.PassingLaws.{spared-stays, came-on}
 
 -- ---- the way down
 
@@ -58,13 +57,13 @@ within-entered first base to node child shift from end way fits low high entered
 }
 
 -- it begins at the sibling
-pub beside-start : (arena : Arena) (old new : Rows Row) (before after : Pool) (v first : ℕ) (spared : Option NodeId) (above : Node) (base to h : ℕ)
+pub beside-start : (arena : Arena) (new : Rows Row) (after : Pool) (v first : ℕ) (spared : Option NodeId) (above : Node) (base to h : ℕ)
     (sib : NodeId) → to < 2 ^ 64 → IsFamilyOf arena v h sib.0 → nodes_of arena h ≡ Some above → (end : ℕ) → end ≤ to → (way : Way) →
     ((node : Node) → nodes_of arena sib.0 ≡ Some node → IsEntered node sib 0 (first + base) end way) →
-    IsPassing arena old new before after v first no_pages spared above base to to →
-    IsBeside arena old new before after v first spared h above base to (other_side (side_of above v)) way way.from
-beside-start arena old new before after v first spared above base to h sib fits of at end most way entered was =
-    let f = was.bare.leaving.exact.forest in
+    IsPassing arena new after v first no_pages spared above base to to →
+    IsBeside arena new after v first spared h above base to (other_side (side_of above v)) way way.from
+beside-start arena new after v first spared above base to h sib fits of at end most way entered was =
+    let f = was.bare.has.exact.forest in
     let family = of.family in
     let enters = entered of.sibling family.sibling_at in
     let same : of.parent ≡ above = some_same (sym family.parent_at ∙ at) in
@@ -74,15 +73,17 @@ beside-start arena old new before after v first spared above base to h sib fits 
       bare = was.bare;
       parent = was.parent;
       at = at;
-      node = of.sibling;
-      node_at = ap (λ (k : NodeId). nodes_of arena k.0) enters.at ∙ family.sibling_at;
-      e = h;
-      up = up;
-      from = None;
-      side = ap (λ (k : NodeId). side_in (nodes_of arena) k.0) enters.at
-          ∙ (side-is (nodes_of arena) arena.lists f h sib.0 of.parent of.sibling family.parent_at family.sibling_at up
-          ∙ ap Some (family-other arena v h sib.0 f of ∙ ap (λ (n : Node). other_side (side_of n v)) same));
-      within = within-entered first base to of.sibling sib 0 (first + base) end way fits (λ p low less. omega arith) (λ p low less. omega arith) enters;
+      place = record {
+        node = of.sibling;
+        node_at = ap (λ (k : NodeId). nodes_of arena k.0) enters.at ∙ family.sibling_at;
+        e = h;
+        up = up;
+        from = None;
+        side = ap (λ (k : NodeId). side_in (nodes_of arena) k.0) enters.at
+            ∙ (side-is (nodes_of arena) arena.lists f h sib.0 of.parent of.sibling family.parent_at family.sibling_at up
+            ∙ ap Some (family-other arena v h sib.0 f of ∙ ap (λ (n : Node). other_side (side_of n v)) same));
+        within = within-entered first base to of.sibling sib 0 (first + base) end way fits (λ p low less. omega arith) (λ p low less. omega arith) enters;
+      };
       came = λ q tag start below sight shown. elim (was.came q tag start below sight shown) [
         | inl held ↦ inl held
         | inr came ↦ inr (record {
@@ -96,61 +97,26 @@ beside-start arena old new before after v first spared above base to h sib fits 
       ];
     }
 
--- whenever the rows were the old ones, they are so now
-pub beside-again : (arena : Arena) (old new : Rows Row) (before after : Pool) (v first : ℕ) (spared : Option NodeId) (h : ℕ) (above : Node) (base to : ℕ)
-    (s : Side) (way : Way) (upto : ℕ) → IsBeside arena old new before after v first spared h above base to s way upto →
-    IsBeside arena new new after after v first spared h above base to s way upto
-beside-again arena old new before after v first spared h above base to s way upto was = record {
-  bare = record {
-    out = was.bare.out;
-    leaving = leaving-again arena old new before after v first was.bare.out was.bare.leaving;
-    node = was.bare.node;
-    visible = was.bare.visible;
-    bare = was.bare.bare;
-  };
-  parent = was.parent;
-  at = was.at;
-  node = was.node;
-  node_at = was.node_at;
-  e = was.e;
-  up = was.up;
-  from = was.from;
-  side = was.side;
-  within = was.within;
-  came = was.came;
-}
-
--- the tree is exact now, with some pages of the node left out
-pub beside-exact : (arena : Arena) (old new : Rows Row) (before after : Pool) (v first : ℕ) (spared : Option NodeId) (h : ℕ) (above : Node) (base to : ℕ)
-    (s : Side) (way : Way) (upto : ℕ) → IsBeside arena old new before after v first spared h above base to s way upto → IsExactFor arena new after v
-beside-exact arena old new before after v first spared h above base to s way upto was = record {
-  out = was.bare.out;
-  exact = was.bare.leaving.exact;
-  only = was.bare.leaving.only;
-  node = was.bare.node;
-  visible = was.bare.visible;
-}
-
-pub beside-bare : (arena : Arena) (old new : Rows Row) (before after : Pool) (v first : ℕ) (spared : Option NodeId) (h : ℕ) (above : Node) (base to : ℕ)
-    (s : Side) (way : Way) (upto : ℕ) → IsBeside arena old new before after v first spared h above base to s way upto → (p : ℕ) → first ≤ p →
+pub beside-bare : {arena : Arena} {new : Rows Row} {after : Pool} {v first : ℕ} {spared : Option NodeId} {h : ℕ} {above : Node} {base to : ℕ}
+    {s : Side} {way : Way} {upto : ℕ} → IsBeside arena new after v first spared h above base to s way upto → (p : ℕ) → first ≤ p →
     (node : Node) → nodes_of arena v ≡ Some node → slots_of new node.list.0 p ≡ None
-beside-bare arena old new before after v first spared h above base to s way upto was p from node at =
-    subst (λ (n : Node). slots_of new n.list.0 p ≡ None) (some_same (sym was.bare.visible.at ∙ at)) (was.bare.bare p from)
+beside-bare {arena} {new} {after} {v} {first} {spared} {h} {above} {base} {to} {s} {way} {upto} was p from node at =
+    subst (λ (n : Node). slots_of new n.list.0 p ≡ None) (some_same (sym was.bare.has.visible.at ∙ at)) (was.bare.bare p from)
 
 -- ---- a row on the way
 
-module _ (arena : Arena) (old mid new : Rows Row) (before between after : Pool) (v first : ℕ) (spared : Option NodeId) (h : ℕ) (above : Node)
-    (base to : ℕ) (s : Side) (way : Way) (upto page : ℕ) (was : IsBeside arena old mid before between v first spared h above base to s way upto)
-    (from : way.from ≤ upto) (less : page < way.to) (next : IsNext (slots_of mid was.node.list.0) upto (Some page)) where
+module _ {arena : Arena} {mid : Rows Row} (new : Rows Row) {between : Pool} (after : Pool) {v first : ℕ} {spared : Option NodeId} {h : ℕ} {above : Node}
+    {base to : ℕ} {s : Side} {way : Way} {upto page : ℕ} (was : IsBeside arena mid between v first spared h above base to s way upto)
+    (from : way.from ≤ upto) (less : page < way.to) (next : IsNext (slots_of mid was.place.node.list.0) upto (Some page)) where
   abbrev own : ℕ
   own = page + way.shift - base
 
   low : first + base ≤ page + way.shift
-  low = let least = next.least page refl in was.within.low page (omega (arith, least.0)) less
+  low = let least = next.least page refl in was.place.within.low page (omega (arith, least.0)) less
 
   -- pages of the leaf but this one belong to no row up to here
-  still-free : (q tag : ℕ) → q ≢ own → ComesBeside (tree_of arena mid) v q h above.list.0 base to was.e was.node was.from way upto →
-      (p : ℕ) → q + base ≡ p + way.shift → way.from ≤ p → p < page + 1 → slots_of mid was.node.list.0 p ≡ None
+  still-free : (q tag : ℕ) → q ≢ own → ComesBeside (tree_of arena mid) v q h above.list.0 base to was.place.e was.place.node was.place.from way upto →
+      (p : ℕ) → q + base ≡ p + way.shift → way.from ≤ p → p < page + 1 → slots_of mid was.place.node.list.0 p ≡ None
   still-free q tag apart came p is start less = elim (cases_lt p upto) [
     | inl before ↦ came.free p is start before
     | inr past ↦ elim (cases_eq p page) [
@@ -159,48 +125,28 @@ module _ (arena : Arena) (old mid new : Rows Row) (before between after : Pool) 
     ]
   ]
 
-  beside-out : HasLeftPageOut arena mid new between after v own → IsBeside arena old new before after v first spared h above base to s way (page + 1)
+  beside-out : HasLeftPageOut arena mid new between after v own → IsBeside arena new after v first spared h above base to s way (page + 1)
   beside-out step =
-      let out = was.bare.out in
+      let out = was.bare.has.out in
       record {
-        bare = record {
-          out = leaving_out out v own;
-          leaving = leaving-more arena old mid new before between after v first own out was.bare.leaving step (omega (arith, low));
-          node = was.bare.node;
-          visible = was.bare.visible;
-          bare = λ p start. part-none (slots_of mid) (slots_of new) step.part was.bare.node.list.0 p (was.bare.bare p start);
-        };
+        bare = bare-more was.bare step (omega (arith, low));
         parent = was.parent;
         at = was.at;
-        node = was.node;
-        node_at = was.node_at;
-        e = was.e;
-        up = was.up;
-        from = was.from;
-        side = was.side;
-        within = was.within;
+        place = was.place;
         came = λ q tag start below sight shown.
             let parts = left_out-in_sight out v own v q sight in
             let apart : q ≢ own = λ same. parts.0 (refl, same) in
-            let there : IsPage (tree_of arena mid) v q = record { node = was.bare.node; visible = was.bare.visible; below = below } in
-            let showed = sym (step.shows out was.bare.leaving.exact was.bare.leaving.only v q there sight) ∙ shown in
+            let there : IsPage (tree_of arena mid) v q = record { node = was.bare.has.node; visible = was.bare.has.visible; below = below } in
+            let showed = sym (step.shows out was.bare.has.exact was.bare.has.only v q there sight) ∙ shown in
             elim (was.came q tag start below parts.1 showed) [
-              | inl held ↦ inl (spared-stays arena mid new v was.bare.node was.bare.visible out (is_taken between) was.bare.leaving.exact step.part
+              | inl held ↦ inl (spared-stays arena mid new v was.bare.has.node was.bare.has.visible out (is_taken between) was.bare.has.exact step.part
                   spared q tag was.parent (was.bare.bare q start) showed shown held)
               | inr it ↦ inr (record {
-                came = record {
-                  side = it.came.side;
-                  apart = it.came.apart;
-                  page = it.came.page;
-                  is = it.came.is;
-                  way = arrives-part (tree_of arena mid) (slots_of new) step.part v q it.came.side h it.came.page it.came.way;
-                  below = it.came.below;
-                  free = λ less. part-none (slots_of mid) (slots_of new) step.part above.list.0 it.came.page (it.came.free less);
-                };
+                came = came-on it.came step.part (λ less. part-none (slots_of mid) (slots_of new) step.part above.list.0 it.came.page (it.came.free less));
                 beside = λ p is start less.
-                    arrives-part (tree_of arena mid) (slots_of new) step.part was.e (was.node.first + p) was.from h (q + base) (it.beside p is start less);
+                    arrives-part (tree_of arena mid) (slots_of new) step.part was.place.e (was.place.node.first + p) was.place.from h (q + base) (it.beside p is start less);
                 free = λ p is start less.
-                    part-none (slots_of mid) (slots_of new) step.part was.node.list.0 p (still-free q tag apart it p is start less);
+                    part-none (slots_of mid) (slots_of new) step.part was.place.node.list.0 p (still-free q tag apart it p is start less);
               })
             ];
       }
@@ -213,7 +159,7 @@ module _ (arena : Arena) (old mid new : Rows Row) (before between after : Pool) 
       t = tree_of arena mid
 
       f : IsForest (nodes_of arena) arena.lists
-      f = was.bare.leaving.exact.forest
+      f = was.bare.has.exact.forest
 
       by_side : (side : Option Side) → Arrives t v own side h came.page → ⊥
       by_side None way =
@@ -228,33 +174,21 @@ module _ (arena : Arena) (old mid new : Rows Row) (before between after : Pool) 
           ap (t.slots above.list.0) page ∙ (ap (λ (n : Node). t.slots n.list.0 sees.page) (sym node) ∙ sees.row.row) in
           absurd (let none = came.free came.below in cc)
 
-  beside-left : HasLeftPage arena mid new between after v own h → IsBeside arena old new before after v first spared h above base to s way (page + 1)
+  beside-left : HasLeftPage arena mid new between after v own h → IsBeside arena new after v first spared h above base to s way (page + 1)
   beside-left left =
       let kept = left.kept in
       record {
-        bare = record {
-          out = was.bare.out;
-          leaving = leaving-kept arena old mid new before between after v first was.bare.out was.bare.leaving kept;
-          node = was.bare.node;
-          visible = was.bare.visible;
-          bare = λ p start. ap (λ s. s was.bare.node.list.0 p) kept.rows ∙ was.bare.bare p start;
-        };
+        bare = bare-kept was.bare kept;
         parent = was.parent;
         at = was.at;
-        node = was.node;
-        node_at = was.node_at;
-        e = was.e;
-        up = was.up;
-        from = was.from;
-        side = was.side;
-        within = was.within;
+        place = was.place;
         came = λ q tag start below sight shown.
             let showed : frame_shown (tree_of arena mid) v q ≡ Some tag
             = ap (λ s. frame_shown (record (tree_of arena mid) { slots = s }) v q) (sym kept.rows) ∙ shown in
             elim (was.came q tag start below sight showed) [
-              | inl held ↦ inl (subst (λ s. IsSpared (nodes_of arena) s spared was.bare.node q) (sym kept.rows) held)
+              | inl held ↦ inl (subst (λ s. IsSpared (nodes_of arena) s spared was.bare.has.node q) (sym kept.rows) held)
               | inr it ↦ inr (subst
-                  (λ r. ComesBeside (record (tree_of arena mid) { slots = r }) v q h above.list.0 base to was.e was.node was.from way (page + 1)) (sym kept.rows)
+                  (λ r. ComesBeside (record (tree_of arena mid) { slots = r }) v q h above.list.0 base to was.place.e was.place.node was.place.from way (page + 1)) (sym kept.rows)
                   (elim (cases_eq q own) [
                     | inl same ↦ absurd (not-seen q same it.came (left.shows tag (ap (frame_shown (tree_of arena mid) v) (sym same) ∙ showed)))
                     | inr apart ↦ record { came = it.came; beside = it.beside; free = still-free q tag apart it }
@@ -262,25 +196,25 @@ module _ (arena : Arena) (old mid new : Rows Row) (before between after : Pool) 
             ];
       }
 
-  pub beside-cut : IsPageCut arena mid new between after v own h → IsBeside arena old new before after v first spared h above base to s way (page + 1)
+  pub beside-cut : IsPageCut arena mid new between after v own h → IsBeside arena new after v first spared h above base to s way (page + 1)
   beside-cut cut = elim cut [ inl out ↦ beside-out out | inr left ↦ beside-left left ]
 
+  pub beside-lost : IsPageCut arena mid new between after v own h → HasLost arena mid new between after v first
+  beside-lost cut = elim cut [
+    | inl out ↦ bare-lost was.bare out (omega (arith, low))
+    | inr left ↦ lost-kept left.kept
+  ]
+
 -- no row is left on this node
-pub beside-end : (arena : Arena) (old new : Rows Row) (before after : Pool) (v first : ℕ) (spared : Option NodeId) (h : ℕ) (above : Node) (base to : ℕ)
-    (s : Side) (way : Way) (upto : ℕ) (was : IsBeside arena old new before after v first spared h above base to s way upto) →
-    ((p : ℕ) → upto ≤ p → p < way.to → slots_of new was.node.list.0 p ≡ None) →
-    IsBeside arena old new before after v first spared h above base to s way way.to
-beside-end arena old new before after v first spared h above base to s way upto was none = record {
+pub beside-end : {arena : Arena} {new : Rows Row} {after : Pool} {v first : ℕ} {spared : Option NodeId} {h : ℕ} {above : Node} {base to : ℕ}
+    {s : Side} {way : Way} {upto : ℕ} (was : IsBeside arena new after v first spared h above base to s way upto) →
+    ((p : ℕ) → upto ≤ p → p < way.to → slots_of new was.place.node.list.0 p ≡ None) →
+    IsBeside arena new after v first spared h above base to s way way.to
+beside-end {arena} {new} {after} {v} {first} {spared} {h} {above} {base} {to} {s} {way} {upto} was none = record {
   bare = was.bare;
   parent = was.parent;
   at = was.at;
-  node = was.node;
-  node_at = was.node_at;
-  e = was.e;
-  up = was.up;
-  from = was.from;
-  side = was.side;
-  within = was.within;
+  place = was.place;
   came = λ q tag start below sight shown. elim (was.came q tag start below sight shown) [
     | inl held ↦ inl held
     | inr it ↦ inr (record {
@@ -295,9 +229,6 @@ beside-end arena old new before after v first spared h above base to s way upto 
 
 module _ (arena : Arena) (old : Rows Row) (pool : Pool) (v p h : ℕ) (has : IsExactFor arena old pool v) (bare : slots_of old has.node.list.0 p ≡ None)
     (found : Holder) (is : found ≡ holder_of (walk (tree_of arena old) v p)) where
-  page-kept : HasKept old old pool pool
-  page-kept = record { rows = refl; taken = λ t. refl; links = refl; gives = gives-same pool; spare = omega arith; count = omega arith }
-
   no-frame : (it : Holder) → it ≡ holder_of (walk (tree_of arena old) v p) →
       ((node : NodeId) (page : ℕ) (side : Side) (slot : Slot) → it ≡ holder.Above node page side slot → ⊥) → (tag : ℕ) →
       frame_shown (tree_of arena old) v p ≡ Some tag → ⊥
@@ -314,7 +245,7 @@ module _ (arena : Arena) (old : Rows Row) (pool : Pool) (v p h : ℕ) (has : IsE
   -- no row is seen
   pub page-nothing : ((node : NodeId) (page : ℕ) (side : Side) (slot : Slot) → found ≡ holder.Above node page side slot → ⊥) →
       IsPageCut arena old old pool pool v p h
-  page-nothing none = inr (record { kept = page-kept; shows = λ tag shown. absurd (no-frame found is none tag shown) })
+  page-nothing none = inr (record { kept = kept-same; shows = λ tag shown. absurd (no-frame found is none tag shown) })
 
   module _ (node : NodeId) (page : ℕ) (side : Side) (slot : Slot) (above_is : found ≡ holder.Above node page side slot) where
     pub page-way : Reaches (tree_of arena old) v p side node.0 page
@@ -335,7 +266,7 @@ module _ (arena : Arena) (old : Rows Row) (pool : Pool) (v p h : ℕ) (has : IsE
     -- the parent's row is seen
     pub page-parent : node.0 ≡ h → IsPageCut arena old old pool pool v p h
     page-parent same = inr (record {
-      kept = page-kept;
+      kept = kept-same;
       shows = λ tag shown. record {
         side = side;
         page = page;
@@ -357,39 +288,41 @@ module _ (arena : Arena) (old : Rows Row) (pool : Pool) (v p h : ℕ) (has : IsE
 
 -- ---- one node further down, and the end
 
-module _ (arena : Arena) (old new : Rows Row) (before after : Pool) (v first : ℕ) (spared : Option NodeId) (h : ℕ) (above : Node) (base to : ℕ)
-    (s : Side) (way : Way) (was : IsBeside arena old new before after v first spared h above base to s way way.to) where
+module _ {arena : Arena} {new : Rows Row} {after : Pool} {v first : ℕ} {spared : Option NodeId} {h : ℕ} {above : Node} {base to : ℕ}
+    {s : Side} {way : Way} (was : IsBeside arena new after v first spared h above base to s way way.to) where
   abbrev t : Tree
   t = tree_of arena new
 
   -- the way's page goes on to the parent
-  pub goes-up : (q p : ℕ) → ComesBeside t v q h above.list.0 base to was.e was.node was.from way way.to → q + base ≡ p + way.shift → way.from ≤ p →
+  pub goes-up : (q p : ℕ) → ComesBeside t v q h above.list.0 base to was.place.e was.place.node was.place.from way way.to → q + base ≡ p + way.shift → way.from ≤ p →
       p < way.to → Reaches t way.at.0 p s h (q + base)
   goes-up q p it is low less =
-      let step : Climbs t way.at.0 p was.e (was.node.first + p) = record {
-        node = was.node;
-        at = was.node_at;
+      let step : Climbs t way.at.0 p was.place.e (was.place.node.first + p) = record {
+        node = was.place.node;
+        at = was.place.node_at;
         free = it.free p is low less;
-        inside = was.within.inside p low less;
-        parent = was.up;
+        inside = was.place.within.inside p low less;
+        parent = was.place.up;
         page = refl;
       } in
-      subst (λ o. Arrives t way.at.0 p o h (q + base)) was.side
-      (arrives-on t was.bare.leaving.exact.forest way.at.0 p was.e (was.node.first + p) was.from h (q + base) step (it.beside p is low less))
+      subst (λ o. Arrives t way.at.0 p o h (q + base)) was.place.side
+      (arrives-on t was.bare.has.exact.forest way.at.0 p was.place.e (was.place.node.first + p) was.place.from h (q + base) step (it.beside p is low less))
 
   pub beside-down : to < 2 ^ 64 → (child : NodeId) (below : Node) → nodes_of arena child.0 ≡ Some below → below.parent ≡ link_to way.at.0 → (next : Way) →
-      IsEntered below child way.shift way.from way.to next → IsBeside arena old new before after v first spared h above base to s next next.from
+      IsEntered below child way.shift way.from way.to next → IsBeside arena new after v first spared h above base to s next next.from
   beside-down fits child below at up next enters = record {
     bare = was.bare;
     parent = was.parent;
     at = was.at;
-    node = below;
-    node_at = ap (λ (k : NodeId). nodes_of arena k.0) enters.at ∙ at;
-    e = way.at.0;
-    up = up;
-    from = Some s;
-    side = refl;
-    within = within-entered first base to below child way.shift way.from way.to next fits was.within.low was.within.high enters;
+    place = record {
+      node = below;
+      node_at = ap (λ (k : NodeId). nodes_of arena k.0) enters.at ∙ at;
+      e = way.at.0;
+      up = up;
+      from = Some s;
+      side = refl;
+      within = within-entered first base to below child way.shift way.from way.to next fits was.place.within.low was.place.within.high enters;
+    };
     came = λ q tag start less sight shown. elim (was.came q tag start less sight shown) [
       | inl held ↦ inl held
       | inr it ↦ inr (record {
@@ -397,7 +330,7 @@ module _ (arena : Arena) (old new : Rows Row) (before after : Pool) (v first : �
         beside = λ p is low less.
             let lower = enters.low p low less in
             let upper = enters.high p low less in
-            let most = was.within.high (below.first + p) lower upper in
+            let most = was.place.within.high (below.first + p) lower upper in
             let shift = enters.shift_is (omega arith) in
             goes-up q (below.first + p) it (omega arith) lower upper;
         free = λ p is low less. absurd (omega arith);
@@ -406,10 +339,10 @@ module _ (arena : Arena) (old new : Rows Row) (before after : Pool) (v first : �
   }
 
 -- the way is given up
-pub beside-none : (arena : Arena) (old new : Rows Row) (before after : Pool) (v first : ℕ) (spared : Option NodeId) (h : ℕ) (above : Node) (base to : ℕ)
-    (s : Side) (way : Way) (upto : ℕ) → IsBeside arena old new before after v first spared h above base to s way upto →
-    IsPassing arena old new before after v first no_pages spared above base to to
-beside-none arena old new before after v first spared h above base to s way upto was = record {
+pub beside-none : {arena : Arena} {new : Rows Row} {after : Pool} {v first : ℕ} {spared : Option NodeId} {h : ℕ} {above : Node} {base to : ℕ}
+    {s : Side} {way : Way} {upto : ℕ} → IsBeside arena new after v first spared h above base to s way upto →
+    IsPassing arena new after v first no_pages spared above base to to
+beside-none {arena} {new} {after} {v} {first} {spared} {h} {above} {base} {to} {s} {way} {upto} was = record {
   bare = was.bare;
   parent = was.parent;
   h = h;

@@ -8,7 +8,7 @@ use Rattle.balanced_tree.specs.Rows.{Rows}
 use Rattle.vm_base.specs.Entries.{without_key}
 use Rattle.vm_base.proofs.EntryLaws.{some_same, some_is, without_key-same}
 use Rattle.page_list.specs.declared.row.Row.{Row}
-use Rattle.page_list.specs.Lists.{slots_of, row_count}
+use Rattle.page_list.specs.Lists.{slots_of}
 use Rattle.frame_pool.specs.Pool.{Pool, is_taken}
 use Rattle.cow_arena.specs.declared.node.Node.{Node}
 use Rattle.cow_arena.specs.declared.node.NodeId.{NodeId}
@@ -27,7 +27,7 @@ use Rattle.cow_split.proofs.RenamedExactLaws.{page-renamed, exact-renamed}
 use Rattle.cow_split.specs.Trees.{tree_of}
 use Rattle.cow_split.specs.Sight.{IsPage}
 use Rattle.cow_split.specs.Exact.{IsExact, IsOnlyOf, all_in_sight}
-use Rattle.cow_merge.specs.Ranges.{leaving_range, ShowsSame, AreLinked, GivesBack, IsAllOut, HasLeftOut}
+use Rattle.cow_merge.specs.Ranges.{leaving_range, IsAllOut, HasLeftOut, Accounts, ShowsBut}
 use Rattle.cow_merge.specs.inside.Lifting.{IsFamilyOf}
 use Rattle.cow_merge.specs.inside.HandingOver.{HasHandedOver}
 use Rattle.cow_merge.specs.Merging.{WasThere, HasListOfParent, HasClosed}
@@ -36,7 +36,7 @@ use Rattle.cow_merge.proofs.CountLaws.{outside-other}
 use Rattle.cow_merge.proofs.SpliceLaws.{IsWithout, without-page, without-showed, without-stays, without-no_more, family-apart, spliced-kept, spliced-gone, spliced-parent_gone, spliced-without, exact-spliced, removed_root-without, exact-removed_root}
 use Rattle.cow_merge.proofs.PassingLaws.{inside-range}
 use Rattle.cow_merge.proofs.ShrinkLaws.{tree-now}
-use Rattle.cow_merge.proofs.LiftedLaws.{lifted-exact, lifted-shows}
+use Rattle.cow_merge.proofs.LiftedLaws.{lifted-exact}
 
 -- ---- all pages are out of sight
 
@@ -115,9 +115,9 @@ gone-renamed name old new in_use v exchange was = record {
 closed-by : (arena new : Arena) (rows late : Rows Row) (before after : Pool) (v : ℕ) (u : Tree) → tree_of new late ≡ u →
     IsGoneFrom (tree_of arena rows) u (is_taken after) v →
     ((k : ℕ) (was now : Node) → nodes_of arena k ≡ Some was → u.nodes k ≡ Some now → (now.list ≡ was.list) ⊎ HasListOfParent (nodes_of arena) v k now) →
-    new.lists ≡ arena.lists → visible_count new + 1 ≡ visible_count arena → GivesBack before after → (AreLinked rows before → AreLinked late after) →
-    rows.spare ≤ late.spare → row_count late ≤ row_count rows → HasClosed arena new rows late before after v
-closed-by arena new rows late before after v u is was own_lists lists shown gives linked spare count =
+    new.lists ≡ arena.lists → visible_count new + 1 ≡ visible_count arena → Accounts rows late before after →
+    HasClosed arena new rows late before after v
+closed-by arena new rows late before after v u is was own_lists lists shown accounts =
     let it = subst (λ (x : Tree). IsGoneFrom (tree_of arena rows) x (is_taken after) v) (sym is) was in
     record {
       exact = it.exact;
@@ -131,10 +131,7 @@ closed-by arena new rows late before after v u is was own_lists lists shown give
       lists = lists;
       visible = omega (arith, shown);
       shows = it.shows;
-      pool = gives;
-      linked = linked;
-      spare = spare;
-      fewer = count;
+      accounts = accounts;
     }
 
 -- each node that is left has its list
@@ -164,15 +161,15 @@ closed-root arena new rows late before after v node visible root left is lists s
     (λ s is. absurd (let none = rw (visible.at, root) at is in cc))
     (exact-removed_root t f v node visible g (leaving_range all_in_sight v 0 node.count) (is_taken after)
     (λ p. left.bare p (omega arith)) left.exact (out-only v node) (out-all arena (slots_of late) v node visible))
-    (λ w q page apart. left.shows w q (page-before arena rows (slots_of late) w q page) (outside-other v 0 node.count w q apart)))
-    (kept-list t (without_key (nodes_of arena) v) v without) lists shown left.gives left.linked left.spare left.count
+    (λ w q page apart. left.moves.shows w q (page-before arena rows (slots_of late) w q page) (λ same. absurd (apart same))))
+    (kept-list t (without_key (nodes_of arena) v) v without) lists shown left.moves.accounts
 
 -- The node and its parent go: all its pages are out of sight in the tree with these slots, in which neither has rows.
 module _ (arena : Arena) (rows : Rows Row) (slots : Slots) (in_use : ℕ → Bool) (v h s : ℕ) (node parent sibling : Node)
     (visible : IsVisible (nodes_of arena) v node) (family : AreFamily (nodes_of arena) v h s node parent sibling)
     (exact : IsExact (tree_with (nodes_of arena) arena.lists slots) (leaving_range all_in_sight v 0 node.count) in_use)
     (bare : (p : ℕ) → slots node.list.0 p ≡ None) (empty : (p : ℕ) → slots parent.list.0 p ≡ None)
-    (shows : ShowsSame (tree_of arena rows) (tree_with (nodes_of arena) arena.lists slots) (leaving_range all_in_sight v 0 node.count)) where
+    (shows : ShowsBut (tree_of arena rows) (tree_with (nodes_of arena) arena.lists slots) v 0) where
   abbrev t : Tree
   t = tree_with (nodes_of arena) arena.lists slots
 
@@ -201,7 +198,7 @@ module _ (arena : Arena) (rows : Rows Row) (slots : Slots) (in_use : ℕ → Boo
       (λ e. apart.0 (sym e)) (λ e. apart.1 (sym e))).at))
       (exact-spliced t exact.forest v h s node parent sibling family visible empty spliced-forest (leaving_range all_in_sight v 0 node.count) in_use bare exact
       (out-only v node) (out-all arena slots v node visible))
-      (λ w q page apart. shows w q (page-before arena rows slots w q page) (outside-other v 0 node.count w q apart))
+      (λ w q page apart. shows w q (page-before arena rows slots w q page) (λ same. absurd (apart same)))
 
 -- the sibling keeps its list
 pub closed-spliced : (arena new : Arena) (rows late : Rows Row) (before after : Pool) (v h s : ℕ) (node parent sibling : Node)
@@ -213,10 +210,10 @@ closed-spliced arena new rows late before after v h s node parent sibling visibl
     let bare : (p : ℕ) → slots_of late node.list.0 p ≡ None = λ p. left.bare p (omega arith) in
     closed-by arena new rows late before after v (record (tree_of arena late) { nodes = spliced (nodes_of arena) v h s parent sibling })
     (tree-now arena new late (spliced (nodes_of arena) v h s parent sibling) is lists)
-    (gone-spliced arena rows (slots_of late) (is_taken after) v h s node parent sibling visible family left.exact bare empty left.shows)
+    (gone-spliced arena rows (slots_of late) (is_taken after) v h s node parent sibling visible family left.exact bare empty left.moves.shows)
     (kept-list (tree_of arena late) (spliced (nodes_of arena) v h s parent sibling) v
-    (spliced-whole arena rows (slots_of late) (is_taken after) v h s node parent sibling visible family left.exact bare empty left.shows))
-    lists shown left.gives left.linked left.spare left.count
+    (spliced-whole arena rows (slots_of late) (is_taken after) v h s node parent sibling visible family left.exact bare empty left.moves.shows))
+    lists shown left.moves.accounts
 
 -- the sibling has the list of the parent
 pub closed-over : (arena new : Arena) (rows late : Rows Row) (before after : Pool) (v h s : ℕ) (it : HasHandedOver arena rows late before after v h s) →
@@ -232,8 +229,7 @@ closed-over arena new rows late before after v h s it is lists shown =
     (gone-renamed name (tree_of arena rows) (tree_with (spliced (nodes_of arena) v h s it.of.parent it.of.sibling) arena.lists it.slots) (is_taken after) v
     (over-exchange (nodes_of arena) arena.lists f.rank f.by v h s it.of.node it.of.parent it.of.sibling it.of.family)
     (gone-spliced arena rows it.slots (is_taken after) v h s it.of.node it.of.parent it.of.sibling it.of.visible it.of.family
-    (lifted-exact arena rows it.slots before after v h s it.of it.lifted it.empty) it.lifted.bare it.empty
-    (lifted-shows arena rows it.slots before after v h s it.of it.lifted it.empty)))
+    (lifted-exact arena it.slots after v h s it.of it.lifted it.empty) it.lifted.bare it.empty it.shows))
     (λ k was now at there. elim (over-lists (nodes_of arena) arena.lists f.rank f.by v h s it.of.node it.of.parent it.of.sibling it.of.family k was now at
     (over-renamed_at (nodes_of arena) arena.lists f.rank f.by v h s it.of.node it.of.parent it.of.sibling it.of.family k ∙ there)) [
       | inl same ↦ inl same
@@ -246,7 +242,7 @@ closed-over arena new rows late before after v h s it is lists shown =
         list = own.1;
       })
     ])
-    lists shown it.lifted.gives it.linked it.spare it.count
+    lists shown it.accounts
 
 -- ---- what the code asks on the way
 
@@ -270,9 +266,9 @@ root-ready arena v node visible root =
     subst (λ o. IsSomeAnd o (λ (node : Node). IsSome node.koid × (node.parent ≡ None))) (sym visible.at) (visible.koid, root)
 
 -- the node has a family, where it has a parent
-pub family-of : (arena : Arena) (f : IsForest (nodes_of arena) arena.lists) (v : ℕ) (node : Node) → IsVisible (nodes_of arena) v node →
-    (hidden child : NodeId) → node.parent ≡ Some hidden → Some child ≡ sibling_in (nodes_of arena) v → IsFamilyOf arena v hidden.0 child.0
-family-of arena f v node visible hidden child parent_is sibling_is =
+pub family-of : (arena : Arena) (f : IsForest (nodes_of arena) arena.lists) {v : ℕ} {node : Node} → IsVisible (nodes_of arena) v node →
+    {hidden child : NodeId} → node.parent ≡ Some hidden → Some child ≡ sibling_in (nodes_of arena) v → IsFamilyOf arena v hidden.0 child.0
+family-of arena f {v} {node} visible {hidden} {child} parent_is sibling_is =
     let below = f.by.below hidden.0 v node visible.at parent_is in
     let side = rw (visible.at, parent_is, below.at) at sibling_is in
     let there = child-there (nodes_of arena) arena.lists f hidden.0 child.0 below.above (other_side (side_of below.above v)) below.at (sym side) in

@@ -208,9 +208,6 @@ module _ (t : Tree) (v count : ℕ) (leaf : Node) (visible : IsVisible t.nodes v
       changed_exact t v leaf (with_count leaf count) visible refl refl (leaving_range all_in_sight v count leaf.count) all_in_sight in_use exact refl g
       (λ w p. outside-other v count leaf.count w p) stays was rows
     where
-      leaf_page : (p : ℕ) → p < leaf.count → IsPage t v p
-      leaf_page p inside = record { node = leaf; visible = visible; below = inside }
-
       stays : (p : ℕ) → IsPage t v p → leaving_range all_in_sight v count leaf.count v p ≡ false → (p < count) × (walk narrowed v p ≡ walk t v p) × (all_in_sight v p ≡ false)
       stays p page in_sight =
           let bound = page_bound t v leaf (with_count leaf count) visible refl refl p page in
@@ -249,10 +246,6 @@ module _ (t : Tree) (v count : ℕ) (leaf : Node) (visible : IsVisible t.nodes v
     | inr apart ↦ walk-leaf-changed-other t f v leaf grown_node visible refl refl g w p node at apart
   ]
 
-  -- each page shows what it showed
-  pub grown-shows : IsForest t.nodes t.lists → (w p : ℕ) → IsPage t w p → frame_shown grown w p ≡ frame_shown t w p
-  grown-shows f w p page = ap frame_found (walk-grown f w p page.node page.visible.at)
-
   module _ (out : ℕ → ℕ → Bool) (in_use : ℕ → Bool) (exact : IsExact t out in_use) where
     -- a new page has nothing to be found
     pub walk-grown-new : (p : ℕ) → leaf.count ≤ p → walk grown v p ≡ None
@@ -261,10 +254,6 @@ module _ (t : Tree) (v count : ℕ) (leaf : Node) (visible : IsVisible t.nodes v
         none : (o : Option Slot) → t.slots leaf.list.0 p ≡ o → walk t v p ≡ None
         none None e = walk-past t exact.forest v p leaf visible.at e (let window = exact.forest.by.seen v leaf visible.at in omega arith)
         none (Some row) e = absurd (let inside = exact.below v p leaf row visible e in omega arith)
-
-    -- and is zero
-    pub grown-new : (p : ℕ) → leaf.count ≤ p → frame_shown grown v p ≡ None
-    grown-new p past = ap frame_found (walk-grown-new p past)
 
     -- the tree stays exact
     pub exact-grown : IsExact grown out in_use

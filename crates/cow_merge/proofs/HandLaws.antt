@@ -20,7 +20,7 @@ use Rattle.cow_arena.specs.Renamed.{exchanged}
 use Rattle.cow_arena.specs.Walk.{Slots, Tree, tree_with, frame_in}
 use Rattle.cow_arena.specs.Ways.{Reaches, KeepsBelow}
 use Rattle.cow_arena.proofs.AlikeLaws.{with_pair-same, with_pair-other}
-use Rattle.cow_arena.proofs.RisesSplicedLaws.{below-same, below-gone, below-moved}
+use Rattle.cow_arena.proofs.RisesSplicedLaws.{below-same, below-gone, below-fewer, below-then}
 use Rattle.cow_arena.proofs.RenamedLaws.{exchanged-first, exchanged-second, exchanged-other}
 use Rattle.cow_split.specs.Trees.{tree_of, with_row}
 use Rattle.cow_split.specs.Search.{reached_from}
@@ -29,14 +29,16 @@ use Rattle.cow_split.proofs.ExactLaws.{cases_place}
 use Rattle.cow_split.proofs.RowLaws.{exact-in_use_alike, with_row-twice}
 use Rattle.frame_pool.specs.declared.frame_pool.Backlink.{Backlink}
 use Rattle.frame_pool.specs.Pool.{Pool, taken_frames, is_taken, links_of}
-use Rattle.cow_merge.specs.Ranges.{bit_on, AreLinked, GivesBack, HasGiven}
-use Rattle.cow_merge.specs.inside.Lifting.{IsLifting, IsBefore, IsFamilyOf, AreLifted, SeesRow, IsMoved, is_row_of_frame}
+use Rattle.cow_merge.specs.Ranges.{bit_on, AreLinked, HasGiven, Accounts, HasLost, Moves}
+use Rattle.cow_merge.specs.inside.Lifting.{IsLifting, IsBefore, AreLifted, SeesRow, IsMoved, is_row_of_frame, HasLifted}
 use Rattle.cow_merge.specs.declared.ranges.Pages.{Pages}
 use Rattle.cow_merge.specs.inside.Sharing.{AreShared}
 use Rattle.cow_merge.specs.inside.HandingOver.{frame_there, HasDroppedRow, HasRowPut, AreSeenFrom, IsHandingOver, IsHandedUpTo, HasHandedOver}
-use Rattle.cow_merge.proofs.RangeLaws.{gives-then, gives-same, given-none}
-use Rattle.cow_merge.proofs.LiftedLaws.{has-frame, of-has-frame, link-same, family-lists, row-sees, row-bit, row-bit_below, without-none, lifted-gone, lifted-moved}
+use Rattle.cow_merge.proofs.RangeLaws.{gives-then, given-none, accounts-same, accounts-then}
+use Rattle.cow_merge.proofs.LiftedLaws.{has-frame, of-has-frame, link-same, family-lists, row-sees, row-bit, row-bit_below, without-none, lifted-gone, lifted-moved, HasLiftedOn}
 use Rattle.cow_merge.proofs.SharingLaws.{some-left, reached-below, reached-found}
+use Rattle.cow_merge.proofs.LiftLaws.{page-over}
+use Rattle.cow_split.proofs.PartLaws.{part-none}
 
 -- both bits are clear
 both-clear : (from : Side) (left right : Bool) → bit_on from left right ≡ false → bit_on (other_side from) left right ≡ false → (left ≡ false) × (right ≡ false)
@@ -54,26 +56,22 @@ by-exchange P a b first second other l = elim (cases_eq l a) [
 ]
 
 -- the pool is another, in which the same frames are taken
-lifted-pool : (arena : Arena) (old : Rows Row) (slots : Slots) (before between after : Pool) (k h s : ℕ) (of : IsFamilyOf arena k h s) →
-    AreLifted arena old slots before between k h s of → ((x : ℕ) → is_taken after x ≡ is_taken between x) → GivesBack between after →
-    AreLifted arena old slots before after k h s of
-lifted-pool arena old slots before between after k h s of was taken gives = record {
+lifted-pool : (arena : Arena) (slots : Slots) (between after : Pool) (k h : ℕ) (node : Node) → AreLifted arena slots between k h node →
+    ((x : ℕ) → is_taken after x ≡ is_taken between x) → AreLifted arena slots after k h node
+lifted-pool arena slots between after k h node was taken = record {
   out = was.out;
   exact = exact-in_use_alike (tree_with (nodes_of arena) arena.lists slots) was.out (is_taken between) (is_taken after) (λ x. sym (taken x)) was.exact;
   only = was.only;
-  shows = was.shows;
   bare = was.bare;
   held = was.held;
-  gives = gives-then before between after was.gives gives;
-  rows = was.rows;
 }
 
 -- ---- one page
 
 -- One page more has gone over.
 module _ (arena : Arena) (old new late : Rows Row) (before after last : Pool) (k h s q : ℕ) (was : IsHandingOver arena old new before after k h s q)
-    (slots : Slots) (lifted : AreLifted arena old slots before last k h s was.of) (others : (l p : ℕ) → p ≢ q → slots l p ≡ was.slots l p)
-    (keeps : KeepsBelow was.slots slots was.of.parent was.of.sibling) (gone : slots was.of.parent.list.0 q ≡ None) (beside : (l p : ℕ) → p ≢ q → slots_of late l p ≡ slots_of new l p)
+    (slots : Slots) (next : HasLiftedOn arena was.slots slots last k h s was.of) (others : (l p : ℕ) → p ≢ q → slots l p ≡ was.slots l p)
+    (gone : slots was.of.parent.list.0 q ≡ None) (beside : (l p : ℕ) → p ≢ q → slots_of late l p ≡ slots_of new l p)
     (here : (l : ℕ) → slots_of late l q ≡ slots (exchanged was.of.parent.list.0 was.of.sibling.list.0 l) q) where
   was-row : (p : ℕ) (row : Slot) → slots was.of.parent.list.0 p ≡ Some row → was.slots was.of.parent.list.0 p ≡ Some row
   was-row p row at = elim (cases_eq p q) [
@@ -81,16 +79,17 @@ module _ (arena : Arena) (old new late : Rows Row) (before after last : Pool) (k
     | inr apart ↦ sym (others was.of.parent.list.0 p apart) ∙ at
   ]
 
-  over-next : (AreLinked new after → AreLinked late last) → new.spare ≤ late.spare → row_count late ≤ row_count new →
-      IsHandingOver arena old late before last k h s (q + 1)
-  over-next linked spare count = record {
+  over-next : Accounts new late after last → IsHandingOver arena old late before last k h s (q + 1)
+  over-next accounts = record {
     of = was.of;
     slots = slots;
-    lifted = lifted;
+    lifted = next.lifted;
+    shows = λ w p page before. next.shows w p (page-over (tree_of arena old) was.slots w p page) before ∙ was.shows w p page before;
+    below = below-then (slots_of old) was.slots slots was.of.parent was.of.sibling (family-lists arena k h s was.lifted.exact.forest was.of).2 was.below next.below;
     first = was.first;
     shared = λ none p some from.
         reached-below (tree_with (nodes_of arena) arena.lists was.slots) was.lifted.exact.forest slots was.of.parent was.of.sibling s was.of.family.sibling_at
-        keeps from p (was.shared none p (some-left (was.slots was.of.parent.list.0 p) (slots was.of.parent.list.0 p) (was-row p) some) from);
+        next.below from p (was.shared none p (some-left (was.slots was.of.parent.list.0 p) (slots was.of.parent.list.0 p) (was-row p) some) from);
     passed = λ l p less. elim (cases_eq p q) [
       | inl same ↦ subst (λ x. slots_of late l x ≡ slots (exchanged was.of.parent.list.0 was.of.sibling.list.0 l) x) (sym same) (here l)
       | inr apart ↦
@@ -109,9 +108,7 @@ module _ (arena : Arena) (old new late : Rows Row) (before after last : Pool) (k
       | inr apart ↦ was.inside p (ap is_some (sym (others was.of.parent.list.0 p apart)) ∙ some)
     ];
     seen = λ end. record { bit = λ p tag left right least less at. (was.seen end).bit p tag left right least less (was-row p (slot.Frame tag left right) at) };
-    linked = λ ok. linked (was.linked ok);
-    spare = omega (arith, was.spare);
-    count = omega (arith, was.count);
+    accounts = accounts-then was.accounts accounts;
   }
 
 module _ (arena : Arena) (old new : Rows Row) (before after : Pool) (k h s q : ℕ) (was : IsHandingOver arena old new before after k h s q) where
@@ -183,43 +180,38 @@ module _ (arena : Arena) (old new : Rows Row) (before after : Pool) (k h s q : �
     abbrev moved : Slot → Slots
     moved row = with_pair (with_pair was.slots up q None) own q (Some row)
 
-    lifted-same : (row : Slot) → was.slots up q ≡ Some row → AreLifted arena old (moved row) before after k h s was.of
+    lifted-same : (row : Slot) → was.slots up q ≡ Some row → HasLiftedOn arena was.slots (moved row) after k h s was.of
     lifted-same row has =
-        subst (λ x. AreLifted arena old (with_pair (with_pair was.slots up q None) own x (Some row)) before after k h s was.of) its-page
-        (lifted-moved arena old was.slots before after after k h s was.of q row was.lifted has (gives-same after) row (sees-it row has) (its-bit row has)
+        subst (λ x. HasLiftedOn arena was.slots (with_pair (with_pair was.slots up q None) own x (Some row)) after k h s was.of) its-page
+        (lifted-moved arena was.slots after after k h s was.of q row was.lifted has row (sees-it row has) (its-bit row has)
         (same-row row has) (λ x. refl))
 
     moved-up : (row : Slot) → moved row up q ≡ None
     moved-up row =
         with_pair-other (with_pair was.slots up q None) own q (Some row) up q (λ list _. apart-lists (sym list)) ∙ with_pair-same was.slots up q None
 
-    moved-keeps : (row : Slot) → was.slots up q ≡ Some row → KeepsBelow was.slots (moved row) was.of.parent was.of.sibling
-    moved-keeps row has =
-        subst (λ x. KeepsBelow was.slots (with_pair (with_pair was.slots up q None) own x (Some row)) was.of.parent was.of.sibling) its-page
-        (below-moved was.slots (with_pair was.slots up q None) was.of.parent was.of.sibling q row (Some row) has (omega (arith, was.first))
-        (below-gone was.slots was.of.parent was.of.sibling q))
-
     pub over-passed : IsHandingOver arena old new before after k h s (q + 1)
     over-passed = by_row (was.slots up q) refl
       where
         by_row : (o : Option Slot) → was.slots up q ≡ o → IsHandingOver arena old new before after k h s (q + 1)
-        by_row None none = over-next arena old new new before after after k h s q was was.slots was.lifted (λ l p apart. refl)
-            (below-same was.slots was.of.parent was.of.sibling) none (λ l p apart. refl)
+        by_row None none = over-next arena old new new before after after k h s q was was.slots
+            (record { lifted = was.lifted; shows = λ w p page before. refl; below = below-same was.slots was.of.parent was.of.sibling })
+            (λ l p apart. refl) none (λ l p apart. refl)
             (λ l. was.ahead l q (omega arith)
             ∙ by-exchange (λ a b. was.slots a q ≡ was.slots b q) up own (none ∙ sym free-there) (free-there ∙ sym none) (λ l l_a l_b. refl) l)
-            (λ ok. ok) (omega arith) (omega arith)
+            (accounts-same new after)
         by_row (Some row) has = over-next arena old new new before after after k h s q was (moved row) (lifted-same row has)
             (λ l p apart.
             with_pair-other (with_pair was.slots up q None) own q (Some row) l p (λ _ page. apart page)
             ∙ with_pair-other was.slots up q None l p (λ _ page. apart page))
-            (moved-keeps row has) (moved-up row) (λ l p apart. refl)
+            (moved-up row) (λ l p apart. refl)
             (λ l. was.ahead l q (omega arith)
             ∙ by-exchange (λ a b. was.slots a q ≡ moved row b q) up own
             (has ∙ sym (with_pair-same (with_pair was.slots up q None) own q (Some row)))
             (free-there ∙ sym (moved-up row))
             (λ l l_a l_b. sym (with_pair-other (with_pair was.slots up q None) own q (Some row) l q (λ list _. l_b list)
             ∙ with_pair-other was.slots up q None l q (λ list _. l_a list))) l)
-            (λ ok. ok) (omega arith) (omega arith)
+            (accounts-same new after)
 
   -- its own row there was taken out, and put into the list of its parent
   module _ (mid late : Rows Row) (last : Pool) (row : Slot) (has : slots_of new own q ≡ Some row) (taken_out : slots_of mid ≡ with_pair (slots_of new) own q None)
@@ -235,9 +227,6 @@ module _ (arena : Arena) (old new : Rows Row) (before after : Pool) (k h s q : �
 
     taken-now : (x : ℕ) → is_taken last x ≡ without_frame (is_taken after) (frame_there (was.slots up q)) x
     taken-now x = put.taken x ∙ ap (λ (o : Option Slot). without_frame (is_taken after) (frame_there o) x) under
-
-    both-lists : Slots
-    both-lists = with_pair (with_pair (slots_of new) own q None) up q (Some row)
 
     late-is : slots_of late ≡ with_pair (with_pair (slots_of new) own q None) up q (Some row)
     late-is = put.slots ∙ ap (λ (x : Slots). with_pair x up q (Some row)) taken_out
@@ -298,24 +287,28 @@ module _ (arena : Arena) (old new : Rows Row) (before after : Pool) (k h s q : �
     pub over-put : mid.spare ≡ new.spare + 1 → row_count mid + 1 ≡ row_count new → IsHandingOver arena old late before last k h s (q + 1)
     over-put spare count = by_row (was.slots up q) refl
       where
-        next : (slots : Slots) → AreLifted arena old slots before last k h s was.of → ((l p : ℕ) → p ≢ q → slots l p ≡ was.slots l p) →
-            KeepsBelow was.slots slots was.of.parent was.of.sibling → slots up q ≡ None → slots own q ≡ Some row → ((l : ℕ) → l ≢ up → l ≢ own → slots l q ≡ was.slots l q) →
+        next : (slots : Slots) → HasLiftedOn arena was.slots slots last k h s was.of → ((l p : ℕ) → p ≢ q → slots l p ≡ was.slots l p) →
+            slots up q ≡ None → slots own q ≡ Some row → ((l : ℕ) → l ≢ up → l ≢ own → slots l q ≡ was.slots l q) →
             IsHandingOver arena old late before last k h s (q + 1)
-        next slots lifted others keeps gone at beside = over-next arena old new late before after last k h s q was slots lifted others keeps gone
-            (λ l p apart. late-other l p (λ both. apart both.1) (λ both. apart both.1)) (here-now slots at gone beside) put-linked
-            (omega (arith, put.spare)) (omega (arith, put.count))
+        next slots lifted others gone at beside = over-next arena old new late before after last k h s q was slots lifted others gone
+            (λ l p apart. late-other l p (λ both. apart both.1) (λ both. apart both.1)) (here-now slots at gone beside)
+            (record { gives = put.gives; linked = put-linked; spare = omega (arith, put.spare); count = omega (arith, put.count) })
 
         by_row : (o : Option Slot) → was.slots up q ≡ o → IsHandingOver arena old late before last k h s (q + 1)
         by_row None none = next was.slots
-            (lifted-pool arena old was.slots before after last k h s was.of was.lifted
-            (λ x. taken-now x ∙ (ap (λ (o : Option Slot). without_frame (is_taken after) (frame_there o) x) none ∙ sym (without-none (is_taken after) x))) put.gives)
-            (λ l p apart. refl) (below-same was.slots was.of.parent was.of.sibling) none has-there (λ l l_a l_b. refl)
+            (record {
+              lifted = lifted-pool arena was.slots after last k h was.of.node was.lifted
+                  (λ x. taken-now x ∙ (ap (λ (o : Option Slot). without_frame (is_taken after) (frame_there o) x) none ∙ sym (without-none (is_taken after) x)));
+              shows = λ w p page before. refl;
+              below = below-same was.slots was.of.parent was.of.sibling;
+            })
+            (λ l p apart. refl) none has-there (λ l l_a l_b. refl)
         by_row (Some other) there = next (with_pair was.slots up q None)
-            (lifted-gone arena old was.slots before after last k h s was.of q other was.lifted there put.gives
+            (lifted-gone arena was.slots after last k h s was.of q other was.lifted there
             ((λ tag left right e. bit-set tag left right e), (λ e sees. covers other sees))
             (λ x. taken-now x ∙ ap (λ (o : Option Slot). without_frame (is_taken after) (frame_there o) x) there))
             (λ l p apart. with_pair-other was.slots up q None l p (λ _ page. apart page))
-            (below-gone was.slots was.of.parent was.of.sibling q) (with_pair-same was.slots up q None)
+            (with_pair-same was.slots up q None)
             (with_pair-other was.slots up q None own q (λ list _. apart-lists list) ∙ has-there)
             (λ l l_a l_b. with_pair-other was.slots up q None l q (λ list _. l_a list))
           where
@@ -329,16 +322,18 @@ module _ (arena : Arena) (old new : Rows Row) (before after : Pool) (k h s q : �
 -- ---- all pages
 
 -- It begins where the rows of the parent were all seen in a window, those outside of it are gone, and the child shares the others.
-pub over-ready : (arena : Arena) (old first new : Rows Row) (before after : Pool) (k h s low high : ℕ) (pages : Pages)
-    (was : IsLifting arena old new before after k h s) → was.of.sibling.first ≡ 0 → AreSeenFrom (slots_of first) was.of.parent k low high →
+pub over-ready : (arena : Arena) (first new : Rows Row) (after : Pool) (k h s low high : ℕ) (pages : Pages)
+    (was : IsLifting arena new after k h s) → was.of.sibling.first ≡ 0 → AreSeenFrom (slots_of first) was.of.parent k low high →
     low ≤ pages.from → pages.to ≤ high →
     ((p : ℕ) → p < pages.from → slots_of new was.of.parent.list.0 p ≡ None) → ((p : ℕ) → pages.to ≤ p → slots_of new was.of.parent.list.0 p ≡ None) →
     ((p : ℕ) (row : Slot) → slots_of new was.of.parent.list.0 p ≡ Some row → slots_of first was.of.parent.list.0 p ≡ Some row) →
-    AreShared (tree_of arena new) was.of.parent.list.0 s was.of.sibling pages → IsHandingOver arena old new before after k h s 0
-over-ready arena old first new before after k h s low high pages was start seen from within none_before none_from others shares = record {
+    AreShared (tree_of arena new) was.of.parent.list.0 s was.of.sibling pages → IsHandingOver arena new new after after k h s 0
+over-ready arena first new after k h s low high pages was start seen from within none_before none_from others shares = record {
   of = was.of;
   slots = slots_of new;
   lifted = was.lifted;
+  shows = λ w q page before. refl;
+  below = below-same (slots_of new) was.of.parent was.of.sibling;
   first = start;
   shared = λ none q some. let it = inside q some in shares.reached none q it.0 it.1 some;
   passed = λ l p less. absurd (omega arith);
@@ -350,9 +345,7 @@ over-ready arena old first new before after k h s low high pages was start seen 
         let it = inside q (ap is_some at) in
         seen.bit q tag left right (omega (arith, it.0)) (omega (arith, it.1)) (others q (slot.Frame tag left right) at);
   };
-  linked = was.linked;
-  spare = was.spare;
-  count = was.count;
+  accounts = accounts-same new after;
 }
   where
     inside : (q : ℕ) → IsSome (slots_of new was.of.parent.list.0 q) → (pages.from ≤ q) × (q < pages.to)
@@ -373,8 +366,11 @@ none-kept old new p was none = by_row (new p) refl
 
 -- The same of what was found: the child shares pages, rows before the window of the leaf and before these pages went, and then those
 -- from the end of the two on.
-module _ (arena : Arena) (old first shared mid new : Rows Row) (before between after : Pool) (k h s from to : ℕ) (pages : Pages) (leaf : Node)
-    (leaf_at : nodes_of arena k ≡ Some leaf) (was : IsLifting arena old new before after k h s) (since : IsLifting arena shared new between after k h s) where
+module _ (arena : Arena) (first shared mid new : Rows Row) (between after : Pool) (k h s from to : ℕ) (pages : Pages) (leaf : Node)
+    (leaf_at : nodes_of arena k ≡ Some leaf) (since : HasLifted arena shared new between after k h s) where
+  abbrev now : IsLifting arena new after k h s
+  now = since.now
+
   pub over-lifted :
       ((node : Node) → nodes_of arena s ≡ Some node → node.first ≡ 0) →
       ((node parent : Node) → nodes_of arena k ≡ Some node → nodes_of arena h ≡ Some parent →
@@ -390,48 +386,43 @@ module _ (arena : Arena) (old first shared mid new : Rows Row) (before between a
       ((parent : Node) → nodes_of arena h ≡ Some parent → (p : ℕ) → to ≤ p → IsBefore None p → slots_of new parent.list.0 p ≡ None) →
       ((parent : Node) → nodes_of arena h ≡ Some parent → (p : ℕ) (row : Slot) → slots_of new parent.list.0 p ≡ Some row →
       slots_of mid parent.list.0 p ≡ Some row) →
-      IsHandingOver arena old new before after k h s 0
+      IsHandingOver arena new new after after k h s 0
   over-lifted start seen low lower high higher others shares empty others_mid ended left =
-      over-ready arena old first new before after k h s was.of.node.first (was.of.node.first + was.of.node.seen) (record { from = from; to = to }) was
-      (start was.of.sibling was.of.family.sibling_at)
-      (seen was.of.node was.of.parent was.of.family.at at)
+      over-ready arena first new after k h s now.of.node.first (now.of.node.first + now.of.node.seen) (record { from = from; to = to }) now
+      (start now.of.sibling now.of.family.sibling_at)
+      (seen now.of.node now.of.parent now.of.family.at at)
       (omega (arith, low_is)) (omega (arith, low_is, width_is))
-      (λ p before. none-kept (slots_of mid was.of.parent.list.0) (slots_of new was.of.parent.list.0) p (left was.of.parent at p)
-      (empty was.of.parent at p (omega arith) (omega arith)))
-      (λ p past. ended was.of.parent at p past tt)
-      (λ p row there. others was.of.parent at p row (to-shared p row there))
+      (λ p before. none-kept (slots_of mid now.of.parent.list.0) (slots_of new now.of.parent.list.0) p (left now.of.parent at p)
+      (empty now.of.parent at p (omega arith) (omega arith)))
+      (λ p past. ended now.of.parent at p past tt)
+      (λ p row there. others now.of.parent at p row (to-shared p row there))
       (record {
         below = λ q least less. it.below q (omega arith) (omega arith);
         reached = λ none q least less some side.
-            reached-below (tree_of arena shared) was.lifted.exact.forest (slots_of new) was.of.parent was.of.sibling s was.of.family.sibling_at keeps side q
+            reached-below (tree_of arena shared) now.lifted.exact.forest (slots_of new) now.of.parent now.of.sibling s now.of.family.sibling_at since.rows side q
             (it.reached none q (omega arith) (omega arith)
-            (some-left (slots_of shared was.of.parent.list.0 q) (slots_of new was.of.parent.list.0 q) (to-shared q) some) side);
+            (some-left (slots_of shared now.of.parent.list.0 q) (slots_of new now.of.parent.list.0 q) (to-shared q) some) side);
       })
     where
-      at : nodes_of arena h ≡ Some was.of.parent
-      at = was.of.family.parent_at
+      at : nodes_of arena h ≡ Some now.of.parent
+      at = now.of.family.parent_at
 
-      node : leaf ≡ was.of.node
-      node = some_same (sym leaf_at ∙ was.of.family.at)
+      node : leaf ≡ now.of.node
+      node = some_same (sym leaf_at ∙ now.of.family.at)
 
-      low_is : leaf.first ≡ was.of.node.first
+      low_is : leaf.first ≡ now.of.node.first
       low_is = ap (λ (n : Node). n.first) node
 
-      width_is : leaf.seen ≡ was.of.node.seen
+      width_is : leaf.seen ≡ now.of.node.seen
       width_is = ap (λ (n : Node). n.seen) node
 
-      keeps : KeepsBelow (slots_of shared) (slots_of new) was.of.parent was.of.sibling
-      keeps =
-          subst (λ (n : Node). KeepsBelow (slots_of shared) (slots_of new) was.of.parent n) (some_same (sym since.of.family.sibling_at ∙ was.of.family.sibling_at))
-          (subst (λ (n : Node). KeepsBelow (slots_of shared) (slots_of new) n since.of.sibling) (some_same (sym since.of.family.parent_at ∙ at)) since.lifted.rows)
+      it : AreShared (tree_of arena shared) now.of.parent.list.0 s now.of.sibling pages
+      it = shares now.of.parent now.of.sibling at now.of.family.sibling_at
 
-      it : AreShared (tree_of arena shared) was.of.parent.list.0 s was.of.sibling pages
-      it = shares was.of.parent was.of.sibling at was.of.family.sibling_at
+      to-shared : (p : ℕ) (row : Slot) → slots_of new now.of.parent.list.0 p ≡ Some row → slots_of shared now.of.parent.list.0 p ≡ Some row
+      to-shared p row there = others_mid now.of.parent at p row (left now.of.parent at p row there)
 
-      to-shared : (p : ℕ) (row : Slot) → slots_of new was.of.parent.list.0 p ≡ Some row → slots_of shared was.of.parent.list.0 p ≡ Some row
-      to-shared p row there = others_mid was.of.parent at p row (left was.of.parent at p row there)
-
-module _ (arena : Arena) (old new : Rows Row) (before after : Pool) (k h s : ℕ) (child : Node) (child_at : nodes_of arena s ≡ Some child) where
+module _ {arena : Arena} {old new : Rows Row} {before after : Pool} {k h s : ℕ} (child : Node) (child_at : nodes_of arena s ≡ Some child) where
   -- pages at which the child has no rows go over as they are
   pub over-skipped : (n from : ℕ) → IsHandingOver arena old new before after k h s from →
       ((p : ℕ) → from ≤ p → p < from + n → slots_of new child.list.0 p ≡ None) → IsHandingOver arena old new before after k h s (from + n)
@@ -454,6 +445,8 @@ module _ (arena : Arena) (old new : Rows Row) (before after : Pool) (k h s : ℕ
         of = last.of;
         slots = last.slots;
         lifted = last.lifted;
+        shows = last.shows;
+        below = last.below;
         empty = empty;
         rows = λ l p. elim (cases_lt p (from + child.seen)) [
           | inl less ↦ last.passed l p less
@@ -464,9 +457,7 @@ module _ (arena : Arena) (old new : Rows Row) (before after : Pool) (k h s : ℕ
               ∙ by-exchange (λ a b. last.slots a p ≡ last.slots b p) last.of.parent.list.0 last.of.sibling.list.0
               (empty p ∙ sym own) (own ∙ sym (empty p)) (λ l l_a l_b. refl) l
         ];
-        linked = last.linked;
-        spare = last.spare;
-        count = last.count;
+        accounts = last.accounts;
       }
     where
       ended : (last : IsHandingOver arena old new before after k h s (from + child.seen)) → child.seen ≡ last.of.sibling.seen → (p : ℕ) →
@@ -486,7 +477,7 @@ module _ (arena : Arena) (old new : Rows Row) (before after : Pool) (k h s : ℕ
   over-end from up none = over-all up.at up.handing (λ p past. none p (let low = up.low in omega arith))
 
 -- a row of the child is next
-module _ (arena : Arena) (old new : Rows Row) (before after : Pool) (k h s from : ℕ) (up : IsHandedUpTo arena old new before after k h s from)
+module _ {arena : Arena} {old new : Rows Row} {before after : Pool} {k h s from : ℕ} (up : IsHandedUpTo arena old new before after k h s from)
     (child : Node) (child_at : nodes_of arena s ≡ Some child) (q : ℕ) (row : Slot) (next : IsNext (slots_of new child.list.0) from (Some q))
     (has : slots_of new child.list.0 q ≡ Some row) where
   abbrev was : IsHandingOver arena old new before after k h s up.at
@@ -556,7 +547,7 @@ module _ (arena : Arena) (old new : Rows Row) (before after : Pool) (k h s from 
         where
           here : IsHandingOver arena old new before after k h s q
           here = subst (λ x. IsHandingOver arena old new before after k h s x) (omega (arith, least))
-              (over-skipped arena old new before after k h s child child_at (q - up.at) up.at was
+              (over-skipped child child_at (q - up.at) up.at was
               (λ p from_on less. (next.least q refl).2 p (let low = up.low in omega arith) (omega (arith, least))))
 
           put-next : IsHandingOver arena old new before after k h s q → IsHandedUpTo arena old late before last k h s q
@@ -579,9 +570,30 @@ module _ (arena : Arena) (old new : Rows Row) (before after : Pool) (k h s from 
               }
 
 -- it begins with no row passed
-pub handed-start : (arena : Arena) (old new : Rows Row) (before after : Pool) (k h s : ℕ) → IsHandingOver arena old new before after k h s 0 →
+pub handed-start : {arena : Arena} {old new : Rows Row} {before after : Pool} {k h s : ℕ} → IsHandingOver arena old new before after k h s 0 →
     IsHandedUpTo arena old new before after k h s 0
-handed-start arena old new before after k h s was = record { at = 0; handing = was; low = omega arith; none = λ p from less. absurd (omega arith) }
+handed-start {arena} {old} {new} {before} {after} {k} {h} {s} was = record { at = 0; handing = was; low = omega arith; none = λ p from less. absurd (omega arith) }
+
+-- rows went or moved before the list went over
+pub handed-then : {arena : Arena} {old mid new : Rows Row} {before between after : Pool} {k h s : ℕ} (it : HasHandedOver arena mid new between after k h s) →
+    Moves arena old mid before between k 0 → KeepsBelow (slots_of old) (slots_of mid) it.of.parent it.of.sibling →
+    HasHandedOver arena old new before after k h s
+handed-then {arena} {old} {mid} {new} {before} {between} {after} {k} {h} {s} it moves below = record {
+  of = it.of;
+  slots = it.slots;
+  lifted = it.lifted;
+  shows = λ w q page sight. it.shows w q (page-over (tree_of arena old) (slots_of mid) w q page) sight ∙ moves.shows w q page sight;
+  below = below-then (slots_of old) (slots_of mid) it.slots it.of.parent it.of.sibling (family-lists arena k h s it.lifted.exact.forest it.of).2 below it.below;
+  empty = it.empty;
+  rows = it.rows;
+  accounts = accounts-then moves.accounts it.accounts;
+}
+
+-- rows went before the list went over
+pub lost-handed : {arena : Arena} {old mid new : Rows Row} {before between after : Pool} {k h s : ℕ} → HasLost arena old mid before between k 0 →
+    HasHandedOver arena mid new between after k h s → HasHandedOver arena old new before after k h s
+lost-handed {arena} {old} {mid} {new} {before} {between} {after} {k} {h} {s} lost it = handed-then it lost.moves
+    (below-fewer (slots_of old) (slots_of mid) it.of.parent it.of.sibling (part-none (slots_of old) (slots_of mid) lost.part))
 
 -- ---- one row that is put
 
@@ -604,17 +616,6 @@ no-row rows pool l q none = record {
   given = subst (HasGiven pool pool) (sym (ap frame_there none)) (given-none pool);
   spare = omega arith;
   count = omega arith;
-}
-
--- there was one, which was taken out
-pub no-row-more : (old new : Rows Row) (before after : Pool) (l q : ℕ) (row : Slot) → slots_of old l q ≡ Some row →
-    slots_of new ≡ with_pair (slots_of old) l q None → HasGiven before after (frame_in row) → new.spare ≡ old.spare + 1 →
-    row_count new + 1 ≡ row_count old → HasDroppedRow old new before after l q
-no-row-more old new before after l q row at slots given spare count = record {
-  slots = slots;
-  given = subst (HasGiven before after) (sym (ap frame_there at)) given;
-  spare = omega (arith, spare);
-  count = omega (arith, count);
 }
 
 -- a frame that did not go is still in use

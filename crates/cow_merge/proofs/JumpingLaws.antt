@@ -9,15 +9,9 @@ use Rattle.cow_split.specs.Trees.{tree_of}
 use Rattle.cow_jump.specs.declared.jumps.JumpTable.{JumpTable}
 use Rattle.cow_jump.specs.Jumps.{MayJump}
 use Rattle.cow_jump.proofs.JumpRowLaws.{may-jump_part}
-use Rattle.cow_merge.specs.Ranges.{IsLeftBare}
-use Rattle.cow_merge.specs.inside.Uncovering.{IsUncovering}
+use Rattle.cow_merge.specs.Ranges.{HasLost, IsExactFor}
 
-pub jumps-left : (arena : Arena) (old new : Rows Row) (before after : Pool) (v first : ℕ) → IsLeftBare arena old new before after v first →
-    (jumps : Option JumpTable) → MayJump (tree_of arena old) jumps → MayJump (tree_of arena new) jumps
-jumps-left arena old new before after v first bare =
-    may-jump_part (tree_of arena old) bare.leaving.exact.forest (slots_of new) v bare.node bare.visible bare.leaving.part
-
-pub jumps-uncovered : (arena : Arena) (old new : Rows Row) (before after : Pool) (k h from : ℕ) (u : IsUncovering arena old new before after k h from) →
-    (jumps : Option JumpTable) → MayJump (tree_of arena old) jumps → MayJump (tree_of arena new) jumps
-jumps-uncovered arena old new before after k h from u =
-    may-jump_part (tree_of arena old) u.exact.forest (slots_of new) k u.node u.visible u.part
+pub jumps-left : {arena : Arena} {old new : Rows Row} {before after : Pool} {v first : ℕ} → IsExactFor arena new after v →
+    HasLost arena old new before after v first → (jumps : Option JumpTable) → MayJump (tree_of arena old) jumps → MayJump (tree_of arena new) jumps
+jumps-left {arena} {old} {new} {before} {after} {v} {first} has lost =
+    may-jump_part (tree_of arena old) has.exact.forest (slots_of new) v has.node has.visible lost.part

@@ -26,9 +26,9 @@ use Rattle.cow_split.specs.Trees.{tree_of}
 use Rattle.cow_split.proofs.PartLaws.{bare-part, part-none}
 use Rattle.cow_merge.specs.inside.Lifting.{IsFamilyOf}
 use Rattle.cow_merge.specs.inside.HandingOver.{HasHandedOver}
-use Rattle.cow_merge.specs.inside.Uncovering.{IsUncovering}
 use Rattle.cow_merge.proofs.SpliceLaws.{spliced-kept, spliced-gone, spliced-parent_gone}
 use Rattle.cow_merge.proofs.UncoverLaws.{two-lists}
+use Rattle.cow_merge.specs.Ranges.{HasLost}
 
 -- a node that is there is none that is not
 there-apart : (nodes : Nodes) (j k : ℕ) → nodes k ≡ None → IsSome (nodes j) → j ≢ k
@@ -140,17 +140,17 @@ keeps-renamed name twice t u v keeps = record {
         let it = some_is (renamed_nodes name u.nodes k) some in
         ap is_some (renamed-was name u.nodes k it.0 it.1).1
 
-pub keeps-over_rows : (arena new : Arena) (old rows late : Rows Row) (before between after : Pool) (f : IsForest (nodes_of arena) arena.lists) (v h s end : ℕ) →
-    IsUncovering arena old rows before between v h end → (it : HasHandedOver arena rows late between after v h s) →
+pub keeps-over_rows : (arena new : Arena) (old rows late : Rows Row) (before between after : Pool) (f : IsForest (nodes_of arena) arena.lists) (v h s : ℕ) →
+    HasLost arena old rows before between v 0 → (it : HasHandedOver arena rows late between after v h s) →
     nodes_of new ≡ spliced_over (nodes_of arena) v h s it.of.parent it.of.sibling → new.lists ≡ arena.lists → IsForest (nodes_of new) new.lists →
     KeepsRises (tree_of arena old) (tree_of new late) v
-keeps-over_rows arena new old rows late before between after f v h s end freed it nodes lists forest =
+keeps-over_rows arena new old rows late before between after f v h s lost it nodes lists forest =
     let of = it.of in
     let name = exchanged of.parent.list.0 of.sibling.list.0 in
     let first : KeepsBelow (slots_of old) (slots_of rows) of.parent of.sibling =
-    below-fewer (slots_of old) (slots_of rows) of.parent of.sibling (part-none (slots_of old) (slots_of rows) freed.part) in
+    below-fewer (slots_of old) (slots_of rows) of.parent of.sibling (part-none (slots_of old) (slots_of rows) lost.part) in
     let keeps = below-then (slots_of old) (slots_of rows) it.slots of.parent of.sibling
-    (two-lists arena v h s f of of.parent of.sibling of.family.parent_at of.family.sibling_at) first it.lifted.rows in
+    (two-lists arena v h s f of of.parent of.sibling of.family.parent_at of.family.sibling_at) first it.below in
     let g : IsForest (spliced (nodes_of arena) v h s of.parent of.sibling) arena.lists = record {
       rank = f.rank;
       by = spliced_by (nodes_of arena) arena.lists f.rank f.by v h s of.node of.parent of.sibling of.family of.visible.koid;

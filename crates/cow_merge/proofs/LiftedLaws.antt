@@ -40,12 +40,12 @@ use Rattle.cow_split.proofs.ExactLaws.{cases_place}
 use Rattle.cow_split.proofs.CutLaws.{exact-cut, cut-shows}
 use Rattle.frame_pool.specs.declared.frame_pool.Backlink.{Backlink}
 use Rattle.frame_pool.specs.Pool.{Pool, taken_frames, is_taken}
-use Rattle.cow_merge.specs.Ranges.{bit_on, leaving_range, ShowsSame, AreLinked, GivesBack, HasLeftOut, IsHeldBy, IsSparing}
-use Rattle.cow_merge.specs.inside.Lifting.{IsAside, AreLifted, IsLifting, IsBefore, IsFamilyOf, SeesRow, IsMoved, TellsSeen, HasGone, HasLiftedRow, HasSettled, is_row_of_frame}
-use Rattle.cow_merge.proofs.RangeLaws.{gives-then, gives-same}
-use Rattle.cow_merge.proofs.PassingLaws.{linked-part, range-exact, range-shows}
+use Rattle.cow_merge.specs.Ranges.{bit_on, leaving_range, ShowsSame, AreLinked, HasLeftOut, IsHeldBy, IsSparing, Accounts, HasLost, Moves, ShowsBut}
+use Rattle.cow_merge.specs.inside.Lifting.{IsAside, AreLifted, IsLifting, IsBefore, IsFamilyOf, SeesRow, IsMoved, TellsSeen, HasGone, HasLiftedRow, HasSettled, is_row_of_frame, HasLifted}
+use Rattle.cow_merge.proofs.PassingLaws.{range-exact}
 use Rattle.cow_merge.proofs.SpliceLaws.{family-apart}
 use Rattle.cow_merge.proofs.LiftLaws.{page-over, lists-apart, leaf-step, hidden, not-below, dropped-shows, dropped-exact, moved-shows, moved-exact}
+use Rattle.cow_merge.proofs.RangeLaws.{moves-then, accounts-same}
 
 -- a slot that has a frame, by the test
 pub has-frame : (t : ℕ) (row : Slot) → frame_in row ≡ Some t → is_row_of_frame t row ≡ true
@@ -473,62 +473,10 @@ module _ (t : Tree) (k h s : ℕ) (leaf parent sibling : Node) (family : AreFami
 
 -- ---- the rows of an arena
 
--- nothing changes
-pub lifting-again : (arena : Arena) (old new : Rows Row) (before after : Pool) (k h s : ℕ) → IsLifting arena old new before after k h s →
-    IsLifting arena new new after after k h s
-lifting-again arena old new before after k h s was = record {
-  of = was.of;
-  lifted = record {
-    out = was.lifted.out;
-    exact = was.lifted.exact;
-    only = was.lifted.only;
-    shows = λ w p page sight. refl;
-    bare = was.lifted.bare;
-    held = was.lifted.held;
-    gives = gives-same after;
-    rows = below-same (slots_of new) was.of.parent was.of.sibling;
-  };
-  linked = λ linked. linked;
-  spare = omega arith;
-  count = omega arith;
-}
-
--- the parent, as it was found
-abbrev pub lifting-found : (arena : Arena) (old new : Rows Row) (before after : Pool) (k h s : ℕ) → IsLifting arena old new before after k h s →
-    (parent : Node) → nodes_of arena h ≡ Some parent → IsLifting arena old new before after k h s
-lifting-found arena old new before after k h s was parent at = record {
-  of = record {
-    node = was.of.node;
-    parent = parent;
-    sibling = was.of.sibling;
-    family = record {
-      at = was.of.family.at;
-      parent_is = was.of.family.parent_is;
-      parent_at = at;
-      sibling_is = was.of.family.sibling_is;
-      sibling_at = was.of.family.sibling_at;
-    };
-    visible = was.of.visible;
-  };
-  lifted = record {
-    out = was.lifted.out;
-    exact = was.lifted.exact;
-    only = was.lifted.only;
-    shows = was.lifted.shows;
-    bare = was.lifted.bare;
-    held = was.lifted.held;
-    gives = was.lifted.gives;
-    rows = subst (λ (n : Node). KeepsBelow (slots_of old) (slots_of new) n was.of.sibling) (some_same (sym was.of.family.parent_at ∙ at)) was.lifted.rows;
-  };
-  linked = was.linked;
-  spare = was.spare;
-  count = was.count;
-}
-
--- and the sibling too
-abbrev pub lifting-with : (arena : Arena) (old new : Rows Row) (before after : Pool) (k h s : ℕ) → IsLifting arena old new before after k h s →
-    (parent sibling : Node) → nodes_of arena h ≡ Some parent → nodes_of arena s ≡ Some sibling → IsLifting arena old new before after k h s
-lifting-with arena old new before after k h s was parent sibling at sibling_at = record {
+-- the parent and the sibling, as they were found
+abbrev pub lifting-with : {arena : Arena} {rows : Rows Row} {pool : Pool} {k h s : ℕ} → IsLifting arena rows pool k h s → (parent sibling : Node) →
+    nodes_of arena h ≡ Some parent → nodes_of arena s ≡ Some sibling → IsLifting arena rows pool k h s
+lifting-with {arena} {rows} {pool} {k} {h} {s} was parent sibling at sibling_at = record {
   of = record {
     node = was.of.node;
     parent = parent;
@@ -542,49 +490,79 @@ lifting-with arena old new before after k h s was parent sibling at sibling_at =
     };
     visible = was.of.visible;
   };
-  lifted = record {
-    out = was.lifted.out;
-    exact = was.lifted.exact;
-    only = was.lifted.only;
-    shows = was.lifted.shows;
-    bare = was.lifted.bare;
-    held = was.lifted.held;
-    gives = was.lifted.gives;
-    rows = subst (λ (n : Node). KeepsBelow (slots_of old) (slots_of new) parent n) (some_same (sym was.of.family.sibling_at ∙ sibling_at))
-        (subst (λ (n : Node). KeepsBelow (slots_of old) (slots_of new) n was.of.sibling) (some_same (sym was.of.family.parent_at ∙ at)) was.lifted.rows);
-  };
-  linked = was.linked;
-  spare = was.spare;
-  count = was.count;
+  lifted = was.lifted;
 }
 
 -- it begins where the pages of the node that are not out of sight are held by its parent
-pub lifting-start : (arena : Arena) (old new : Rows Row) (before after : Pool) (k s : ℕ) (hidden : NodeId) → IsSparing arena old new before after k 0 (Some hidden) →
-    IsFamilyOf arena k hidden.0 s → IsLifting arena old new before after k hidden.0 s
-lifting-start arena old new before after k s hidden was of =
-    let leaving = was.bare.leaving in
-    let same : was.bare.node ≡ of.node = some_same (sym was.bare.visible.at ∙ of.family.at) in
+pub lifting-start : {arena : Arena} {rows : Rows Row} {pool : Pool} {k s : ℕ} {hidden : NodeId} → IsSparing arena rows pool k 0 (Some hidden) →
+    IsFamilyOf arena k hidden.0 s → IsLifting arena rows pool k hidden.0 s
+lifting-start {arena} {rows} {pool} {k} {s} {hidden} was of =
+    let has = was.bare.has in
+    let same : has.node ≡ of.node = some_same (sym has.visible.at ∙ of.family.at) in
     record {
       of = of;
       lifted = record {
-        out = was.bare.out;
-        exact = leaving.exact;
-        only = leaving.only;
-        shows = leaving.shows;
-        bare = λ p. subst (λ (n : Node). slots_of new n.list.0 p ≡ None) same (was.bare.bare p (omega arith));
-        held = λ p tag below sight shown. subst (λ n. IsHeldBy (nodes_of arena) (slots_of new) hidden.0 n p) same
+        out = has.out;
+        exact = has.exact;
+        only = has.only;
+        bare = λ p. subst (λ (n : Node). slots_of rows n.list.0 p ≡ None) same (was.bare.bare p (omega arith));
+        held = λ p tag below sight shown. subst (λ n. IsHeldBy (nodes_of arena) (slots_of rows) hidden.0 n p) same
             (was.spares p tag (omega arith) (subst (λ (n : Node). p < n.count) (sym same) below) sight shown);
-        gives = leaving.gives;
-        rows = below-fewer (slots_of old) (slots_of new) of.parent of.sibling (part-none (slots_of old) (slots_of new) leaving.part);
       };
-      linked = linked-part old new before after leaving.part leaving.links;
-      spare = leaving.spare;
-      count = leaving.count;
     }
 
+-- what kept the rows below a parent and its child does so for those of this family
+pub below-of : {arena : Arena} {k h s : ℕ} (of now : IsFamilyOf arena k h s) (old new : Slots) → KeepsBelow old new of.parent of.sibling →
+    KeepsBelow old new now.parent now.sibling
+below-of {arena} {k} {h} {s} of now old new keeps =
+    subst (λ (n : Node). KeepsBelow old new now.parent n) (some_same (sym of.family.sibling_at ∙ now.family.sibling_at))
+    (subst (λ (n : Node). KeepsBelow old new n of.sibling) (some_same (sym of.family.parent_at ∙ now.family.parent_at)) keeps)
+
+-- the three lists are three
+pub family-lists : (arena : Arena) (k h s : ℕ) → IsForest (nodes_of arena) arena.lists → (it : IsFamilyOf arena k h s) →
+    (it.node.list.0 ≢ it.parent.list.0) × (it.node.list.0 ≢ it.sibling.list.0) × (it.parent.list.0 ≢ it.sibling.list.0)
+family-lists arena k h s f it =
+    let apart = family-apart (nodes_of arena) arena.lists f k h s it.node it.parent it.sibling it.family in (
+      λ same. apart.2 (f.by.own k h it.node it.parent it.family.at it.family.parent_at same),
+      λ same. apart.0 (f.by.own k s it.node it.sibling it.family.at it.family.sibling_at same),
+      λ same. apart.1 (f.by.own h s it.parent it.sibling it.family.parent_at it.family.sibling_at same),
+    )
+
+-- some rows have gone or moved, and then others
+pub lifted-same : {arena : Arena} {rows : Rows Row} {pool : Pool} {k h s : ℕ} → IsLifting arena rows pool k h s → HasLifted arena rows rows pool pool k h s
+lifted-same {arena} {rows} {pool} {k} {h} {s} was =
+    record { now = was; moves = record { accounts = accounts-same rows pool; shows = λ w q page before. refl }; rows = below-same (slots_of rows) was.of.parent was.of.sibling }
+
+pub lifted-then : {arena : Arena} {old mid new : Rows Row} {before between after : Pool} {k h s : ℕ} → HasLifted arena old mid before between k h s →
+    HasLifted arena mid new between after k h s → HasLifted arena old new before after k h s
+lifted-then {arena} {old} {mid} {new} {before} {between} {after} {k} {h} {s} one two = record {
+  now = two.now;
+  moves = moves-then one.moves two.moves;
+  rows = below-then (slots_of old) (slots_of mid) (slots_of new) two.now.of.parent two.now.of.sibling
+      (family-lists arena k h s two.now.lifted.exact.forest two.now.of).2
+      (below-of one.now.of two.now.of (slots_of old) (slots_of mid) one.rows) two.rows;
+}
+
+-- the same of the parent as it was found
+pub below-found : {arena : Arena} {old new : Rows Row} {before after : Pool} {k h s : ℕ} (it : HasLifted arena old new before after k h s) (parent : Node) →
+    nodes_of arena h ≡ Some parent → KeepsBelow (slots_of old) (slots_of new) parent it.now.of.sibling
+below-found {arena} {old} {new} {before} {after} {k} {h} {s} it parent at =
+    subst (λ (n : Node). KeepsBelow (slots_of old) (slots_of new) n it.now.of.sibling) (some_same (sym it.now.of.family.parent_at ∙ at)) it.rows
+
+-- rows went before
+pub lost-lifted : {arena : Arena} {old mid new : Rows Row} {before between after : Pool} {k h s : ℕ} → HasLost arena old mid before between k 0 →
+    HasLifted arena mid new between after k h s → HasLifted arena old new before after k h s
+lost-lifted {arena} {old} {mid} {new} {before} {between} {after} {k} {h} {s} one two = record {
+  now = two.now;
+  moves = moves-then one.moves two.moves;
+  rows = below-then (slots_of old) (slots_of mid) (slots_of new) two.now.of.parent two.now.of.sibling
+      (family-lists arena k h s two.now.lifted.exact.forest two.now.of).2
+      (below-fewer (slots_of old) (slots_of mid) two.now.of.parent two.now.of.sibling (part-none (slots_of old) (slots_of mid) one.part)) two.rows;
+}
+
 -- It ends where the parent has no rows: all pages of the node are left out.
-module _ (arena : Arena) (old : Rows Row) (slots : Slots) (before after : Pool) (k h s : ℕ) (of : IsFamilyOf arena k h s)
-    (was : AreLifted arena old slots before after k h s of) (empty : (p : ℕ) → slots of.parent.list.0 p ≡ None) where
+module _ (arena : Arena) (slots : Slots) (after : Pool) (k h s : ℕ) (of : IsFamilyOf arena k h s)
+    (was : AreLifted arena slots after k h of.node) (empty : (p : ℕ) → slots of.parent.list.0 p ≡ None) where
   abbrev left_tree : Tree
   left_tree = tree_with (nodes_of arena) arena.lists slots
 
@@ -599,32 +577,15 @@ module _ (arena : Arena) (old : Rows Row) (slots : Slots) (before after : Pool) 
       absurd (cc)
 
   pub lifted-exact : IsExact left_tree (leaving_range all_in_sight k 0 of.node.count) (is_taken after)
-  lifted-exact = range-exact arena old slots before after k 0 of.node of.family.at was.out was.exact was.only (λ q e. omega arith) was.shows none-left
+  lifted-exact = range-exact arena slots after k 0 of.node of.family.at was.out was.exact was.only (λ q e. omega arith) none-left
 
-  pub lifted-shows : ShowsSame (tree_of arena old) left_tree (leaving_range all_in_sight k 0 of.node.count)
-  lifted-shows = range-shows arena old slots before after k 0 of.node of.family.at was.out was.exact was.only (λ q e. omega arith) was.shows none-left
-
-pub lifting-end : (arena : Arena) (old new : Rows Row) (before after : Pool) (k h s : ℕ) (was : IsLifting arena old new before after k h s) →
-    ((p : ℕ) → slots_of new was.of.parent.list.0 p ≡ None) → HasLeftOut arena old new before after k was.of.node 0
-lifting-end arena old new before after k h s was empty = record {
-  exact = lifted-exact arena old (slots_of new) before after k h s was.of was.lifted empty;
-  shows = lifted-shows arena old (slots_of new) before after k h s was.of was.lifted empty;
+pub lifting-end : {arena : Arena} {old new : Rows Row} {before after : Pool} {k h s : ℕ} (was : IsLifting arena new after k h s) →
+    Moves arena old new before after k 0 → ((p : ℕ) → slots_of new was.of.parent.list.0 p ≡ None) → HasLeftOut arena old new before after k was.of.node 0
+lifting-end {arena} {old} {new} {before} {after} {k} {h} {s} was moves empty = record {
+  moves = moves;
+  exact = lifted-exact arena (slots_of new) after k h s was.of was.lifted empty;
   bare = λ p from. was.lifted.bare p;
-  gives = was.lifted.gives;
-  linked = was.linked;
-  spare = was.spare;
-  count = was.count;
 }
-
--- the three lists are three
-pub family-lists : (arena : Arena) (k h s : ℕ) → IsForest (nodes_of arena) arena.lists → (it : IsFamilyOf arena k h s) →
-    (it.node.list.0 ≢ it.parent.list.0) × (it.node.list.0 ≢ it.sibling.list.0) × (it.parent.list.0 ≢ it.sibling.list.0)
-family-lists arena k h s f it =
-    let apart = family-apart (nodes_of arena) arena.lists f k h s it.node it.parent it.sibling it.family in (
-      λ same. apart.2 (f.by.own k h it.node it.parent it.family.at it.family.parent_at same),
-      λ same. apart.0 (f.by.own k s it.node it.sibling it.family.at it.family.sibling_at same),
-      λ same. apart.1 (f.by.own h s it.parent it.sibling it.family.parent_at it.family.sibling_at same),
-    )
 
 -- the side of the sibling is the other one
 pub family-other : (arena : Arena) (k h s : ℕ) → IsForest (nodes_of arena) arena.lists → (it : IsFamilyOf arena k h s) →
@@ -659,9 +620,15 @@ IsUnseen slots parent k sibling q row =
     ((tag : Tag) (left right : Bool) → row ≡ slot.Frame tag left right → bit_on (other_side (side_of parent k)) left right ≡ true)
     × (row ≡ slot.Zero → SeesRow slots sibling q → ⊥)
 
+-- The rows and the pool changed: the tree of the new rows is like that of the old, and the other VMOs show what they showed.
+pub record HasLiftedOn (arena : Arena) (old new : Slots) (pool : Pool) (k h s : ℕ) (of : IsFamilyOf arena k h s) : Type 0 where
+  pub lifted : AreLifted arena new pool k h of.node
+  pub shows : ShowsBut (tree_with (nodes_of arena) arena.lists old) (tree_with (nodes_of arena) arena.lists new) k 0
+  pub below : KeepsBelow old new of.parent of.sibling
+
 -- One row of the parent goes, or moves.
-module _ (arena : Arena) (old : Rows Row) (first : Slots) (before between after : Pool) (k h s : ℕ) (of : IsFamilyOf arena k h s) (q : ℕ) (row : Slot)
-    (was : AreLifted arena old first before between k h s of) (has : first of.parent.list.0 q ≡ Some row) (gives : GivesBack between after) where
+module _ (arena : Arena) (first : Slots) (between after : Pool) (k h s : ℕ) (of : IsFamilyOf arena k h s) (q : ℕ) (row : Slot)
+    (was : AreLifted arena first between k h of.node) (has : first of.parent.list.0 q ≡ Some row) where
   abbrev first_tree : Tree
   first_tree = tree_with (nodes_of arena) arena.lists first
 
@@ -672,28 +639,32 @@ module _ (arena : Arena) (old : Rows Row) (first : Slots) (before between after 
   lifted-next : (slots : Slots) (left : Option ℕ) (now : ℕ → ℕ → Bool) → IsCut first_tree k of.node q slots was.out now (is_taken between) left →
       ((x : ℕ) → is_taken after x ≡ without_frame (is_taken between) left x) →
       ((l p : ℕ) → l ≢ of.sibling.list.0 → ((l ≡ of.parent.list.0) × (p ≡ q) → ⊥) → slots l p ≡ first l p) →
-      KeepsBelow first slots of.parent of.sibling → AreLifted arena old slots before after k h s of
+      KeepsBelow first slots of.parent of.sibling → HasLiftedOn arena first slots after k h s of
   lifted-next slots left now is_cut taken beside below = record {
-    out = now;
-    exact = exact-in_use_alike (record first_tree { slots = slots }) now (without_frame (is_taken between) left) (is_taken after) (λ x. sym (taken x)) is_cut.exact;
-    only = is_cut.only;
-    shows = λ w p page sight. is_cut.shows w p (page-over (tree_of arena old) first w p page) sight ∙ was.shows w p page (is_cut.more w p sight);
-    bare = λ p. beside of.node.list.0 p three-lists.1 (λ both. three-lists.0 both.0) ∙ was.bare p;
-    held = λ p tag below sight shown.
-        let page : IsPage first_tree k p = record { node = of.node; visible = of.visible; below = below } in
-        let showed : frame_shown first_tree k p ≡ Some tag = sym (is_cut.shows k p page sight) ∙ shown in
-        let held = was.held p tag below (is_cut.more k p sight) showed in
-        let same : held.above ≡ of.parent = some_same (sym held.at ∙ of.family.parent_at) in
-        let list = ap (λ (n : Node). n.list.0) same in
-        let off : of.node.first + p ≡ q → ⊥ = λ here. let gone = is_cut.aside p (sym here) held.inside in absurd (cc) in
-        record {
-          above = held.above;
-          at = held.at;
-          row = ap is_some (beside held.above.list.0 (of.node.first + p) (λ one. three-lists.2 (sym list ∙ one)) (λ both. off both.1)) ∙ held.row;
-          inside = held.inside;
-        };
-    gives = gives-then before between after was.gives gives;
-    rows = below-then (slots_of old) first slots of.parent of.sibling three-lists.2 was.rows below;
+    lifted = record {
+      out = now;
+      exact = exact-in_use_alike (record first_tree { slots = slots }) now (without_frame (is_taken between) left) (is_taken after) (λ x. sym (taken x)) is_cut.exact;
+      only = is_cut.only;
+      bare = λ p. beside of.node.list.0 p three-lists.1 (λ both. three-lists.0 both.0) ∙ was.bare p;
+      held = λ p tag below sight shown.
+          let page : IsPage first_tree k p = record { node = of.node; visible = of.visible; below = below } in
+          let showed : frame_shown first_tree k p ≡ Some tag = sym (is_cut.shows k p page sight) ∙ shown in
+          let held = was.held p tag below (is_cut.more k p sight) showed in
+          let same : held.above ≡ of.parent = some_same (sym held.at ∙ of.family.parent_at) in
+          let list = ap (λ (n : Node). n.list.0) same in
+          let off : of.node.first + p ≡ q → ⊥ = λ here. let gone = is_cut.aside p (sym here) held.inside in absurd (cc) in
+          record {
+            above = held.above;
+            at = held.at;
+            row = ap is_some (beside held.above.list.0 (of.node.first + p) (λ one. three-lists.2 (sym list ∙ one)) (λ both. off both.1)) ∙ held.row;
+            inside = held.inside;
+          };
+    };
+    shows = λ w p page before. is_cut.shows w p page (elim (cases_Bool (now w p)) [
+      | inl gone ↦ absurd (let early = before (is_cut.only w p gone) in omega arith)
+      | inr seen ↦ seen
+    ]);
+    below = below;
   }
 
   zero-still : row ≡ slot.Zero → StillThere first_tree k of.node of.parent.list.0 q row was.out (is_taken between)
@@ -701,17 +672,17 @@ module _ (arena : Arena) (old : Rows Row) (first : Slots) (before between after 
 
   -- a row goes that is not seen through the sibling, with its frame
   pub lifted-gone : IsUnseen first of.parent k of.sibling q row → ((x : ℕ) → is_taken after x ≡ without_frame (is_taken between) (frame_in row) x) →
-      AreLifted arena old (with_pair first of.parent.list.0 q None) before after k h s of
+      HasLiftedOn arena first (with_pair first of.parent.list.0 q None) after k h s of
   lifted-gone unseen taken = goes row refl
     where
       next : (left : Option ℕ) (now : ℕ → ℕ → Bool) → frame_in row ≡ left →
           IsCut first_tree k of.node q (with_pair first of.parent.list.0 q None) was.out now (is_taken between) left →
-          AreLifted arena old (with_pair first of.parent.list.0 q None) before after k h s of
+          HasLiftedOn arena first (with_pair first of.parent.list.0 q None) after k h s of
       next left now frame is_cut = lifted-next (with_pair first of.parent.list.0 q None) left now is_cut
           (λ x. taken x ∙ ap (λ (o : Option ℕ). without_frame (is_taken between) o x) frame)
           (λ l p _ apart. with_pair-other first of.parent.list.0 q None l p (λ a b. apart (a, b))) (below-gone first of.parent of.sibling q)
 
-      goes : (r : Slot) → row ≡ r → AreLifted arena old (with_pair first of.parent.list.0 q None) before after k h s of
+      goes : (r : Slot) → row ≡ r → HasLiftedOn arena first (with_pair first of.parent.list.0 q None) after k h s of
       goes slot.Zero e = next None _ (ap frame_in e)
           (zero-gone first_tree k h s of.node of.parent of.sibling of.family of.visible q row has was.out (is_taken between) was.exact was.only (zero-still e)
           (unseen.1 e))
@@ -724,11 +695,11 @@ module _ (arena : Arena) (old : Rows Row) (first : Slots) (before between after 
   pub lifted-moved : (now : Slot) → SeesRow first of.sibling q →
       ((tag : Tag) (left right : Bool) → row ≡ slot.Frame tag left right → bit_on (other_side (side_of of.parent k)) left right ≡ false) →
       IsMoved (with_row first_tree of.parent.list.0 q None) s (q - of.sibling.first) of.sibling row now → ((x : ℕ) → is_taken after x ≡ is_taken between x) →
-      AreLifted arena old (with_pair (with_pair first of.parent.list.0 q None) of.sibling.list.0 (q - of.sibling.first) (Some now)) before after k h s of
+      HasLiftedOn arena first (with_pair (with_pair first of.parent.list.0 q None) of.sibling.list.0 (q - of.sibling.first) (Some now)) after k h s of
   lifted-moved now sees bit moved taken = moves row refl
     where
       next : StillThere first_tree k of.node of.parent.list.0 q row was.out (is_taken between) →
-          AreLifted arena old (with_pair (with_pair first of.parent.list.0 q None) of.sibling.list.0 (q - of.sibling.first) (Some now)) before after k h s of
+          HasLiftedOn arena first (with_pair (with_pair first of.parent.list.0 q None) of.sibling.list.0 (q - of.sibling.first) (Some now)) after k h s of
       next still = lifted-next (with_pair (with_pair first of.parent.list.0 q None) of.sibling.list.0 (q - of.sibling.first) (Some now)) None still.now
           (row-moved first_tree k h s of.node of.parent of.sibling of.family of.visible q row has was.out (is_taken between) was.exact was.only still now sees moved)
           (λ x. taken x ∙ without-none (is_taken between) x)
@@ -738,7 +709,7 @@ module _ (arena : Arena) (old : Rows Row) (first : Slots) (before between after 
           (below-moved first (with_pair first of.parent.list.0 q None) of.parent of.sibling q row (Some now) has sees.from (below-gone first of.parent of.sibling q))
 
       moves : (r : Slot) → row ≡ r →
-          AreLifted arena old (with_pair (with_pair first of.parent.list.0 q None) of.sibling.list.0 (q - of.sibling.first) (Some now)) before after k h s of
+          HasLiftedOn arena first (with_pair (with_pair first of.parent.list.0 q None) of.sibling.list.0 (q - of.sibling.first) (Some now)) after k h s of
       moves slot.Zero e = next (zero-still e)
       moves (slot.Frame tag left right) e = next
           (row-there first_tree k h s of.node of.parent of.sibling of.family of.visible q row has was.out (is_taken between) was.exact was.only was.bare tag left right e
@@ -819,8 +790,8 @@ module _ (arena : Arena) (first mid new : Rows Row) (between after : Pool) (k h 
       ]
 
 -- A row of the parent was taken out.
-module _ (arena : Arena) (old first mid new : Rows Row) (before between after : Pool) (k h s q : ℕ) (row : Slot)
-    (was : IsLifting arena old first before between k h s) (has : slots_of first was.of.parent.list.0 q ≡ Some row)
+module _ (arena : Arena) (first mid new : Rows Row) (between after : Pool) (k h s q : ℕ) (row : Slot)
+    (was : IsLifting arena first between k h s) (has : slots_of first was.of.parent.list.0 q ≡ Some row)
     (taken_out : slots_of mid ≡ with_pair (slots_of first) was.of.parent.list.0 q None) where
   abbrev t : Tree
   t = tree_of arena first
@@ -857,45 +828,52 @@ module _ (arena : Arena) (old first mid new : Rows Row) (before between after : 
       (row-sees t k h s node parent sibling was.of.family was.of.visible q row has was.lifted.out (is_taken between) was.lifted.exact was.lifted.only
       tag left right e (ap (λ (from : Side). bit_on from left right) (sym (family-other arena k h s was.lifted.exact.forest was.of)) ∙ seen))
 
+  -- what the rows and the frames are now
+  next : (slots : Slots) → slots_of new ≡ slots → HasLiftedOn arena (slots_of first) slots after k h s was.of →
+      Accounts first new between after → HasLifted arena first new between after k h s
+  next slots is it accounts = record {
+    now = record { of = was.of; lifted = subst (λ (x : Slots). AreLifted arena x after k h node) (sym is) it.lifted };
+    moves = record { accounts = accounts; shows = subst (λ (x : Slots). ShowsBut t (record t { slots = x }) k 0) (sym is) it.shows };
+    rows = subst (λ (x : Slots). KeepsBelow (slots_of first) x parent sibling) (sym is) it.below;
+  }
+
   -- ---- the row is gone
 
   module _ (gone : HasGone mid new between after row) where
     gone-next : IsUnseen (slots_of first) parent k sibling q row → row_count mid + 1 ≡ row_count first → mid.spare ≡ first.spare + 1 →
-        IsLifting arena old new before after k h s
+        HasLifted arena first new between after k h s
     gone-next unseen count spare =
         let spare_is = ap (λ (r : Rows Row). r.spare) gone.rows in
         let count_is = ap (λ (r : Rows Row). row_count r) gone.rows in
-        record {
-          of = was.of;
-          lifted = subst (λ (x : Slots). AreLifted arena old x before after k h s was.of) (sym (gone-slots arena first mid new between after k h s was.of q row has taken_out gone))
-              (lifted-gone arena old (slots_of first) before between after k h s was.of q row was.lifted has gone.given.gives unseen gone.given.taken);
-          linked = λ ok. gone-linked arena first mid new between after k h s was.of q row has taken_out gone (was.linked ok);
-          spare = omega (arith, was.spare);
-          count = omega (arith, was.count);
-        }
+        next (with_pair (slots_of first) parent.list.0 q None) (gone-slots arena first mid new between after k h s was.of q row has taken_out gone)
+        (lifted-gone arena (slots_of first) between after k h s was.of q row was.lifted has unseen gone.given.taken) (record {
+          gives = gone.given.gives;
+          linked = gone-linked arena first mid new between after k h s was.of q row has taken_out gone;
+          spare = omega arith;
+          count = omega arith;
+        })
 
   -- ---- the row has moved
 
   module _ (moved : HasLiftedRow arena mid new between after s sibling q row) where
     moved-next : SeesRow (slots_of first) sibling q →
         ((tag : Tag) (left right : Bool) → row ≡ slot.Frame tag left right → bit_on (other_side (side_of parent k)) left right ≡ false) →
-        row_count mid + 1 ≡ row_count first → mid.spare ≡ first.spare + 1 → IsLifting arena old new before after k h s
+        row_count mid + 1 ≡ row_count first → mid.spare ≡ first.spare + 1 → HasLifted arena first new between after k h s
     moved-next sees bit count spare =
         let bits = subst (λ (x : Slots). IsMoved (record (tree_of arena first) { slots = x }) s (q - sibling.first) sibling row moved.now) taken_out moved.moved in
-        record {
-          of = was.of;
-          lifted = subst (λ (x : Slots). AreLifted arena old x before after k h s was.of) (sym (moved-slots arena first mid new between after k h s was.of q row has taken_out moved))
-              (lifted-moved arena old (slots_of first) before between after k h s was.of q row was.lifted has
-              (record { frames = moved.frames; kept = λ x. inl (ap (λ f. f x) moved.taken) })
-              moved.now sees bit bits (λ x. ap (λ f. is_some (f x)) moved.taken));
-          linked = λ ok. moved-linked arena first mid new between after k h s was.of q row has taken_out moved (was.linked ok);
-          spare = omega (arith, was.spare, moved.spare);
-          count = omega (arith, was.count, moved.count);
-        }
+        next (with_pair (with_pair (slots_of first) parent.list.0 q None) sibling.list.0 (q - sibling.first) (Some moved.now))
+        (moved-slots arena first mid new between after k h s was.of q row has taken_out moved)
+        (lifted-moved arena (slots_of first) between after k h s was.of q row was.lifted has moved.now sees bit bits (λ x. ap (λ f. is_some (f x)) moved.taken))
+        (record {
+          gives = record { frames = moved.frames; kept = λ x. inl (ap (λ f. f x) moved.taken) };
+          linked = moved-linked arena first mid new between after k h s was.of q row has taken_out moved;
+          spare = omega (arith, moved.spare);
+          count = omega (arith, moved.count);
+        })
 
   -- the row is gone, or has moved
   pub lifting-settled : HasSettled arena mid new between after parent s sibling q row → row_count mid + 1 ≡ row_count first → mid.spare ≡ first.spare + 1 →
-      IsLifting arena old new before after k h s
+      HasLifted arena first new between after k h s
   lifting-settled done count spare = elim (cases_Bool done.seen) [
     | inl on ↦ moved-next (done.moves on) (sees-first (settle-sees (slots_of mid) parent s sibling q row done.seen done.tells row-sees-mid on)) (bit-off on) count spare
     | inr off ↦ gone-next (done.gone off) (

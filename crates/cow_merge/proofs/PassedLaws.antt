@@ -18,7 +18,7 @@ use Rattle.cow_arena.specs.declared.node.Side.TheVariants as side
 use Rattle.cow_arena.specs.Nodes.{Arena, nodes_of, IsVisible, side_of}
 use Rattle.cow_arena.specs.Walk.{Tree}
 use Rattle.cow_arena.specs.Forest.{IsForest}
-use Rattle.cow_arena.specs.Ways.{HasRow, Climbs, Reaches, Arrives}
+use Rattle.cow_arena.specs.Ways.{HasRow, Climbs, Reaches, Arrives, IsPartOf}
 use Rattle.cow_arena.proofs.ReachLaws.{reach-cases, reach-after, reach-apart, reach-deeper, reach-hidden, side-is, found-of-reach, arrives-or-not}
 use Rattle.cow_split.specs.declared.answers.Cut.{Cut}
 use Rattle.cow_split.specs.declared.answers.Cut.TheVariants as cut
@@ -31,7 +31,7 @@ use Rattle.cow_split.proofs.ExactLaws.{cases_place}
 use Rattle.cow_split.proofs.RowLaws.{left_out-here, left_out-other}
 use Rattle.cow_split.proofs.PartLaws.{part-same}
 use Rattle.cow_merge.specs.Ranges.{bare_of, bit_on, is_split, HasGiven, IsOnlyWay, HasPassedRow, IsExactFor}
-use Rattle.cow_merge.proofs.RangeLaws.{reach-part, gives-same, given-none, cut-taken, cut-left_out}
+use Rattle.cow_merge.proofs.RangeLaws.{reach-part, given-none, cut-taken, cut-left_out, accounts-same, accounts-part, kept-same}
 
 -- ---- the ways through the windows
 
@@ -113,7 +113,11 @@ module _ (arena : Arena) (old new : Rows Row) (v p : ℕ) (from : Side) (h q : �
     stays = λ none.
         let stays = stayed none in
         let same = subst (λ o. HasGiven pool after o) stays.no_frame given in
-        record { rows = stays.rows; taken = λ t. same.taken t ∙ kept t; links = same.links; gives = same.gives; spare = spare; count = count };
+        record {
+          rows = stays.rows;
+          taken = λ t. same.taken t ∙ kept t;
+          accounts = accounts-part old new pool after None (subst (λ s. IsPartOf (slots_of old) s) (sym stays.rows) (part-same (slots_of old))) same spare count;
+        };
   }
     where
       kept : (t : ℕ) → without_frame (is_taken pool) None t ≡ is_taken pool t
@@ -178,10 +182,7 @@ split-passed arena rows pool v p node from h q slot visible row hidden split = r
         subst (λ o. IsExact (tree_of arena rows) o (is_taken pool)) (λ i w r. out-again out v p gone w r i) exact;
     shows = λ out exact only w r page sight. refl;
     part = part-same (slots_of rows);
-    links = refl;
-    gives = gives-same pool;
-    spare = omega arith;
-    count = omega arith;
+    accounts = accounts-same rows pool;
   };
-  stays = λ none. record { rows = refl; taken = λ t. refl; links = refl; gives = gives-same pool; spare = omega arith; count = omega arith };
+  stays = λ none. kept-same;
 }

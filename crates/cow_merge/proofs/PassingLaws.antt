@@ -13,7 +13,7 @@ use Rattle.page_list.specs.declared.row.Row.{Row}
 use Rattle.page_list.specs.declared.row.Slot.{Slot}
 use Rattle.page_list.specs.declared.row.Slot.TheVariants as slot
 use Rattle.page_list.specs.Lists.{slots_of}
-use Rattle.frame_pool.specs.Pool.{Pool, links_of, is_taken}
+use Rattle.frame_pool.specs.Pool.{Pool, is_taken}
 use Rattle.cow_arena.specs.declared.node.Node.{Node}
 use Rattle.cow_arena.specs.declared.node.NodeId.{NodeId}
 use Rattle.cow_arena.specs.declared.node.Side.{Side}
@@ -26,15 +26,15 @@ use Rattle.cow_arena.proofs.ReachLaws.{reach-one, reach-after, climb-side, walk-
 use Rattle.cow_split.specs.Trees.{tree_of}
 use Rattle.cow_split.specs.Cost.{nodes_up}
 use Rattle.cow_split.specs.Sight.{IsPage, Sees}
-use Rattle.cow_split.specs.Exact.{IsExact, IsOnlyOf, all_in_sight, leaving_out}
+use Rattle.cow_split.specs.Exact.{IsExact, IsOnlyOf, all_in_sight}
 use Rattle.cow_split.proofs.CostLaws.{depth-up, depth-some}
 use Rattle.cow_split.proofs.ExactLaws.{exact-seen_alike, seen-carried}
 use Rattle.cow_split.proofs.RowLaws.{left_out-in_sight, frame-shown}
-use Rattle.cow_split.proofs.PartLaws.{part-none}
+use Rattle.cow_split.proofs.PartLaws.{part-same, part-none}
 use Rattle.cow_merge.specs.declared.ranges.Pages.{Pages}
-use Rattle.cow_merge.specs.Ranges.{leaving_range, AreLinked, HasLeftPageOut, IsLeftBare, CameTo, ShowsSame, IsHeldBy, IsSpared, IsParent, IsOnlyWay, HasKept, HasPassedRow, IsPassing, IsSparing, HasLeftOut, IsExactFor, IsOutside, no_pages, IsNextOutside}
-use Rattle.cow_merge.proofs.CountLaws.{in_sight-outside, outside-other, outside-before}
-use Rattle.cow_merge.proofs.RangeLaws.{arrives-part, leaving-again, leaving-kept, leaving-more}
+use Rattle.cow_merge.specs.Ranges.{leaving_range, HasLeftPageOut, IsLeftBare, CameTo, IsHeldBy, IsSpared, IsParent, IsOnlyWay, HasKept, HasPassedRow, IsPassing, IsSparing, HasLeftOut, IsOutside, no_pages, IsNextOutside, HasLost}
+use Rattle.cow_merge.proofs.CountLaws.{outside-other, outside-before}
+use Rattle.cow_merge.proofs.RangeLaws.{arrives-part, bare-more, bare-kept, bare-lost, lost-kept}
 
 -- what was found from a side has its frame
 pub frame-from : (side : Option Side) (o : Option Found) → frame_found (from_side side o) ≡ frame_found o
@@ -58,20 +58,17 @@ module _ (t : Tree) (f : IsForest t.nodes t.lists) (v q : ℕ) (skip : Pages) (h
         absurd (cc)
   ]
 
-pub passing-again : (arena : Arena) (old new : Rows Row) (before after : Pool) (v first : ℕ) (skip : Pages) (spared : Option NodeId) (above : Node) (shift to upto : ℕ) →
-    IsPassing arena old new before after v first skip spared above shift to upto → IsPassing arena new new after after v first skip spared above shift to upto
-passing-again arena old new before after v first skip spared above shift to upto was = record {
-  bare = record {
-    out = was.bare.out;
-    leaving = leaving-again arena old new before after v first was.bare.out was.bare.leaving;
-    node = was.bare.node;
-    visible = was.bare.visible;
-    bare = was.bare.bare;
-  };
-  parent = was.parent;
-  h = was.h;
-  at = was.at;
-  came = was.came;
+-- the same way to the same page, where rows went
+pub came-on : {t : Tree} {slots : Slots} {v q : ℕ} {skip : Pages} {h list shift to upto end : ℕ} (came : CameTo t v q skip h list shift to upto) →
+    IsPartOf t.slots slots → (came.page < end → slots list came.page ≡ None) → CameTo (record t { slots = slots }) v q skip h list shift to end
+came-on {t} {slots} {v} {q} {skip} {h} came part free = record {
+  side = came.side;
+  apart = came.apart;
+  page = came.page;
+  is = came.is;
+  way = arrives-part t slots part v q came.side h came.page came.way;
+  below = came.below;
+  free = free;
 }
 
 -- what is bare shows a frame through its window alone
@@ -83,16 +80,16 @@ bare-inside arena rows f v p tag node at free shown = elim (cases_lt p node.seen
 ]
 
 -- it begins at the node itself
-pub passing-start : (arena : Arena) (old new : Rows Row) (before after : Pool) (v first : ℕ) (node : Node) →
-    IsLeftBare arena old new before after v first → nodes_of arena v ≡ Some node →
-    IsPassing arena old new before after v first no_pages None node 0 node.seen node.seen
-passing-start arena old new before after v first node was at = record {
+pub passing-start : {arena : Arena} {new : Rows Row} {after : Pool} {v first : ℕ} {node : Node} →
+    IsLeftBare arena new after v first → nodes_of arena v ≡ Some node →
+    IsPassing arena new after v first no_pages None node 0 node.seen node.seen
+passing-start {arena} {new} {after} {v} {first} {node} was at = record {
   bare = was;
   parent = λ h e. absurd (cc);
   h = v;
   at = at;
   came = λ q tag from below sight shown.
-      let same : was.node ≡ node = some_same (sym was.visible.at ∙ at) in
+      let same : was.has.node ≡ node = some_same (sym was.has.visible.at ∙ at) in
       let free : slots_of new node.list.0 q ≡ None = subst (λ (n : Node). slots_of new n.list.0 q ≡ None) same (was.bare q from) in
       inr (record {
         side = None;
@@ -100,26 +97,26 @@ passing-start arena old new before after v first node was at = record {
         page = q;
         is = omega arith;
         way = (refl, refl);
-        below = bare-inside arena new was.leaving.exact.forest v q tag node at free shown;
+        below = bare-inside arena new was.has.exact.forest v q tag node at free shown;
         free = λ less. free;
       });
 }
 
 -- it begins at the parent, which is spared
-pub passing-above : (arena : Arena) (old new : Rows Row) (before after : Pool) (v : ℕ) (node : Node) (hidden : NodeId) (above : Node) →
-    IsLeftBare arena old new before after v 0 → nodes_of arena v ≡ Some node → node.parent ≡ Some hidden → nodes_of arena hidden.0 ≡ Some above →
-    IsPassing arena old new before after v 0 no_pages (Some hidden) above node.first (node.first + node.seen) (node.first + node.seen)
-passing-above arena old new before after v node hidden above was at up above_at = record {
+pub passing-above : {arena : Arena} {new : Rows Row} {after : Pool} {v : ℕ} {node : Node} {hidden : NodeId} {above : Node} →
+    IsLeftBare arena new after v 0 → nodes_of arena v ≡ Some node → node.parent ≡ Some hidden → nodes_of arena hidden.0 ≡ Some above →
+    IsPassing arena new after v 0 no_pages (Some hidden) above node.first (node.first + node.seen) (node.first + node.seen)
+passing-above {arena} {new} {after} {v} {node} {hidden} {above} was at up above_at = record {
   bare = was;
   parent = λ h e. ap (λ (n : Node). n.parent) same ∙ (up ∙ e);
   h = hidden.0;
   at = above_at;
   came = λ q tag from below sight shown. subst (λ n. IsHeldBy (nodes_of arena) (slots_of new) hidden.0 n q ⊎ Comes q) (sym same)
-      (comes q (bare_here q) (bare-inside arena new was.leaving.exact.forest v q tag node at (bare_here q) shown) (slots_of new above.list.0 (node.first + q)) refl);
+      (comes q (bare_here q) (bare-inside arena new was.has.exact.forest v q tag node at (bare_here q) shown) (slots_of new above.list.0 (node.first + q)) refl);
 }
   where
-    same : was.node ≡ node
-    same = some_same (sym was.visible.at ∙ at)
+    same : was.has.node ≡ node
+    same = some_same (sym was.has.visible.at ∙ at)
 
     bare_here : (q : ℕ) → slots_of new node.list.0 q ≡ None
     bare_here q = subst (λ (n : Node). slots_of new n.list.0 q ≡ None) same (was.bare q (omega arith))
@@ -133,7 +130,7 @@ passing-above arena old new before after v node hidden above was at up above_at 
     comes q free inside None is =
         let step : Climbs (tree_of arena new) v q hidden.0 (node.first + q) =
         record { node = node; at = at; free = free; inside = inside; parent = up; page = refl } in
-        let last = climb-side (tree_of arena new) was.leaving.exact.forest v q hidden.0 (node.first + q) step in
+        let last = climb-side (tree_of arena new) was.has.exact.forest v q hidden.0 (node.first + q) step in
         inr (record {
           side = Some last.1;
           apart = inr (omega arith);
@@ -144,13 +141,13 @@ passing-above arena old new before after v node hidden above was at up above_at 
           free = λ less. is;
         })
 
-module _ (arena : Arena) (old new : Rows Row) (before after : Pool) (v first : ℕ) (skip : Pages) (spared : Option NodeId) (above : Node) (shift to : ℕ) where
+module _ {arena : Arena} {new : Rows Row} {after : Pool} {v first : ℕ} {skip : Pages} {spared : Option NodeId} {above : Node} {shift to : ℕ} where
   -- it goes on at the parent
-  pub passing-up : IsPassing arena old new before after v first skip spared above shift to to → (parent : NodeId) (up : Node) →
+  pub passing-up : IsPassing arena new after v first skip spared above shift to to → (parent : NodeId) (up : Node) →
       above.parent ≡ Some parent → nodes_of arena parent.0 ≡ Some up → (end : ℕ) → end ≡ min to above.seen →
-      IsPassing arena old new before after v first skip spared up (shift + above.first) (end + above.first) (first + (shift + above.first))
+      IsPassing arena new after v first skip spared up (shift + above.first) (end + above.first) (first + (shift + above.first))
   passing-up was parent up parent_is up_at end end_is =
-      let f = was.bare.leaving.exact.forest in
+      let f = was.bare.has.exact.forest in
       record {
         bare = was.bare;
         parent = was.parent;
@@ -177,14 +174,13 @@ module _ (arena : Arena) (old new : Rows Row) (before after : Pool) (v first : �
       }
 
 -- it goes on at the parent of the node itself
-pub passing-parent : (arena : Arena) (old new : Rows Row) (before after : Pool) (v first : ℕ) (node : Node) (hidden : NodeId) (above : Node) →
-    IsLeftBare arena old new before after v first → nodes_of arena v ≡ Some node → node.parent ≡ Some hidden → nodes_of arena hidden.0 ≡ Some above →
-    IsPassing arena old new before after v first no_pages None above node.first (node.first + node.seen) (first + node.first)
-passing-parent arena old new before after v first node hidden above was at up above_at =
-    subst (λ x. IsPassing arena old new before after v first no_pages None above node.first x (first + node.first)) (omega arith)
-    (subst (λ x. IsPassing arena old new before after v first no_pages None above x (node.seen + node.first) (first + x)) (omega arith)
-    (passing-up arena old new before after v first no_pages None node 0 node.seen
-    (passing-start arena old new before after v first node was at) hidden above up above_at node.seen (omega arith)))
+pub passing-parent : {arena : Arena} {new : Rows Row} {after : Pool} {v first : ℕ} {node : Node} {hidden : NodeId} {above : Node} →
+    IsLeftBare arena new after v first → nodes_of arena v ≡ Some node → node.parent ≡ Some hidden → nodes_of arena hidden.0 ≡ Some above →
+    IsPassing arena new after v first no_pages None above node.first (node.first + node.seen) (first + node.first)
+passing-parent {arena} {new} {after} {v} {first} {node} {hidden} {above} was at up above_at =
+    subst (λ x. IsPassing arena new after v first no_pages None above node.first x (first + node.first)) (omega arith)
+    (subst (λ x. IsPassing arena new after v first no_pages None above x (node.seen + node.first) (first + x)) (omega arith)
+    (passing-up (passing-start was at) hidden above up above_at node.seen (omega arith)))
 
 -- A page that was held stays so, where rows went and it shows the frame that it showed.
 module _ (arena : Arena) (old new : Rows Row) (v : ℕ) (node : Node) (visible : IsVisible (nodes_of arena) v node) (out : ℕ → ℕ → Bool)
@@ -266,8 +262,8 @@ module _ (slots : ℕ → Option Slot) (from to shift : ℕ) (skip : Pages) (row
     outside-ends None none = outside-end none
     outside-ends (Some page) none = tt
 
-module _ (arena : Arena) (old mid new : Rows Row) (before between after : Pool) (v first : ℕ) (skip : Pages) (spared : Option NodeId) (above : Node) (shift to upto row : ℕ)
-    (was : IsPassing arena old mid before between v first skip spared above shift to upto) (from : first + shift ≤ upto)
+module _ {arena : Arena} {mid : Rows Row} (new : Rows Row) {between : Pool} (after : Pool) {v first : ℕ} {skip : Pages} {spared : Option NodeId} {above : Node} {shift to upto row : ℕ}
+    (was : IsPassing arena mid between v first skip spared above shift to upto) (from : first + shift ≤ upto)
     (next : IsNextOutside (slots_of mid above.list.0) upto to shift skip row) where
   -- no page comes to a row before
   before-next : (q page : ℕ) → page ≡ q + shift → upto ≤ page → page < row → IsOutside skip q → slots_of mid above.list.0 page ≡ None
@@ -275,56 +271,40 @@ module _ (arena : Arena) (old mid new : Rows Row) (before between after : Pool) 
       subst (λ x. slots_of mid above.list.0 x ≡ None) (sym is)
       (next.none q (subst (λ x. upto ≤ x) is past) (subst (λ x. x < row) is less) apart)
 
+  row-past : first ≤ row - shift
+  row-past = omega (arith, next.least)
+
   -- the page that comes to a row is cut off
-  passing-out : HasLeftPageOut arena mid new between after v (row - shift) → IsPassing arena old new before after v first skip spared above shift to (row + 1)
+  passing-out : HasLeftPageOut arena mid new between after v (row - shift) → IsPassing arena new after v first skip spared above shift to (row + 1)
   passing-out step =
-      let out = was.bare.out in
+      let out = was.bare.has.out in
       record {
-        bare = record {
-          out = leaving_out out v (row - shift);
-          leaving = leaving-more arena old mid new before between after v first (row - shift) out was.bare.leaving step (omega (arith, next.least));
-          node = was.bare.node;
-          visible = was.bare.visible;
-          bare = λ p start. part-none (slots_of mid) (slots_of new) step.part was.bare.node.list.0 p (was.bare.bare p start);
-        };
+        bare = bare-more was.bare step row-past;
         parent = was.parent;
         h = was.h;
         at = was.at;
         came = λ q tag start below sight shown.
             let parts = left_out-in_sight out v (row - shift) v q sight in
             let apart : q ≢ row - shift = λ same. parts.0 (refl, same) in
-            let page : IsPage (tree_of arena mid) v q = record { node = was.bare.node; visible = was.bare.visible; below = below } in
-            let showed = sym (step.shows out was.bare.leaving.exact was.bare.leaving.only v q page sight) ∙ shown in
+            let page : IsPage (tree_of arena mid) v q = record { node = was.bare.has.node; visible = was.bare.has.visible; below = below } in
+            let showed = sym (step.shows out was.bare.has.exact was.bare.has.only v q page sight) ∙ shown in
             elim (was.came q tag start below parts.1 showed) [
-              | inl held ↦ inl (spared-stays arena mid new v was.bare.node was.bare.visible out (is_taken between) was.bare.leaving.exact step.part
+              | inl held ↦ inl (spared-stays arena mid new v was.bare.has.node was.bare.has.visible out (is_taken between) was.bare.has.exact step.part
                   spared q tag was.parent (was.bare.bare q start) showed shown held)
-              | inr came ↦ inr (record {
-                side = came.side;
-                apart = came.apart;
-                page = came.page;
-                is = came.is;
-                way = arrives-part (tree_of arena mid) (slots_of new) step.part v q came.side was.h came.page came.way;
-                below = came.below;
-                free = λ less. part-none (slots_of mid) (slots_of new) step.part above.list.0 came.page (elim (cases_lt came.page upto) [
-                  | inl before ↦ came.free before
-                  | inr past ↦ before-next q came.page came.is past (omega (arith, came.is, next.least)) came.apart
-                ]);
-              })
+              | inr came ↦ inr (came-on came step.part (λ less. part-none (slots_of mid) (slots_of new) step.part above.list.0 came.page
+                  (elim (cases_lt came.page upto) [
+                    | inl before ↦ came.free before
+                    | inr past ↦ before-next q came.page came.is past (omega (arith, came.is, next.least)) came.apart
+                  ])))
             ];
       }
 
   -- no page comes to the row, and nothing has changed
   passing-kept : HasKept mid new between after →
       ((q : ℕ) (side : Option Side) → q ≡ row - shift → Arrives (tree_of arena mid) v q side was.h row → ⊥) →
-      IsPassing arena old new before after v first skip spared above shift to (row + 1)
+      IsPassing arena new after v first skip spared above shift to (row + 1)
   passing-kept kept none = record {
-    bare = record {
-      out = was.bare.out;
-      leaving = leaving-kept arena old mid new before between after v first was.bare.out was.bare.leaving kept;
-      node = was.bare.node;
-      visible = was.bare.visible;
-      bare = λ p start. ap (λ s. s was.bare.node.list.0 p) kept.rows ∙ was.bare.bare p start;
-    };
+    bare = bare-kept was.bare kept;
     parent = was.parent;
     h = was.h;
     at = was.at;
@@ -332,29 +312,35 @@ module _ (arena : Arena) (old mid new : Rows Row) (before between after : Pool) 
         let showed : frame_shown (tree_of arena mid) v q ≡ Some tag
         = ap (λ s. frame_shown (record (tree_of arena mid) { slots = s }) v q) (sym kept.rows) ∙ shown in
         elim (was.came q tag start below sight showed) [
-          | inl held ↦ inl (subst (λ s. IsSpared (nodes_of arena) s spared was.bare.node q) (sym kept.rows) held)
-          | inr came ↦ inr (subst (λ s. CameTo (record (tree_of arena mid) { slots = s }) v q skip was.h above.list.0 shift to (row + 1)) (sym kept.rows) (record {
-            side = came.side;
-            apart = came.apart;
-            page = came.page;
-            is = came.is;
-            way = came.way;
-            below = came.below;
-            free = λ less. elim (cases_lt came.page upto) [
-              | inl before ↦ came.free before
-              | inr past ↦ elim (cases_lt came.page row) [
-                | inl earlier ↦ before-next q came.page came.is past earlier came.apart
-                | inr later ↦ (
-                    let here : came.page ≡ row = omega arith in
-                    absurd (none q came.side (omega (arith, came.is)) (subst (Arrives (tree_of arena mid) v q came.side was.h) here came.way)))
-              ]
-            ];
-          }))
+          | inl held ↦ inl (subst (λ s. IsSpared (nodes_of arena) s spared was.bare.has.node q) (sym kept.rows) held)
+          | inr came ↦ inr (subst (λ s. CameTo (record (tree_of arena mid) { slots = s }) v q skip was.h above.list.0 shift to (row + 1)) (sym kept.rows) (came-on came (part-same (slots_of mid))
+              (λ less. elim (cases_lt came.page upto) [
+                | inl before ↦ came.free before
+                | inr past ↦ elim (cases_lt came.page row) [
+                  | inl earlier ↦ before-next q came.page came.is past earlier came.apart
+                  | inr later ↦ (
+                      let here : came.page ≡ row = omega arith in
+                      absurd (none q came.side (omega (arith, came.is)) (subst (Arrives (tree_of arena mid) v q came.side was.h) here came.way)))
+                ]
+              ])))
         ];
   }
 
+  -- what went, went from the pages of v
+  pub passing-lost : (h : ℕ) (from : Side) → nodes_of arena h ≡ Some above → h ≢ v → IsOnlyWay (tree_of arena mid) v (row - shift) from h row →
+      HasPassedRow arena mid new between after v (row - shift) from h row → HasLost arena mid new between after v first
+  passing-lost h from at apart only step = elim (arrives-or-not (tree_of arena mid) was.bare.has.exact.forest h row v (row - shift)) [
+    | inl way ↦ on_way way.0 way.1
+    | inr none ↦ lost-kept (step.stays (λ way. none (Some from) way))
+  ]
+    where
+      on_way : (side : Option Side) → Arrives (tree_of arena mid) v (row - shift) side h row → HasLost arena mid new between after v first
+      on_way None way = absurd (apart (sym way.0))
+      on_way (Some side) way = bare-lost was.bare
+          (step.came (subst (λ s. Reaches (tree_of arena mid) v (row - shift) s h row) (only.only (row - shift) side way).1 way)) row-past
+
   pub passing-cut : (h : ℕ) (from : Side) → nodes_of arena h ≡ Some above → h ≢ v → IsOnlyWay (tree_of arena mid) v (row - shift) from h row →
-      HasPassedRow arena mid new between after v (row - shift) from h row → IsPassing arena old new before after v first skip spared above shift to (row + 1)
+      HasPassedRow arena mid new between after v (row - shift) from h row → IsPassing arena new after v first skip spared above shift to (row + 1)
   passing-cut h from at apart only step = elim (arrives-or-not t f h row v (row - shift)) [
     | inl way ↦ on_way way.0 way.1
     | inr none ↦ passing-kept (step.stays (λ way. none (Some from) way))
@@ -365,20 +351,20 @@ module _ (arena : Arena) (old mid new : Rows Row) (before between after : Pool) 
       t = tree_of arena mid
 
       f : IsForest (nodes_of arena) arena.lists
-      f = was.bare.leaving.exact.forest
+      f = was.bare.has.exact.forest
 
       here : was.h ≡ h
       here = f.by.own was.h h above above was.at at refl
 
-      on_way : (side : Option Side) → Arrives t v (row - shift) side h row → IsPassing arena old new before after v first skip spared above shift to (row + 1)
+      on_way : (side : Option Side) → Arrives t v (row - shift) side h row → IsPassing arena new after v first skip spared above shift to (row + 1)
       on_way None way = absurd (apart (sym way.0))
       on_way (Some side) way = passing-out (step.came (subst (λ s. Reaches t v (row - shift) s h row) (only.only (row - shift) side way).1 way))
 
-module _ (arena : Arena) (old new : Rows Row) (before after : Pool) (v first : ℕ) (skip : Pages) (spared : Option NodeId) (above : Node) (shift to upto : ℕ) where
+module _ {arena : Arena} {new : Rows Row} {after : Pool} {v first : ℕ} {skip : Pages} {spared : Option NodeId} {above : Node} {shift to upto : ℕ} where
   -- no row is left that they could come to
-  pub passing-end : IsPassing arena old new before after v first skip spared above shift to upto →
+  pub passing-end : IsPassing arena new after v first skip spared above shift to upto →
       ((q : ℕ) → upto ≤ q + shift → q + shift < to → IsOutside skip q → slots_of new above.list.0 (q + shift) ≡ None) →
-      IsPassing arena old new before after v first skip spared above shift to to
+      IsPassing arena new after v first skip spared above shift to to
   passing-end was none = record {
     bare = was.bare;
     parent = was.parent;
@@ -386,20 +372,12 @@ module _ (arena : Arena) (old new : Rows Row) (before after : Pool) (v first : �
     at = was.at;
     came = λ q tag start below sight shown. elim (was.came q tag start below sight shown) [
       | inl held ↦ inl held
-      | inr came ↦ inr (record {
-        side = came.side;
-        apart = came.apart;
-        page = came.page;
-        is = came.is;
-        way = came.way;
-        below = came.below;
-        free = λ less. elim (cases_lt came.page upto) [
-          | inl before ↦ came.free before
-          | inr past ↦
-              subst (λ x. slots_of new above.list.0 x ≡ None) (sym came.is)
-              (none q (subst (λ x. upto ≤ x) came.is past) (subst (λ x. x < to) came.is less) came.apart)
-        ];
-      })
+      | inr came ↦ inr (came-on came (part-same (slots_of new)) (λ less. elim (cases_lt came.page upto) [
+        | inl before ↦ came.free before
+        | inr past ↦
+            subst (λ x. slots_of new above.list.0 x ≡ None) (sym came.is)
+            (none q (subst (λ x. upto ≤ x) came.is past) (subst (λ x. x < to) came.is less) came.apart)
+      ]))
     ];
   }
 
@@ -432,19 +410,9 @@ inside-range out v first end q from to =
     (and_from (v == v) (nat_le first q) (eqb_same v) (le-leb first q from))
     (lt-ltb q end to))
 
--- rows that are left keep the places that their frames tell
-pub linked-part : (old new : Rows Row) (before after : Pool) → IsPartOf (slots_of old) (slots_of new) → links_of after ≡ links_of before →
-    AreLinked old before → AreLinked new after
-linked-part old new before after part links was = record {
-  linked = λ l q row tag at frame.
-      let had = part.had l q row at in
-      ap (λ f. f tag) links ∙ was.linked l q had.row tag had.at (sym had.frame ∙ frame);
-}
-
 -- What is left out is each page of the range, where the others of it show nothing.
-module _ (arena : Arena) (old : Rows Row) (slots : Slots) (before after : Pool) (v first : ℕ) (node : Node) (at : nodes_of arena v ≡ Some node) (out : ℕ → ℕ → Bool)
+module _ (arena : Arena) (slots : Slots) (after : Pool) (v first : ℕ) (node : Node) (at : nodes_of arena v ≡ Some node) (out : ℕ → ℕ → Bool)
     (exact : IsExact (tree_with (nodes_of arena) arena.lists slots) out (is_taken after)) (only : IsOnlyOf out v) (within : (q : ℕ) → out v q ≡ true → first ≤ q)
-    (shows : ShowsSame (tree_of arena old) (tree_with (nodes_of arena) arena.lists slots) out)
     (none : (q tag : ℕ) → first ≤ q → q < node.count → out v q ≡ false →
     frame_shown (tree_with (nodes_of arena) arena.lists slots) v q ≡ Some tag → ⊥) where
   abbrev t : Tree
@@ -476,39 +444,26 @@ module _ (arena : Arena) (old : Rows Row) (slots : Slots) (before after : Pool) 
     ]
   ]
 
-  in_sight-before : (w q : ℕ) → IsPage t w q → leaving_range all_in_sight v first node.count w q ≡ false → out w q ≡ false
-  in_sight-before w q page sight = elim (cases_Bool (out w q)) [
-    | inl hidden ↦
-        let same = only w q hidden in
-        let from = within q (ap (λ k. out k q) (sym same) ∙ hidden) in
-        absurd (in_sight-outside v first node.count w q sight same from (below-count q (subst (λ k. IsPage t k q) same page)))
-    | inr seen ↦ seen
-  ]
-
   pub range-exact : IsExact t (leaving_range all_in_sight v first node.count) (is_taken after)
   range-exact = exact-shown_alike t out (leaving_range all_in_sight v first node.count) (is_taken after) exact out-same
 
-  pub range-shows : ShowsSame (tree_of arena old) t (leaving_range all_in_sight v first node.count)
-  range-shows w q page sight =
-      shows w q page (in_sight-before w q (record { node = page.node; visible = page.visible; below = page.below }) sight)
-
-module _ (arena : Arena) (old new : Rows Row) (before after : Pool) (v first : ℕ) (skip : Pages) (spared : Option NodeId) (above : Node) (shift to : ℕ)
-    (was : IsPassing arena old new before after v first skip spared above shift to to)
+module _ {arena : Arena} {new : Rows Row} {after : Pool} {v first : ℕ} {skip : Pages} {spared : Option NodeId} {above : Node} {shift to : ℕ}
+    (was : IsPassing arena new after v first skip spared above shift to to)
     (top : (parent : NodeId) → above.parent ≡ Some parent → (q : ℕ) → first ≤ q → q + shift < to → q + shift < above.seen → IsOutside skip q → ⊥) where
   -- a page that came to the last node shows nothing
   shows-none : (q tag : ℕ) → first ≤ q → frame_shown (tree_of arena new) v q ≡ Some tag → CameTo (tree_of arena new) v q skip was.h above.list.0 shift to to → ⊥
   shows-none q tag from shown came =
-      let f = was.bare.leaving.exact.forest in
+      let f = was.bare.has.exact.forest in
       let inside = came-inside (tree_of arena new) f v q skip was.h above.list.0 shift to to tag shown came above was.at (came.free came.below) in
       go came.page came.is came.below inside came.apart above.parent refl
     where
       go : (page : ℕ) → page ≡ q + shift → page < to → page < above.seen → IsOutside skip q → (up : Option NodeId) → above.parent ≡ up → ⊥
       go page is less inside apart None up_is =
-          let none = was.bare.leaving.exact.forest.by.root was.h above was.at up_is in absurd (omega arith)
+          let none = was.bare.has.exact.forest.by.root was.h above was.at up_is in absurd (omega arith)
       go page is less inside apart (Some parent) up_is = top parent up_is q from (omega (arith, is)) (omega (arith, is)) apart
 
   -- at the top, and where no page goes on, those that are held alone show a frame
-  pub passing-top : IsSparing arena old new before after v first spared
+  pub passing-top : IsSparing arena new after v first spared
   passing-top = record {
     bare = was.bare;
     spares = λ q tag from below sight shown. elim (was.came q tag from below sight shown) [
@@ -518,21 +473,16 @@ module _ (arena : Arena) (old new : Rows Row) (before after : Pool) (v first : �
   }
 
 -- where none is spared, all pages of the range are left out
-pub sparing-none : (arena : Arena) (old new : Rows Row) (before after : Pool) (v first : ℕ) (node : Node) → nodes_of arena v ≡ Some node →
-    IsSparing arena old new before after v first None → HasLeftOut arena old new before after v node first
-sparing-none arena old new before after v first node at was =
-    let leaving = was.bare.leaving in
-    let same : was.bare.node ≡ node = some_same (sym was.bare.visible.at ∙ at) in
-    let none : (q tag : ℕ) → first ≤ q → q < node.count → was.bare.out v q ≡ false → frame_shown (tree_of arena new) v q ≡ Some tag → ⊥ =
+pub sparing-none : {arena : Arena} {old new : Rows Row} {before after : Pool} {v first : ℕ} {node : Node} → nodes_of arena v ≡ Some node →
+    HasLost arena old new before after v first → IsSparing arena new after v first None → HasLeftOut arena old new before after v node first
+sparing-none {arena} {old} {new} {before} {after} {v} {first} {node} at lost was =
+    let same : was.bare.has.node ≡ node = some_same (sym was.bare.has.visible.at ∙ at) in
+    let none : (q tag : ℕ) → first ≤ q → q < node.count → was.bare.has.out v q ≡ false → frame_shown (tree_of arena new) v q ≡ Some tag → ⊥ =
     λ q tag from below. was.spares q tag from (subst (λ (n : Node). q < n.count) (sym same) below) in
     record {
-      exact = range-exact arena old (slots_of new) before after v first node at was.bare.out leaving.exact leaving.only leaving.within leaving.shows none;
-      shows = range-shows arena old (slots_of new) before after v first node at was.bare.out leaving.exact leaving.only leaving.within leaving.shows none;
+      moves = lost.moves;
+      exact = range-exact arena (slots_of new) after v first node at was.bare.has.out was.bare.has.exact was.bare.has.only was.bare.within none;
       bare = λ p from. subst (λ (n : Node). slots_of new n.list.0 p ≡ None) same (was.bare.bare p from);
-      gives = leaving.gives;
-      linked = linked-part old new before after leaving.part leaving.links;
-      spare = leaving.spare;
-      count = leaving.count;
     }
 
 -- ---- the way upwards ends
@@ -566,31 +516,21 @@ no-parent up parent none is = let both = sym none ∙ is in cc
 
 -- ---- what the code asks on the way
 
-module _ (arena : Arena) (old new : Rows Row) (before after : Pool) (v first : ℕ) (skip : Pages) (spared : Option NodeId) (above : Node) (shift to upto : ℕ)
-    (was : IsPassing arena old new before after v first skip spared above shift to upto) where
-  -- the tree is exact now, with some pages of the node left out
-  pub passing-exact : IsExactFor arena new after v
-  passing-exact = record {
-    out = was.bare.out;
-    exact = was.bare.leaving.exact;
-    only = was.bare.leaving.only;
-    node = was.bare.node;
-    visible = was.bare.visible;
-  }
-
+module _ {arena : Arena} {new : Rows Row} {after : Pool} {v first : ℕ} {skip : Pages} {spared : Option NodeId} {above : Node} {shift to upto : ℕ}
+    (was : IsPassing arena new after v first skip spared above shift to upto) where
   pub passing-bare : (p : ℕ) → first ≤ p → (node : Node) → nodes_of arena v ≡ Some node → slots_of new node.list.0 p ≡ None
   passing-bare p from node at =
-      subst (λ (n : Node). slots_of new n.list.0 p ≡ None) (some_same (sym was.bare.visible.at ∙ at)) (was.bare.bare p from)
+      subst (λ (n : Node). slots_of new n.list.0 p ≡ None) (some_same (sym was.bare.has.visible.at ∙ at)) (was.bare.bare p from)
 
   pub passing-there : (parent : NodeId) → above.parent ≡ Some parent → IsSome (nodes_of arena parent.0)
   passing-there parent is =
-      ap is_some (was.bare.leaving.exact.forest.by.below parent.0 was.h above was.at is).at
+      ap is_some (was.bare.has.exact.forest.by.below parent.0 was.h above was.at is).at
 
   -- the window ends inside the parent
   pub passing-fits : (parent : NodeId) (up : Node) → above.parent ≡ Some parent → nodes_of arena parent.0 ≡ Some up →
       above.first + above.seen ≤ up.count
   passing-fits parent up is at =
-      let below = was.bare.leaving.exact.forest.by.below parent.0 was.h above was.at is in
+      let below = was.bare.has.exact.forest.by.below parent.0 was.h above was.at is in
       subst (λ (n : Node). above.first + above.seen ≤ n.count) (some_same (sym below.at ∙ at)) below.window
 
   pub passing-less : (parent : NodeId) (up : Node) → above.parent ≡ Some parent → nodes_of arena parent.0 ≡ Some up →
@@ -599,7 +539,7 @@ module _ (arena : Arena) (old new : Rows Row) (before after : Pool) (v first : �
       subst
       (λ o. nodes_up (nodes_of arena) arena.lists up.parent < nodes_up (nodes_of arena) arena.lists o)
       (sym is)
-      (up-less (nodes_of arena) arena.lists was.bare.leaving.exact.forest parent.0 up at)
+      (up-less (nodes_of arena) arena.lists was.bare.has.exact.forest parent.0 up at)
 
 -- what a caller says of the node and of its parent
 module _ (arena : Arena) (v : ℕ) (hidden : NodeId) where

@@ -1,9 +1,9 @@
 -- A range of pages of one visible node is left out of sight: frames are given back, and its own rows go, one page after another.
 -- How its pages are cut off from the rows of the nodes above is in PassingLaws.
-use Rattle.std.proofs.Common.{◌≡◌, ℕ, ◌≤◌, Bool, Option, None, Some, inl, inr, IsSome, IsSomeAnd}
+use Rattle.std.proofs.Common.{◌≡◌, ℕ, ◌<◌, ◌≤◌, Bool, true, false, Option, None, Some, inl, inr, IsSome, IsSomeAnd}
 use Rattle.std.proofs.Common.{refl, sym, ap, subst, ◌∙◌, arith}
 use Rattle.std.specs.Prelude.{◌&&◌, not, is_some}
-use Rattle.std.proofs.lemmas.Bool.{cases_eq, cases_lt, eq-eqb, ne_eqb}
+use Rattle.std.proofs.lemmas.Bool.{cases_Bool, cases_eq, cases_lt, eq-eqb, ne_eqb}
 use Rattle.balanced_tree.specs.Rows.{Rows}
 use Rattle.balanced_tree.specs.Pairs.{with_pair, IsNext}
 use Rattle.vm_base.specs.Entries.{without_key}
@@ -29,7 +29,7 @@ use Rattle.cow_split.specs.Cutting.{cut_slots, frame_left, HasCut}
 use Rattle.cow_split.proofs.RowLaws.{left_out-in_sight, left_out-other, only-more, only-none, exact-in_use_alike, exact-own_gone, own-shows, frame-in_use}
 use Rattle.cow_split.proofs.CutLaws.{exact-cut, cut-last, cut-shows}
 use Rattle.cow_split.proofs.PartLaws.{part-same, part-with_pair, part-then, part-none, part-cut}
-use Rattle.cow_merge.specs.Ranges.{GivesBack, HasGiven, HasLeftPageOut, IsLeaving, IsDropping, IsLeftBare, HasKept}
+use Rattle.cow_merge.specs.Ranges.{AreLinked, GivesBack, HasGiven, Accounts, Moves, HasLost, HasLeftPageOut, IsDropping, IsLeftBare, HasKept}
 
 -- a way stays where rows go
 module _ (t : Tree) (slots : Slots) (part : IsPartOf t.slots slots) where
@@ -66,6 +66,73 @@ gives-then before between after first second = record {
 
 pub gives-same : (pool : Pool) → GivesBack pool pool
 gives-same pool = record { frames = refl; kept = λ t. inl refl }
+
+-- rows that are left keep the places that their frames tell
+pub linked-part : (old new : Rows Row) (before after : Pool) → IsPartOf (slots_of old) (slots_of new) → links_of after ≡ links_of before →
+    AreLinked old before → AreLinked new after
+linked-part old new before after part links was = record {
+  linked = λ l q row tag at frame.
+      let had = part.had l q row at in
+      ap (λ f. f tag) links ∙ was.linked l q had.row tag had.at (sym had.frame ∙ frame);
+}
+
+-- ---- the accounts
+
+pub accounts-same : (rows : Rows Row) (pool : Pool) → Accounts rows rows pool pool
+accounts-same rows pool = record { gives = gives-same pool; linked = λ ok. ok; spare = omega arith; count = omega arith }
+
+pub accounts-then : {old mid new : Rows Row} {before between after : Pool} → Accounts old mid before between → Accounts mid new between after →
+    Accounts old new before after
+accounts-then {old} {mid} {new} {before} {between} {after} first second = record {
+  gives = gives-then before between after first.gives second.gives;
+  linked = λ ok. second.linked (first.linked ok);
+  spare = omega (arith, first.spare, second.spare);
+  count = omega (arith, first.count, second.count);
+}
+
+-- rows are gone, and perhaps a frame
+pub accounts-part : (old new : Rows Row) (before after : Pool) (frame : Option ℕ) → IsPartOf (slots_of old) (slots_of new) → HasGiven before after frame →
+    old.spare ≤ new.spare → row_count new ≤ row_count old → Accounts old new before after
+accounts-part old new before after frame part given spare count =
+    record { gives = given.gives; linked = linked-part old new before after part given.links; spare = spare; count = count }
+
+-- ---- the tree moves on
+
+-- a page is one whatever the rows are
+page-there : (arena : Arena) (old new : Rows Row) (w q : ℕ) → IsPage (tree_of arena old) w q → IsPage (tree_of arena new) w q
+page-there arena old new w q page = record { node = page.node; visible = page.visible; below = page.below }
+
+pub moves-then : {arena : Arena} {old mid new : Rows Row} {before between after : Pool} {v first : ℕ} → Moves arena old mid before between v first →
+    Moves arena mid new between after v first → Moves arena old new before after v first
+moves-then {arena} {old} {mid} {new} {before} {between} {after} {v} {first} one two = record {
+  accounts = accounts-then one.accounts two.accounts;
+  shows = λ w q page sight. two.shows w q (page-there arena old mid w q page) sight ∙ one.shows w q page sight;
+}
+
+pub lost-same : {arena : Arena} {rows : Rows Row} {pool : Pool} {v first : ℕ} → HasLost arena rows rows pool pool v first
+lost-same {arena} {rows} {pool} {v} {first} =
+    record { moves = record { accounts = accounts-same rows pool; shows = λ w q page sight. refl }; part = part-same (slots_of rows) }
+
+pub lost-then : {arena : Arena} {old mid new : Rows Row} {before between after : Pool} {v first : ℕ} → HasLost arena old mid before between v first →
+    HasLost arena mid new between after v first → HasLost arena old new before after v first
+lost-then {arena} {old} {mid} {new} {before} {between} {after} {v} {first} one two = record {
+  moves = moves-then one.moves two.moves;
+  part = part-then (slots_of old) (slots_of mid) (slots_of new) one.part two.part;
+}
+
+-- no row and no frame changes
+pub kept-same : {rows : Rows Row} {pool : Pool} → HasKept rows rows pool pool
+kept-same {rows} {pool} = record { rows = refl; taken = λ t. refl; accounts = accounts-same rows pool }
+
+pub lost-kept : {arena : Arena} {old new : Rows Row} {before after : Pool} {v first : ℕ} → HasKept old new before after →
+    HasLost arena old new before after v first
+lost-kept {arena} {old} {new} {before} {after} {v} {first} kept = record {
+  moves = record {
+    accounts = kept.accounts;
+    shows = λ w q page sight. ap (λ s. frame_shown (record (tree_of arena old) { slots = s }) w q) kept.rows;
+  };
+  part = subst (λ s. IsPartOf (slots_of old) s) (sym kept.rows) (part-same (slots_of old));
+}
 
 pub given-none : (pool : Pool) → HasGiven pool pool None
 unfolding without_frame
@@ -132,12 +199,12 @@ module _ (arena : Arena) (old new : Rows Row) (v p : ℕ) (node : Node) (visible
     shows = λ out exact only w q page in_sight.
         ap (λ s. frame_shown (record (tree_of arena old) { slots = s }) w q) has.slots
         ∙ cut-shows (tree_of arena old) out (is_taken before) exact v p only node visible none w q page in_sight;
-    part = part-cut arena old new v p answer forest node visible none has;
-    links = given.links;
-    gives = given.gives;
-    spare = has.spare;
-    count = has.count;
+    part = part;
+    accounts = accounts-part old new before after (frame_left answer) part given has.spare has.count;
   }
+    where
+      part : IsPartOf (slots_of old) (slots_of new)
+      part = part-cut arena old new v p answer forest node visible none has
 
   drop-left_out : (before after : Pool) (row : Slot) → IsForest (nodes_of arena) arena.lists → slots_of old node.list.0 p ≡ Some row →
       slots_of new ≡ with_pair (slots_of old) node.list.0 p None → HasGiven before after (frame_in row) → old.spare ≤ new.spare →
@@ -153,133 +220,128 @@ module _ (arena : Arena) (old new : Rows Row) (v p : ℕ) (node : Node) (visible
     shows = λ out exact only w q page in_sight.
         ap (λ s. frame_shown (record (tree_of arena old) { slots = s }) w q) slots
         ∙ own-shows (tree_of arena old) v p node visible forest None w q page (left_out-in_sight out v p w q in_sight).0;
-    part = subst (λ s. IsPartOf (slots_of old) s) (sym slots)
-        (part-with_pair (slots_of old) node.list.0 p None (λ row e. absurd (cc)));
-    links = given.links;
-    gives = given.gives;
-    spare = spare;
-    count = count;
+    part = part;
+    accounts = accounts-part old new before after (frame_in row) part given spare count;
   }
+    where
+      part : IsPartOf (slots_of old) (slots_of new)
+      part = subst (λ s. IsPartOf (slots_of old) s) (sym slots) (part-with_pair (slots_of old) node.list.0 p None (λ row e. absurd (cc)))
 
 -- ---- pages, one after another
 
--- a page is one whatever the rows are
-page-there : (arena : Arena) (old new : Rows Row) (w q : ℕ) → IsPage (tree_of arena old) w q → IsPage (tree_of arena new) w q
-page-there arena old new w q page = record { node = page.node; visible = page.visible; below = page.below }
+-- one page more is left out
+module _ (arena : Arena) (old new : Rows Row) (before after : Pool) (v first p : ℕ) (step : HasLeftPageOut arena old new before after v p) (from : first ≤ p)
+    (out : ℕ → ℕ → Bool) (exact : IsExact (tree_of arena old) out (is_taken before)) (only : IsOnlyOf out v) (within : (q : ℕ) → out v q ≡ true → first ≤ q) where
+  pub more-within : (q : ℕ) → leaving_out out v p v q ≡ true → first ≤ q
+  more-within q e = elim (cases_eq q p) [
+    | inl same ↦ omega arith
+    | inr apart ↦ within q (sym (left_out-other out v p v q (λ both. apart both.1)) ∙ e)
+  ]
 
-pub leaving-start : (arena : Arena) (rows : Rows Row) (pool : Pool) (v first : ℕ) → IsExact (tree_of arena rows) all_in_sight (is_taken pool) →
-    IsLeaving arena rows rows pool pool v first all_in_sight
-leaving-start arena rows pool v first exact = record {
-  exact = exact;
-  only = only-none v;
-  within = λ q e. absurd (cc);
-  shows = λ w q page e. refl;
-  part = part-same (slots_of rows);
-  links = refl;
-  gives = gives-same pool;
-  spare = omega arith;
-  count = omega arith;
-}
-
--- they are left out whenever it began
-pub leaving-again : (arena : Arena) (old new : Rows Row) (before after : Pool) (v first : ℕ) (out : ℕ → ℕ → Bool) →
-    IsLeaving arena old new before after v first out → IsLeaving arena new new after after v first out
-leaving-again arena old new before after v first out leaving = record {
-  exact = leaving.exact;
-  only = leaving.only;
-  within = leaving.within;
-  shows = λ w q page e. refl;
-  part = part-same (slots_of new);
-  links = refl;
-  gives = gives-same after;
-  spare = omega arith;
-  count = omega arith;
-}
-
--- one page more
-module _ (arena : Arena) (old mid new : Rows Row) (before between after : Pool) (v first p : ℕ) (out : ℕ → ℕ → Bool) where
-  pub leaving-more : IsLeaving arena old mid before between v first out → HasLeftPageOut arena mid new between after v p → first ≤ p →
-      IsLeaving arena old new before after v first (leaving_out out v p)
-  leaving-more leaving step from = record {
-    exact = step.exact out leaving.exact leaving.only;
-    only = only-more out v p leaving.only;
-    within = λ q e. elim (cases_eq q p) [
-      | inl same ↦ omega arith
-      | inr apart ↦ leaving.within q (sym (left_out-other out v p v q (λ both. apart both.1)) ∙ e)
-    ];
-    shows = λ w q page e.
-        step.shows out leaving.exact leaving.only w q (page-there arena old mid w q page) e
-        ∙ leaving.shows w q page (left_out-in_sight out v p w q e).1;
-    part = part-then (slots_of old) (slots_of mid) (slots_of new) leaving.part step.part;
-    links = step.links ∙ leaving.links;
-    gives = gives-then before between after leaving.gives step.gives;
-    spare = omega (arith, leaving.spare, step.spare);
-    count = omega (arith, leaving.count, step.count);
+  pub more-lost : HasLost arena old new before after v first
+  more-lost = record {
+    moves = record { accounts = step.accounts; shows = λ w q page before. step.shows out exact only w q page (sight w q before) };
+    part = step.part;
   }
+    where
+      sight : (w q : ℕ) → (w ≡ v → q < first) → leaving_out out v p w q ≡ false
+      sight w q before = elim (cases_Bool (leaving_out out v p w q)) [
+        | inl gone ↦
+            let same = only-more out v p only w q gone in
+            let late = more-within q (sym (ap (λ k. leaving_out out v p k q) same) ∙ gone) in
+            let early = before same in
+            absurd (omega arith)
+        | inr seen ↦ seen
+      ]
+
+abbrev pub bare-more : {arena : Arena} {old new : Rows Row} {before after : Pool} {v first p : ℕ} → IsLeftBare arena old before v first →
+    HasLeftPageOut arena old new before after v p → first ≤ p → IsLeftBare arena new after v first
+bare-more {arena} {old} {new} {before} {after} {v} {first} {p} was step from = record {
+  has = record {
+    out = leaving_out was.has.out v p;
+    exact = step.exact was.has.out was.has.exact was.has.only;
+    only = only-more was.has.out v p was.has.only;
+    node = was.has.node;
+    visible = was.has.visible;
+  };
+  within = more-within arena old new before after v first p step from was.has.out was.has.exact was.has.only was.within;
+  bare = λ q start. part-none (slots_of old) (slots_of new) step.part was.has.node.list.0 q (was.bare q start);
+}
 
 -- nothing has changed
-pub leaving-kept : (arena : Arena) (old mid new : Rows Row) (before between after : Pool) (v first : ℕ) (out : ℕ → ℕ → Bool) →
-    IsLeaving arena old mid before between v first out → HasKept mid new between after → IsLeaving arena old new before after v first out
-leaving-kept arena old mid new before between after v first out leaving kept = record {
-  exact = exact-in_use_alike (tree_of arena new) out (is_taken between) (is_taken after) (λ t. sym (kept.taken t))
-      (subst (λ s. IsExact (record (tree_of arena mid) { slots = s }) out (is_taken between)) (sym kept.rows) leaving.exact);
-  only = leaving.only;
-  within = leaving.within;
-  shows = λ w q page e. ap (λ s. frame_shown (record (tree_of arena mid) { slots = s }) w q) kept.rows ∙ leaving.shows w q page e;
-  part = subst (λ s. IsPartOf (slots_of old) s) (sym kept.rows) leaving.part;
-  links = kept.links ∙ leaving.links;
-  gives = gives-then before between after leaving.gives kept.gives;
-  spare = omega (arith, leaving.spare, kept.spare);
-  count = omega (arith, leaving.count, kept.count);
+abbrev pub bare-kept : {arena : Arena} {old new : Rows Row} {before after : Pool} {v first : ℕ} → IsLeftBare arena old before v first →
+    HasKept old new before after → IsLeftBare arena new after v first
+bare-kept {arena} {old} {new} {before} {after} {v} {first} was kept = record {
+  has = record {
+    out = was.has.out;
+    exact = exact-in_use_alike (tree_of arena new) was.has.out (is_taken before) (is_taken after) (λ t. sym (kept.taken t))
+        (subst (λ s. IsExact (record (tree_of arena old) { slots = s }) was.has.out (is_taken before)) (sym kept.rows) was.has.exact);
+    only = was.has.only;
+    node = was.has.node;
+    visible = was.has.visible;
+  };
+  within = was.within;
+  bare = λ p start. ap (λ s. s was.has.node.list.0 p) kept.rows ∙ was.bare p start;
 }
+
+pub bare-lost : {arena : Arena} {old new : Rows Row} {before after : Pool} {v first p : ℕ} → IsLeftBare arena old before v first →
+    HasLeftPageOut arena old new before after v p → first ≤ p → HasLost arena old new before after v first
+bare-lost {arena} {old} {new} {before} {after} {v} {first} {p} was step from =
+    more-lost arena old new before after v first p step from was.has.out was.has.exact was.has.only was.within
 
 -- ---- the own rows
 
 -- what a caller says of the node
-pub visible-of : (arena : Arena) (v : ℕ) (node : Node) → IsSomeAnd (nodes_of arena v) (λ (node : Node). IsSome node.koid) →
+pub visible-of : (arena : Arena) {v : ℕ} {node : Node} → IsSomeAnd (nodes_of arena v) (λ (node : Node). IsSome node.koid) →
     nodes_of arena v ≡ Some node → IsVisible (nodes_of arena) v node
-visible-of arena v node some at =
+visible-of arena {v} {node} some at =
     record { at = at; koid = subst (λ (o : Option Node). IsSomeAnd o (λ (node : Node). IsSome node.koid)) at some }
 
 pub dropping-start : (arena : Arena) (rows : Rows Row) (pool : Pool) (v : ℕ) (node : Node) (first : ℕ) →
-    IsExact (tree_of arena rows) all_in_sight (is_taken pool) → IsVisible (nodes_of arena) v node →
-    IsDropping arena rows rows pool pool v node first first
+    IsExact (tree_of arena rows) all_in_sight (is_taken pool) → IsVisible (nodes_of arena) v node → IsDropping arena rows pool v node first first
 dropping-start arena rows pool v node first exact visible = record {
   out = all_in_sight;
-  leaving = leaving-start arena rows pool v first exact;
+  exact = exact;
+  only = only-none v;
+  within = λ q e. absurd (cc);
   visible = visible;
   bare = λ p from to. absurd (omega arith);
 }
 
 -- the own row of one page more goes
-module _ (arena : Arena) (old mid new : Rows Row) (before between after : Pool) (v : ℕ) (node : Node) (first end page : ℕ) (row : Slot)
-    (was : IsDropping arena old mid before between v node first end) (at : slots_of mid node.list.0 page ≡ Some row) where
-  pub dropping-taken : (tag : ℕ) → frame_in row ≡ Some tag → IsSome (taken_frames between tag)
-  dropping-taken tag frame = was.leaving.exact.used node.list.0 page row tag at frame
+module _ (arena : Arena) (old new : Rows Row) (before after : Pool) (v : ℕ) (node : Node) (first end page : ℕ) (row : Slot)
+    (was : IsDropping arena old before v node first end) (at : slots_of old node.list.0 page ≡ Some row) where
+  pub dropping-taken : (tag : ℕ) → frame_in row ≡ Some tag → IsSome (taken_frames before tag)
+  dropping-taken tag frame = was.exact.used node.list.0 page row tag at frame
 
-  pub dropping-more : first ≤ end → IsNext (slots_of mid node.list.0) end (Some page) →
-      slots_of new ≡ with_pair (slots_of mid) node.list.0 page None → HasGiven between after (frame_in row) → mid.spare ≤ new.spare →
-      row_count new ≤ row_count mid → IsDropping arena old new before after v node first page
-  dropping-more from next slots given spare count =
-      let least = next.least page refl in
-      let step = drop-left_out arena mid new v page node was.visible between after row was.leaving.exact.forest at slots given spare count in
-      record {
-        out = leaving_out was.out v page;
-        leaving = leaving-more arena old mid new before between after v first page was.out was.leaving step (omega (arith, least.0));
-        visible = was.visible;
-        bare = λ p start to. part-none (slots_of mid) (slots_of new) step.part node.list.0 p (elim (cases_lt p end) [
-          | inl before ↦ was.bare p start before
-          | inr past ↦ least.2 p past to
-        ]);
-      }
+  module _ (from : first ≤ end) (next : IsNext (slots_of old node.list.0) end (Some page)) (slots : slots_of new ≡ with_pair (slots_of old) node.list.0 page None)
+      (given : HasGiven before after (frame_in row)) (spare : old.spare ≤ new.spare) (count : row_count new ≤ row_count old) where
+    step : HasLeftPageOut arena old new before after v page
+    step = drop-left_out arena old new v page node was.visible before after row was.exact.forest at slots given spare count
 
-pub dropping-end : (arena : Arena) (old new : Rows Row) (before after : Pool) (v : ℕ) (node : Node) (first end : ℕ) →
-    IsDropping arena old new before after v node first end → first ≤ end → IsNext (slots_of new node.list.0) end None →
-    IsLeftBare arena old new before after v first
-dropping-end arena old new before after v node first end was from next = record {
-  out = was.out;
-  leaving = was.leaving;
-  node = node;
-  visible = was.visible;
+    past : first ≤ page
+    past = let least = next.least page refl in omega (arith, least.0)
+
+    pub dropping-more : IsDropping arena new after v node first page
+    dropping-more = record {
+      out = leaving_out was.out v page;
+      exact = step.exact was.out was.exact was.only;
+      only = only-more was.out v page was.only;
+      within = more-within arena old new before after v first page step past was.out was.exact was.only was.within;
+      visible = was.visible;
+      bare = λ p start to. part-none (slots_of old) (slots_of new) step.part node.list.0 p (elim (cases_lt p end) [
+        | inl before ↦ was.bare p start before
+        | inr past ↦ (next.least page refl).2 p past to
+      ]);
+    }
+
+    pub dropping-lost : HasLost arena old new before after v first
+    dropping-lost = more-lost arena old new before after v first page step past was.out was.exact was.only was.within
+
+pub dropping-end : (arena : Arena) (rows : Rows Row) (pool : Pool) (v : ℕ) (node : Node) (first end : ℕ) →
+    IsDropping arena rows pool v node first end → first ≤ end → IsNext (slots_of rows node.list.0) end None → IsLeftBare arena rows pool v first
+dropping-end arena rows pool v node first end was from next = record {
+  has = record { out = was.out; exact = was.exact; only = was.only; node = node; visible = was.visible };
+  within = was.within;
   bare = λ p start. elim (cases_lt p end) [ inl before ↦ was.bare p start before | inr past ↦ next.none refl p past ];
 }

@@ -20,9 +20,9 @@ use Rattle.cow_arena.specs.Ways.{IsPartOf}
 use Rattle.cow_split.specs.Trees.{tree_of}
 use Rattle.cow_split.specs.Sight.{IsPage}
 use Rattle.cow_split.specs.Exact.{IsExact, all_in_sight}
-use Rattle.cow_merge.specs.Ranges.{leaving_range, HasLeftOut}
+use Rattle.cow_merge.specs.Ranges.{HasLeftOut}
 use Rattle.cow_merge.specs.Merging.{with_count, IsNarrowed, HasShrunk}
-use Rattle.cow_merge.proofs.CountLaws.{outside-other, outside-before, narrowed-page, narrowed-shows, exact-narrowed}
+use Rattle.cow_merge.proofs.CountLaws.{narrowed-page, narrowed-shows, exact-narrowed}
 
 -- the tree of other nodes
 pub tree-now : (old new : Arena) (rows : Rows Row) (nodes : Nodes) → nodes_of new ≡ nodes → new.lists ≡ old.lists →
@@ -154,20 +154,10 @@ module _ (arena between new : Arena) (v count : ℕ) (node : Node) (visible : Is
         shows = subst (λ (u : Tree). (w q : ℕ) → IsPage u w q → frame_shown u w q ≡ frame_shown (tree_of arena rows) w q) (sym now)
             (λ w q page.
             let was = narrowed-page t v count node visible few g w q page in
-            narrowed-shows t v count node visible few g left.exact.forest w q page ∙ left.shows w q (rows-page w q was.0) (sight w q was.1));
-        pool = left.gives;
-        linked = left.linked;
-        spare = left.spare;
-        fewer = left.count;
+            narrowed-shows t v count node visible few g left.exact.forest w q page ∙ left.moves.shows w q (rows-page w q was.0) was.1);
+        accounts = left.moves.accounts;
         part = part;
       }
     where
       rows-page : (w q : ℕ) → IsPage (tree_of arena late) w q → IsPage (tree_of arena rows) w q
       rows-page w q page = record { node = page.node; visible = page.visible; below = page.below }
-
-      sight : (w q : ℕ) → (w ≡ v → q < count) → leaving_range all_in_sight v count node.count w q ≡ false
-      sight w q before = elim (cases_eq w v) [
-        | inl same ↦
-            subst (λ k. leaving_range all_in_sight v count node.count k q ≡ false) (sym same) (outside-before v count node.count v q (before same))
-        | inr apart ↦ outside-other v count node.count w q apart
-      ]

@@ -129,9 +129,6 @@ module _ (old new : Tree) (k : ℕ) (without : IsWithout old new k) where
       let there = kept-page new old w p page back in
       (was.2, there, without.walks w p there.node there.visible was.2)
 
-  pub without-shows : (w p : ℕ) → IsPage old w p → w ≢ k → frame_shown new w p ≡ frame_shown old w p
-  without-shows w p page apart = ap frame_found (without.walks w p page.node page.visible apart)
-
   pub without-showed : (w p : ℕ) → IsPage new w p → frame_shown new w p ≡ frame_shown old w p
   without-showed w p page = ap frame_found (without-page w p page).2
 
@@ -212,10 +209,6 @@ module _ (t : Tree) (f : IsForest t.nodes t.lists) (k h s : ℕ) (leaf parent si
   exact-spliced out in_use bare exact only all = exact-without t (spliced t.nodes k h s parent sibling) k spliced-without out in_use exact g
       (spliced-listed t f k h s leaf parent sibling family visible empty g bare exact.listed) only all
 
-  -- each page of another VMO shows what it showed
-  pub spliced-shows : (w p : ℕ) → IsPage t w p → w ≢ k → frame_shown (record t { nodes = spliced t.nodes k h s parent sibling }) w p ≡ frame_shown t w p
-  spliced-shows = without-shows t (record t { nodes = spliced t.nodes k h s parent sibling }) k spliced-without
-
 -- ---- a root goes
 
 module _ (t : Tree) (f : IsForest t.nodes t.lists) (k : ℕ) (leaf : Node) (visible : IsVisible t.nodes k leaf) (g : IsForest (without_key t.nodes k) t.lists) where
@@ -236,7 +229,3 @@ module _ (t : Tree) (f : IsForest t.nodes t.lists) (k : ℕ) (leaf : Node) (visi
       IsOnlyOf out k → IsAllOut t out k → IsExact (record t { nodes = without_key t.nodes k }) all_in_sight in_use
   exact-removed_root out in_use bare exact only all = exact-without t (without_key t.nodes k) k removed_root-without out in_use exact g
       (removed-listed t f k leaf visible g bare exact.listed) only all
-
-  -- each page of another VMO shows what it showed
-  pub removed_root-shows : (w p : ℕ) → IsPage t w p → w ≢ k → frame_shown (record t { nodes = without_key t.nodes k }) w p ≡ frame_shown t w p
-  removed_root-shows = without-shows t (record t { nodes = without_key t.nodes k }) k removed_root-without

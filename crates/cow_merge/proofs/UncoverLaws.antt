@@ -28,15 +28,14 @@ use Rattle.cow_split.specs.Sight.{IsPage, IsSeenFrom}
 use Rattle.cow_split.specs.Exact.{AreSplitBits, IsExact, all_in_sight, leaving_out, without_frame}
 use Rattle.cow_split.proofs.ExactLaws.{cases_place, FollowFrame, with_row-changes, frame-stays, exact-changed}
 use Rattle.cow_split.proofs.NodeLaws.{stays-page}
-use Rattle.cow_split.proofs.PartLaws.{part-same, part-with_pair, part-then}
+use Rattle.cow_split.proofs.PartLaws.{part-with_pair, part-then}
 use Rattle.cow_split.proofs.RowLaws.{left_out-other, exact-in_use_alike, own-walks, own-shows, exact-own_gone}
 use Rattle.frame_pool.specs.Pool.{Pool, taken_frames, is_taken}
-use Rattle.cow_merge.specs.Ranges.{bit_on, IsHeldBy}
+use Rattle.cow_merge.specs.Ranges.{bit_on, IsHeldBy, HasLost}
 use Rattle.cow_merge.specs.Merging.{HasClosed}
 use Rattle.cow_merge.specs.inside.Lifting.{IsFamilyOf}
 use Rattle.cow_merge.specs.inside.Uncovering.{without_bits, IsRowUncovered, IsUncovered, IsUncovering}
-use Rattle.cow_merge.proofs.RangeLaws.{gives-then, gives-same}
-use Rattle.cow_merge.proofs.PassingLaws.{linked-part}
+use Rattle.cow_merge.proofs.RangeLaws.{accounts-then, accounts-part, lost-same}
 use Rattle.cow_merge.proofs.LiftedLaws.{one-bit, denies-on, family-lists}
 
 -- ---- one row
@@ -256,48 +255,36 @@ module _ (t : Tree) (in_use : ℕ → Bool) (exact : IsExact t all_in_sight in_u
 
 -- it begins where nothing has changed
 pub uncovered-start : (arena : Arena) (rows : Rows Row) (pool : Pool) (k h : ℕ) (node : Node) → IsVisible (nodes_of arena) k node → node.parent ≡ link_to h →
-    IsExact (tree_of arena rows) all_in_sight (is_taken pool) → IsUncovering arena rows rows pool pool k h 0
+    IsExact (tree_of arena rows) all_in_sight (is_taken pool) → IsUncovering arena rows pool k h 0
 uncovered-start arena rows pool k h node visible up exact = record {
   node = node;
   visible = visible;
   up = up;
   exact = exact;
-  shows = λ w p differs page. refl;
   free = λ p less. absurd (omega arith);
-  part = part-same (slots_of rows);
-  links = refl;
-  gives = gives-same pool;
-  spare = omega arith;
-  count = omega arith;
 }
 
 -- pages without own rows cover nothing
-pub uncovered-more : (arena : Arena) (old new : Rows Row) (before after : Pool) (k h from end : ℕ) (leaf : Node) → nodes_of arena k ≡ Some leaf →
-    IsUncovering arena old new before after k h from →
+pub uncovered-more : {arena : Arena} {new : Rows Row} {after : Pool} {k h from : ℕ} (end : ℕ) (leaf : Node) → nodes_of arena k ≡ Some leaf →
+    IsUncovering arena new after k h from →
     ((p : ℕ) → from ≤ p → p < end → IsHeldBy (nodes_of arena) (slots_of new) h leaf p → slots_of new leaf.list.0 p ≡ None) →
-    IsUncovering arena old new before after k h end
-uncovered-more arena old new before after k h from end leaf at was none =
+    IsUncovering arena new after k h end
+uncovered-more {arena} {new} {after} {k} {h} {from} end leaf at was none =
     let one : leaf ≡ was.node = some_same (sym at ∙ was.visible.at) in
     record {
       node = was.node;
       visible = was.visible;
       up = was.up;
       exact = was.exact;
-      shows = was.shows;
       free = λ p less held. elim (cases_lt p from) [
         | inl before ↦ was.free p before held
         | inr past ↦ subst (λ (n : Node). slots_of new n.list.0 p ≡ None) one
             (none p past less (subst (λ (n : Node). IsHeldBy (nodes_of arena) (slots_of new) h n p) (sym one) held))
       ];
-      part = was.part;
-      links = was.links;
-      gives = was.gives;
-      spare = was.spare;
-      count = was.count;
     }
 
 -- the next own row was looked at
-module _ (arena : Arena) (old first new : Rows Row) (before between after : Pool) (k h from p : ℕ) (was : IsUncovering arena old first before between k h from)
+module _ {arena : Arena} {first : Rows Row} (new : Rows Row) {between : Pool} (after : Pool) {k h from p : ℕ} (was : IsUncovering arena first between k h from)
     (leaf parent : Node) (leaf_at : nodes_of arena k ≡ Some leaf) (parent_at : nodes_of arena h ≡ Some parent)
     (next : IsNext (slots_of first leaf.list.0) from (Some p)) (inside : p < leaf.seen) where
   abbrev q : ℕ
@@ -342,7 +329,7 @@ module _ (arena : Arena) (old first new : Rows Row) (before between after : Pool
       ]
     ]
 
-    uncovered-row : IsUncovering arena old new before after k h (p + 1)
+    uncovered-row : IsUncovering arena new after k h (p + 1)
     uncovered-row = record {
       node = leaf;
       visible = shown;
@@ -351,27 +338,32 @@ module _ (arena : Arena) (old first new : Rows Row) (before between after : Pool
           (exact-in_use_alike (record t_first { slots = slots }) all_in_sight (without_frame (is_taken between) (frame_in it.own)) (is_taken after)
           (λ x. sym (it.given.taken x))
           (uncovered-exact t_first (is_taken between) was.exact k h p q leaf parent shown link parent_at inside refl it.own it.row it.own_at it.row_at));
-      shows = λ w x differs page.
-          ap (λ (s : Slots). frame_shown (record t_first { slots = s }) w x) it.slots
-          ∙ (uncovered-shows t_first (is_taken between) was.exact k h p q leaf parent shown link parent_at inside refl it.own it.row it.own_at it.row_at w x differs
-          (record { node = page.node; visible = page.visible; below = page.below })
-          ∙ was.shows w x differs page);
       free = free-now;
-      part = part-then (slots_of old) (slots_of first) (slots_of new) was.part (subst (λ (s : Slots). IsPartOf (slots_of first) s) (sym it.slots)
-          (uncovered-part t_first (is_taken between) was.exact k h p q leaf parent shown link parent_at inside refl it.own it.row it.own_at it.row_at));
-      links = it.given.links ∙ was.links;
-      gives = gives-then before between after was.gives it.given.gives;
-      spare = omega (arith, was.spare, it.spare);
-      count = omega (arith, was.count, it.count);
     }
 
-  pub uncovered-next : IsUncovered first new between after leaf.list.0 p parent.list.0 q → IsUncovering arena old new before after k h (p + 1)
+    part : IsPartOf (slots_of first) (slots_of new)
+    part = subst (λ (s : Slots). IsPartOf (slots_of first) s) (sym it.slots)
+        (uncovered-part t_first (is_taken between) was.exact k h p q leaf parent shown link parent_at inside refl it.own it.row it.own_at it.row_at)
+
+    row-lost : HasLost arena first new between after k 0
+    row-lost = record {
+      moves = record {
+        accounts = accounts-part first new between after (frame_in it.own) part it.given (omega (arith, it.spare)) (omega (arith, it.count));
+        shows = λ w x page before.
+            ap (λ (s : Slots). frame_shown (record t_first { slots = s }) w x) it.slots
+            ∙ uncovered-shows t_first (is_taken between) was.exact k h p q leaf parent shown link parent_at inside refl it.own it.row it.own_at it.row_at w x
+            (λ same. absurd (let early = before same in omega arith)) page;
+      };
+      part = part;
+    }
+
+  pub uncovered-next : IsUncovered first new between after leaf.list.0 p parent.list.0 q → IsUncovering arena new after k h (p + 1)
   uncovered-next done = elim done [
     | inr it ↦ uncovered-row it
     | inl nothing ↦
-        subst (λ (r : Rows Row). IsUncovering arena old r before after k h (p + 1)) (sym nothing.rows)
-        (subst (λ (x : Pool). IsUncovering arena old first before x k h (p + 1)) (sym nothing.pool)
-        (uncovered-more arena old first before between k h from (p + 1) leaf leaf_at was (λ r past below held.
+        subst (λ (r : Rows Row). IsUncovering arena r after k h (p + 1)) (sym nothing.rows)
+        (subst (λ (x : Pool). IsUncovering arena first x k h (p + 1)) (sym nothing.pool)
+        (uncovered-more (p + 1) leaf leaf_at was (λ r past below held.
         elim (cases_eq r p) [
           | inl same ↦
               let above : held.above ≡ parent = some_same (sym held.at ∙ parent_at) in
@@ -381,6 +373,14 @@ module _ (arena : Arena) (old first new : Rows Row) (before between after : Pool
               absurd (let none = ap is_some nothing.none in cc)
           | inr apart ↦ (next.least p refl).2 r past (omega arith)
         ])))
+  ]
+
+  pub uncovered-lost : IsUncovered first new between after leaf.list.0 p parent.list.0 q → HasLost arena first new between after k 0
+  uncovered-lost done = elim done [
+    | inr it ↦ row-lost it
+    | inl nothing ↦
+        subst (λ (r : Rows Row). HasLost arena first r between after k 0) (sym nothing.rows)
+        (subst (λ (x : Pool). HasLost arena first first between x k 0) (sym nothing.pool) lost-same)
   ]
 
 -- ---- what the code asks on the way
@@ -398,9 +398,9 @@ uncover-ready arena k hidden node some at =
     (record { at = at; koid = it.0 }, it.1)
 
 -- the frame of an own row is taken
-pub uncover-taken : (arena : Arena) (old new : Rows Row) (before after : Pool) (k h from p : ℕ) → IsUncovering arena old new before after k h from → (l : ℕ) (own : Slot) (tag : ℕ) →
+pub uncover-taken : {arena : Arena} {new : Rows Row} {after : Pool} {k h from : ℕ} (p : ℕ) → IsUncovering arena new after k h from → (l : ℕ) (own : Slot) (tag : ℕ) →
     slots_of new l p ≡ Some own → frame_in own ≡ Some tag → IsSome (taken_frames after tag)
-uncover-taken arena old new before after k h from p was l own tag at frame = was.exact.used l p own tag at frame
+uncover-taken {arena} {new} {after} {k} {h} {from} p was l own tag at frame = was.exact.used l p own tag at frame
 
 -- the lists of the node and of its parent are two
 pub uncover-lists : (arena : Arena) (f : IsForest (nodes_of arena) arena.lists) (k h : ℕ) (leaf parent : Node) → IsVisible (nodes_of arena) k leaf →
@@ -429,9 +429,9 @@ two-lists arena k h s f of parent child parent_at child_at same =
 
 -- ---- a VMO is closed that was uncovered before
 
-pub closed-then : (arena new : Arena) (old rows late : Rows Row) (before between after : Pool) (k h end : ℕ) →
-    IsUncovering arena old rows before between k h end → HasClosed arena new rows late between after k → HasClosed arena new old late before after k
-closed-then arena new old rows late before between after k h end was c = record {
+pub closed-then : {arena new : Arena} {old rows late : Rows Row} {before between after : Pool} {k : ℕ} →
+    HasLost arena old rows before between k 0 → HasClosed arena new rows late between after k → HasClosed arena new old late before after k
+closed-then {arena} {new} {old} {rows} {late} {before} {between} {after} {k} lost c = record {
   exact = c.exact;
   gone = c.gone;
   stays = c.stays;
@@ -444,10 +444,7 @@ closed-then arena new old rows late before between after k h end was c = record 
   visible = c.visible;
   shows = λ w q page.
       c.shows w q page
-      ∙ was.shows w q (λ same. let none = ap (nodes_of new) same ∙ c.gone in let there = page.visible.at in absurd (cc))
-      (stays-page (tree_of new late) (tree_of arena old) w q page (c.no_more w page.node page.visible));
-  pool = gives-then before between after was.gives c.pool;
-  linked = λ ok. c.linked (linked-part old rows before between was.part was.links ok);
-  spare = omega (arith, was.spare, c.spare);
-  fewer = omega (arith, was.count, c.fewer);
+      ∙ lost.moves.shows w q (stays-page (tree_of new late) (tree_of arena old) w q page (c.no_more w page.node page.visible))
+      (λ same. absurd (let none = ap (nodes_of new) same ∙ c.gone in let there = page.visible.at in cc));
+  accounts = accounts-then lost.moves.accounts c.accounts;
 }

@@ -81,74 +81,74 @@ other-apart : (own s : Side) → s ≡ other_side own → s ≢ own
 other-apart side.Left s is same = absurd (let both = sym is ∙ same in cc)
 other-apart side.Right s is same = absurd (let both = sym is ∙ same in cc)
 
-module _ (arena : Arena) (old new : Rows Row) (before after : Pool) (v first : ℕ) (spared : Option NodeId) (h : ℕ) (above : Node) (base to : ℕ)
-    (s : Side) (way : Way) (was : IsBeside arena old new before after v first spared h above base to s way way.to)
-    (koid : IsSome was.node.koid) (up : was.bare.node.parent ≡ link_to h)
-    (base_is : base ≡ was.bare.node.first) (s_is : s ≡ other_side (side_of above v)) (from end : ℕ) (from_is : from + base ≡ way.from + way.shift)
+module _ {arena : Arena} {new : Rows Row} {after : Pool} {v first : ℕ} {spared : Option NodeId} {h : ℕ} {above : Node} {base to : ℕ}
+    {s : Side} {way : Way} (was : IsBeside arena new after v first spared h above base to s way way.to)
+    (koid : IsSome was.place.node.koid) (up : was.bare.has.node.parent ≡ link_to h)
+    (base_is : base ≡ was.bare.has.node.first) (s_is : s ≡ other_side (side_of above v)) (from end : ℕ) (from_is : from + base ≡ way.from + way.shift)
     (end_is : end + base ≡ way.to + way.shift) (some : way.from < way.to) where
   abbrev t : Tree
   t = tree_of arena new
 
   f : IsForest (nodes_of arena) arena.lists
-  f = was.bare.leaving.exact.forest
+  f = was.bare.has.exact.forest
 
   abbrev page_at : ℕ → Option Slot
   page_at q = slots_of new above.list.0 (q + base)
 
   abbrev now : ℕ → ℕ → Bool
-  now = shared was.bare.out v (is_shared from end page_at)
+  now = shared was.bare.has.out v (is_shared from end page_at)
 
   -- a page that goes out of sight, and what comes there from the witness
   climbs-there : (x tag : ℕ) → first ≤ x → frame_shown t v x ≡ Some tag → Climbs t v x h (x + base)
   climbs-there x tag start shown = record {
-    node = was.bare.node;
-    at = was.bare.visible.at;
+    node = was.bare.has.node;
+    at = was.bare.has.visible.at;
     free = was.bare.bare x start;
-    inside = bare-inside arena new f v x tag was.bare.node was.bare.visible.at (was.bare.bare x start) shown;
+    inside = bare-inside arena new f v x tag was.bare.has.node was.bare.has.visible.at (was.bare.bare x start) shown;
     parent = up;
     page = omega arith;
   }
 
-  not-spared : (o : Option NodeId) → IsParent o was.bare.node → (x : ℕ) → page_at x ≡ None → IsSpared (nodes_of arena) (slots_of new) o was.bare.node x → ⊥
+  not-spared : (o : Option NodeId) → IsParent o was.bare.has.node → (x : ℕ) → page_at x ≡ None → IsSpared (nodes_of arena) (slots_of new) o was.bare.has.node x → ⊥
   not-spared None parent x none held = held
   not-spared (Some at) parent x none held =
       let one : at.0 ≡ h = link_same (sym (parent at refl) ∙ up) in
       let same : held.above ≡ above = some_same (sym held.at ∙ (ap (nodes_of arena) one ∙ was.at)) in
-      let place : was.bare.node.first + x ≡ x + base = omega arith in
+      let place : was.bare.has.node.first + x ≡ x + base = omega arith in
       let row : is_some (page_at x) ≡ true =
-      ap is_some (ap (slots_of new above.list.0) (sym place) ∙ ap (λ (n : Node). slots_of new n.list.0 (was.bare.node.first + x)) (sym same)) ∙ held.row in
+      ap is_some (ap (slots_of new above.list.0) (sym place) ∙ ap (λ (n : Node). slots_of new n.list.0 (was.bare.has.node.first + x)) (sym same)) ∙ held.row in
       let bare = ap is_some none in
       absurd (cc)
 
   -- the witness is another VMO's node
   witness-apart : (x p tag : ℕ) → first ≤ x → frame_shown t v x ≡ Some tag → Reaches t way.at.0 p s h (x + base) → way.at.0 ≢ v
   witness-apart x p tag start shown there same =
-      let own = side-is (nodes_of arena) arena.lists f h v above was.bare.node was.at was.bare.visible.at up in
+      let own = side-is (nodes_of arena) arena.lists f h v above was.bare.has.node was.at was.bare.has.visible.at up in
       let mine = reach-one t v x (side_of above v) h (x + base) (climbs-there x tag start shown) own in
       other-apart (side_of above v) s s_is
       (reach-apart t f v p s h (x + base) x (side_of above v) (x + base) (subst (λ k. Reaches t k p s h (x + base)) same there) mine).1
 
   -- a row that it saw is seen by the witness
-  seen-beside : (x : ℕ) (side : Side) (g r : ℕ) (node : Node) (tag : Tag) (left right : Bool) → was.bare.out v x ≡ false → is_shared from end page_at x ≡ true →
+  seen-beside : (x : ℕ) (side : Side) (g r : ℕ) (node : Node) (tag : Tag) (left right : Bool) → was.bare.has.out v x ≡ false → is_shared from end page_at x ≡ true →
       nodes_of arena g ≡ Some node → slots_of new node.list.0 r ≡ Some (slot.Frame tag left right) → Sees t v x (Some side) g r → IsSeenFrom t now side g r
   seen-beside x side g r node tag left right sight test at row sees =
       let parts = shared-test from end page_at x test in
-      let first_is = was.within.low way.from (omega arith) some in
+      let first_is = was.place.within.low way.from (omega arith) some in
       let start : first ≤ x = omega (arith, parts.0) in
       let ends = walk-ends t f v x _ sees.found in
       let one : ends.row.node ≡ node = some_same (sym ends.row.at ∙ at) in
       let slot_is : sees.slot ≡ slot.Frame tag left right = some_same (sym (subst (λ (n : Node). slots_of new n.list.0 r ≡ Some sees.slot) one ends.row.row) ∙ row) in
       let shown : frame_shown t v x ≡ Some tag.0 = ap frame_found sees.found ∙ ap frame_in slot_is in
-      let count : x < was.bare.node.count = subst (λ (n : Node). x < n.count) (some_same (sym sees.page.visible.at ∙ was.bare.visible.at)) sees.page.below in
+      let count : x < was.bare.has.node.count = subst (λ (n : Node). x < n.count) (some_same (sym sees.page.visible.at ∙ was.bare.has.visible.at)) sees.page.below in
       elim (was.came x tag.0 start count sight shown) [
         | inl held ↦ absurd (not-spared spared was.parent x parts.2 held)
         | inr it ↦
             let p = x + base - way.shift in
-            let high = was.within.high way.from (omega arith) some in
+            let high = was.place.within.high way.from (omega arith) some in
             let is : x + base ≡ p + way.shift = omega (arith, parts.0) in
             let low : way.from ≤ p = omega (arith, parts.0) in
             let less : p < way.to = omega (arith, parts.1) in
-            let there = goes-up arena old new before after v first spared h above base to s way was x p it is low less in
+            let there = goes-up was x p it is low less in
             let apart = witness-apart x p tag.0 start shown there in
             let reach = beside-way t f v x h (x + base) above was.at parts.2 (climbs-there x tag.0 start shown) way.at.0 p s side g r
             (slot.Frame tag left right) there ends.way (record { node = node; at = at; row = row }) in
@@ -157,70 +157,58 @@ module _ (arena : Arena) (old new : Rows Row) (before after : Pool) (v first : �
               p = p;
               sees = record {
                 page = record {
-                  node = was.node;
-                  visible = record { at = was.node_at; koid = koid };
-                  below = let most = f.by.seen way.at.0 was.node was.node_at in let inside = was.within.inside p low less in omega arith;
+                  node = was.place.node;
+                  visible = record { at = was.place.node_at; koid = koid };
+                  below = let most = f.by.seen way.at.0 was.place.node was.place.node_at in let inside = was.place.within.inside p low less in omega arith;
                 };
                 slot = slot.Frame tag left right;
                 found = found-of-reach t f way.at.0 p side g r node (slot.Frame tag left right) reach at row;
               };
-              in_sight = shared-other was.bare.out v (is_shared from end page_at) way.at.0 p apart ∙ other-sight p apart;
+              in_sight = shared-other was.bare.has.out v (is_shared from end page_at) way.at.0 p apart ∙ other-sight p apart;
             }
       ]
     where
-      other-sight : (p : ℕ) → way.at.0 ≢ v → was.bare.out way.at.0 p ≡ false
-      other-sight p apart = elim (cases_Bool (was.bare.out way.at.0 p)) [
-        | inl gone ↦ absurd (apart (was.bare.leaving.only way.at.0 p gone))
+      other-sight : (p : ℕ) → way.at.0 ≢ v → was.bare.has.out way.at.0 p ≡ false
+      other-sight p apart = elim (cases_Bool (was.bare.has.out way.at.0 p)) [
+        | inl gone ↦ absurd (apart (was.bare.has.only way.at.0 p gone))
         | inr sight ↦ sight
       ]
 
   now-only : IsOnlyOf now v
-  now-only w q gone = elim (cases_Bool (was.bare.out w q)) [
-    | inl out ↦ was.bare.leaving.only w q out
-    | inr sight ↦ (shared-parts was.bare.out v (is_shared from end page_at) w q gone sight).0
+  now-only w q gone = elim (cases_Bool (was.bare.has.out w q)) [
+    | inl out ↦ was.bare.has.only w q out
+    | inr sight ↦ (shared-parts was.bare.has.out v (is_shared from end page_at) w q gone sight).0
   ]
 
   now-within : (q : ℕ) → now v q ≡ true → first ≤ q
-  now-within q gone = elim (cases_Bool (was.bare.out v q)) [
-    | inl out ↦ was.bare.leaving.within q out
+  now-within q gone = elim (cases_Bool (was.bare.has.out v q)) [
+    | inl out ↦ was.bare.within q out
     | inr sight ↦
-        let parts = shared-test from end page_at q (shared-parts was.bare.out v (is_shared from end page_at) v q gone sight).1 in
-        let low = was.within.low way.from (omega arith) some in
+        let parts = shared-test from end page_at q (shared-parts was.bare.has.out v (is_shared from end page_at) v q gone sight).1 in
+        let low = was.place.within.low way.from (omega arith) some in
         omega (arith, parts.0)
   ]
 
   now-exact : IsExact t now (is_taken after)
-  now-exact = exact-shared t was.bare.out now (is_taken after) was.bare.leaving.exact
-      (λ w q gone. shared-more was.bare.out v (is_shared from end page_at) w q gone)
+  now-exact = exact-shared t was.bare.has.out now (is_taken after) was.bare.has.exact
+      (λ w q gone. shared-more was.bare.has.out v (is_shared from end page_at) w q gone)
       (λ w x side g r node tag left right sight gone at row sees.
-      let parts = shared-parts was.bare.out v (is_shared from end page_at) w x gone sight in
-      seen-beside x side g r node tag left right (ap (λ k. was.bare.out k x) (sym parts.0) ∙ sight) parts.1 at row
+      let parts = shared-parts was.bare.has.out v (is_shared from end page_at) w x gone sight in
+      seen-beside x side g r node tag left right (ap (λ k. was.bare.has.out k x) (sym parts.0) ∙ sight) parts.1 at row
       (subst (λ k. Sees t k x (Some side) g r) parts.0 sees))
 
   -- the pages that come to the witness are out of sight
-  pub beside-witness : IsPassing arena old new before after v first (record { from = from; to = end }) spared above base to to
+  pub beside-witness : IsPassing arena new after v first (record { from = from; to = end }) spared above base to to
   beside-witness = record {
     bare = record {
-      out = now;
-      leaving = record {
-        exact = now-exact;
-        only = now-only;
-        within = now-within;
-        shows = λ w q page sight. was.bare.leaving.shows w q page (shared-sight was.bare.out v (is_shared from end page_at) w q sight);
-        part = was.bare.leaving.part;
-        links = was.bare.leaving.links;
-        gives = was.bare.leaving.gives;
-        spare = was.bare.leaving.spare;
-        count = was.bare.leaving.count;
-      };
-      node = was.bare.node;
-      visible = was.bare.visible;
+      has = record { out = now; exact = now-exact; only = now-only; node = was.bare.has.node; visible = was.bare.has.visible };
+      within = now-within;
       bare = was.bare.bare;
     };
     parent = was.parent;
     h = h;
     at = was.at;
-    came = λ q tag start less sight shown. elim (was.came q tag start less (shared-sight was.bare.out v (is_shared from end page_at) v q sight) shown) [
+    came = λ q tag start less sight shown. elim (was.came q tag start less (shared-sight was.bare.has.out v (is_shared from end page_at) v q sight) shown) [
       | inl held ↦ inl held
       | inr it ↦ inr (record {
         side = it.came.side;
@@ -238,7 +226,7 @@ module _ (arena : Arena) (old new : Rows Row) (before after : Pool) (v first : �
       outside q sight bare = elim (cases_lt q from) [
         | inl before ↦ inl before
         | inr past ↦ elim (cases_lt q end) [
-          | inl inside ↦ absurd (let gone = shared-here was.bare.out v (is_shared from end page_at) q (test-shared from end page_at q past inside bare) in cc)
+          | inl inside ↦ absurd (let gone = shared-here was.bare.has.out v (is_shared from end page_at) q (test-shared from end page_at q past inside bare) in cc)
           | inr behind ↦ inr behind
         ]
       ]

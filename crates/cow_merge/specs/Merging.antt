@@ -2,7 +2,7 @@
 use Rattle.std.specs.Prelude.{◌≡◌, ◌≢◌, ◌⊎◌, ℕ, ◌≤◌, suc, min, None, Some, IsSome}
 use Rattle.balanced_tree.specs.Rows.{Rows}
 use Rattle.page_list.specs.declared.row.Row.{Row}
-use Rattle.page_list.specs.Lists.{row_count, slots_of}
+use Rattle.page_list.specs.Lists.{slots_of}
 use Rattle.vm_base.specs.Entries.{with_key}
 use Rattle.frame_pool.specs.Pool.{Pool, is_taken}
 use Rattle.cow_arena.specs.declared.node.Node.{Node}
@@ -15,7 +15,7 @@ use Rattle.cow_arena.specs.Ways.{IsPartOf}
 use Rattle.cow_split.specs.Trees.{tree_of}
 use Rattle.cow_split.specs.Sight.{IsPage, StaysVisible}
 use Rattle.cow_split.specs.Exact.{IsExact, all_in_sight}
-use Rattle.cow_merge.specs.Ranges.{GivesBack, AreLinked}
+use Rattle.cow_merge.specs.Ranges.{Accounts}
 
 -- a visible node with `count` pages, and a window that is no longer than that
 abbrev pub with_count : Node → ℕ → Node
@@ -38,10 +38,7 @@ pub record HasShrunk (old new : Arena) (rows rows_after : Rows Row) (before afte
   pub visible : visible_count new ≡ visible_count old
   pub shows : (w q : ℕ) → IsPage (tree_of new rows_after) w q →
       frame_shown (tree_of new rows_after) w q ≡ frame_shown (tree_of old rows) w q
-  pub pool : GivesBack before after
-  pub linked : AreLinked rows before → AreLinked rows_after after
-  pub spare : rows.spare ≤ rows_after.spare
-  pub fewer : row_count rows_after ≤ row_count rows
+  pub accounts : Accounts rows rows_after before after
   pub part : IsPartOf (slots_of rows) (slots_of rows_after)
 
 -- node j was there, with the koid that it has now
@@ -75,10 +72,7 @@ pub record HasClosed (old new : Arena) (rows rows_after : Rows Row) (before afte
   pub visible : suc (visible_count new) ≡ visible_count old
   pub shows : (w q : ℕ) → IsPage (tree_of new rows_after) w q →
       frame_shown (tree_of new rows_after) w q ≡ frame_shown (tree_of old rows) w q
-  pub pool : GivesBack before after
-  pub linked : AreLinked rows before → AreLinked rows_after after
-  pub spare : rows.spare ≤ rows_after.spare
-  pub fewer : row_count rows_after ≤ row_count rows
+  pub accounts : Accounts rows rows_after before after
 
 -- node k has its koid and the parent h still. If its window began at page 0, it does
 pub record StaysUnder (old : Nodes) (k h : ℕ) (now : Node) : Type 0 where

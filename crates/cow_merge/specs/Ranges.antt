@@ -32,9 +32,30 @@ pub record GivesBack (before after : Pool) : Type 0 where
   pub frames : after.frames ≡ before.frames
   pub kept : (t : ℕ) → (taken_frames after t ≡ taken_frames before t) ⊎ (taken_frames after t ≡ None)
 
+-- Rows and frames may be gone. Each backlink that led to the row of its frame does, and there is as much room for rows as before.
+pub record Accounts (old new : Rows Row) (before after : Pool) : Type 0 where
+  pub gives : GivesBack before after
+  pub linked : AreLinked old before → AreLinked new after
+  pub spare : old.spare ≤ new.spare
+  pub count : row_count new ≤ row_count old
+
 -- Each visible node shows what it showed, at the pages that are in sight.
 abbrev pub ShowsSame : (old new : Tree) → (out : ℕ → ℕ → Bool) → Type 0
 ShowsSame old new out = (w q : ℕ) → IsPage old w q → out w q ≡ false → frame_shown new w q ≡ frame_shown old w q
+
+-- Each visible node shows what it showed, but for the pages of v from `first` on.
+abbrev pub ShowsBut : (old new : Tree) → (v first : ℕ) → Type 0
+ShowsBut old new v first = (w q : ℕ) → IsPage old w q → (w ≡ v → q < first) → frame_shown new w q ≡ frame_shown old w q
+
+-- The rows and the frames change under the same nodes. The pages of v from `first` on may show something else.
+pub record Moves (arena : Arena) (old new : Rows Row) (before after : Pool) (v first : ℕ) : Type 0 where
+  pub accounts : Accounts old new before after
+  pub shows : ShowsBut (tree_of arena old) (tree_of arena new) v first
+
+-- The same, and rows go, but none comes.
+pub record HasLost (arena : Arena) (old new : Rows Row) (before after : Pool) (v first : ℕ) : Type 0 where
+  pub moves : Moves arena old new before after v first
+  pub part : IsPartOf (slots_of old) (slots_of new)
 
 -- each page of v is left out
 abbrev pub IsAllOut : Tree → (ℕ → ℕ → Bool) → ℕ → Type 0
@@ -54,38 +75,30 @@ pub record HasLeftPageOut (arena : Arena) (old new : Rows Row) (before after : P
   pub shows : (out : ℕ → ℕ → Bool) → IsExact (tree_of arena old) out (is_taken before) → IsOnlyOf out v →
       ShowsSame (tree_of arena old) (tree_of arena new) (leaving_out out v p)
   pub part : IsPartOf (slots_of old) (slots_of new)
-  pub links : links_of after ≡ links_of before
-  pub gives : GivesBack before after
-  pub spare : old.spare ≤ new.spare
-  pub count : row_count new ≤ row_count old
+  pub accounts : Accounts old new before after
 
--- Since the rows and the pool were the old ones, the pages of v that `out` tells were left out of sight, all of them
--- from `first` on.
-pub record IsLeaving (arena : Arena) (old new : Rows Row) (before after : Pool) (v first : ℕ) (out : ℕ → ℕ → Bool) : Type 0 where
-  pub exact : IsExact (tree_of arena new) out (is_taken after)
+-- the tree is exact with some pages of the visible node v left out, and no others
+pub record IsExactFor (arena : Arena) (rows : Rows Row) (pool : Pool) (v : ℕ) : Type 0 where
+  pub out : ℕ → ℕ → Bool
+  pub exact : IsExact (tree_of arena rows) out (is_taken pool)
   pub only : IsOnlyOf out v
-  pub within : (q : ℕ) → out v q ≡ true → first ≤ q
-  pub shows : ShowsSame (tree_of arena old) (tree_of arena new) out
-  pub part : IsPartOf (slots_of old) (slots_of new)
-  pub links : links_of after ≡ links_of before
-  pub gives : GivesBack before after
-  pub spare : old.spare ≤ new.spare
-  pub count : row_count new ≤ row_count old
-
--- some pages of the visible node v, all from `first` on, are left out, and v has no rows from there to below `end`
-pub record IsDropping (arena : Arena) (old new : Rows Row) (before after : Pool) (v : ℕ) (node : Node) (first end : ℕ) : Type 0 where
-  pub out : ℕ → ℕ → Bool
-  pub leaving : IsLeaving arena old new before after v first out
-  pub visible : IsVisible (nodes_of arena) v node
-  pub bare : (p : ℕ) → first ≤ p → p < end → slots_of new node.list.0 p ≡ None
-
--- some pages of the visible node v, all from `first` on, are left out, and v has no rows from there on
-pub record IsLeftBare (arena : Arena) (old new : Rows Row) (before after : Pool) (v first : ℕ) : Type 0 where
-  pub out : ℕ → ℕ → Bool
-  pub leaving : IsLeaving arena old new before after v first out
   pub node : Node
   pub visible : IsVisible (nodes_of arena) v node
-  pub bare : (p : ℕ) → first ≤ p → slots_of new node.list.0 p ≡ None
+
+-- some pages of the visible node v, all from `first` on, are left out, and v has no rows from there to below `end`
+pub record IsDropping (arena : Arena) (rows : Rows Row) (pool : Pool) (v : ℕ) (node : Node) (first end : ℕ) : Type 0 where
+  pub out : ℕ → ℕ → Bool
+  pub exact : IsExact (tree_of arena rows) out (is_taken pool)
+  pub only : IsOnlyOf out v
+  pub within : (q : ℕ) → out v q ≡ true → first ≤ q
+  pub visible : IsVisible (nodes_of arena) v node
+  pub bare : (p : ℕ) → first ≤ p → p < end → slots_of rows node.list.0 p ≡ None
+
+-- the same, with no end
+pub record IsLeftBare (arena : Arena) (rows : Rows Row) (pool : Pool) (v first : ℕ) : Type 0 where
+  pub has : IsExactFor arena rows pool v
+  pub within : (q : ℕ) → has.out v q ≡ true → first ≤ q
+  pub bare : (p : ℕ) → first ≤ p → slots_of rows has.node.list.0 p ≡ None
 
 -- the page is none of these
 abbrev pub IsOutside : Pages → ℕ → Type 0
@@ -131,25 +144,25 @@ IsParent spared node = (h : NodeId) → spared ≡ Some h → node.parent ≡ So
 
 -- Each page of v from `first` on that still shows a frame is held by the spared node, if one is spared, or it comes to
 -- a page of h below `to`, is not passed over, and comes to no row of h below `upto`.
-pub record IsPassing (arena : Arena) (old new : Rows Row) (before after : Pool) (v first : ℕ) (skip : Pages) (spared : Option NodeId)
+pub record IsPassing (arena : Arena) (rows : Rows Row) (pool : Pool) (v first : ℕ) (skip : Pages) (spared : Option NodeId)
     (above : Node) (shift to upto : ℕ) : Type 0 where
-  pub bare : IsLeftBare arena old new before after v first
-  pub parent : IsParent spared bare.node
+  pub bare : IsLeftBare arena rows pool v first
+  pub parent : IsParent spared bare.has.node
   pub h : ℕ
   pub at : nodes_of arena h ≡ Some above
-  pub came : (q tag : ℕ) → first ≤ q → q < bare.node.count → bare.out v q ≡ false → frame_shown (tree_of arena new) v q ≡ Some tag →
-      IsSpared (nodes_of arena) (slots_of new) spared bare.node q ⊎ CameTo (tree_of arena new) v q skip h above.list.0 shift to upto
+  pub came : (q tag : ℕ) → first ≤ q → q < bare.has.node.count → bare.has.out v q ≡ false → frame_shown (tree_of arena rows) v q ≡ Some tag →
+      IsSpared (nodes_of arena) (slots_of rows) spared bare.has.node q ⊎ CameTo (tree_of arena rows) v q skip h above.list.0 shift to upto
 
 -- Each page of v from `first` on that still shows a frame is held by the node that is spared.
-pub record IsSparing (arena : Arena) (old new : Rows Row) (before after : Pool) (v first : ℕ) (spared : Option NodeId) : Type 0 where
-  pub bare : IsLeftBare arena old new before after v first
-  pub spares : (q tag : ℕ) → first ≤ q → q < bare.node.count → bare.out v q ≡ false → frame_shown (tree_of arena new) v q ≡ Some tag →
-      IsSpared (nodes_of arena) (slots_of new) spared bare.node q
+pub record IsSparing (arena : Arena) (rows : Rows Row) (pool : Pool) (v first : ℕ) (spared : Option NodeId) : Type 0 where
+  pub bare : IsLeftBare arena rows pool v first
+  pub spares : (q tag : ℕ) → first ≤ q → q < bare.has.node.count → bare.has.out v q ≡ false → frame_shown (tree_of arena rows) v q ≡ Some tag →
+      IsSpared (nodes_of arena) (slots_of rows) spared bare.has.node q
 
 -- a range of pages of v is on its way up, and some parent may be spared
 pub record IsOnItsWayUp (arena : Arena) (rows : Rows Row) (pool : Pool) (v first : ℕ) (skip : Pages) (above : Node) (shift to upto : ℕ) : Type 0 where
   pub spared : Option NodeId
-  pub passing : IsPassing arena rows rows pool pool v first skip spared above shift to upto
+  pub passing : IsPassing arena rows pool v first skip spared above shift to upto
 
 -- The least page of a list, from `from` on and below `to`, that has a row, passing over the pages to which only pages
 -- of `skip` come. Page q comes to page q + shift.
@@ -181,10 +194,7 @@ pub record IsOnlyWay (t : Tree) (v p : ℕ) (from : Side) (h q : ℕ) : Type 0 w
 pub record HasKept (old new : Rows Row) (before after : Pool) : Type 0 where
   pub rows : slots_of new ≡ slots_of old
   pub taken : (t : ℕ) → is_taken after t ≡ is_taken before t
-  pub links : links_of after ≡ links_of before
-  pub gives : GivesBack before after
-  pub spare : old.spare ≤ new.spare
-  pub count : row_count new ≤ row_count old
+  pub accounts : Accounts old new before after
 
 -- The row of page q of node h is passed. If page p of v comes to the row, it is left out of sight. Otherwise nothing
 -- has changed.
@@ -196,18 +206,6 @@ pub record HasPassedRow (arena : Arena) (old new : Rows Row) (before after : Poo
 -- these rows are given back. The tree is exact with these pages left out, and the other visible nodes show what they
 -- showed.
 pub record HasLeftOut (arena : Arena) (old new : Rows Row) (before after : Pool) (v : ℕ) (node : Node) (first : ℕ) : Type 0 where
+  pub moves : Moves arena old new before after v first
   pub exact : IsExact (tree_of arena new) (leaving_range all_in_sight v first node.count) (is_taken after)
-  pub shows : ShowsSame (tree_of arena old) (tree_of arena new) (leaving_range all_in_sight v first node.count)
   pub bare : (p : ℕ) → first ≤ p → slots_of new node.list.0 p ≡ None
-  pub gives : GivesBack before after
-  pub linked : AreLinked old before → AreLinked new after
-  pub spare : old.spare ≤ new.spare
-  pub count : row_count new ≤ row_count old
-
--- the tree is exact with some pages of the visible node v left out, and no others
-pub record IsExactFor (arena : Arena) (rows : Rows Row) (pool : Pool) (v : ℕ) : Type 0 where
-  pub out : ℕ → ℕ → Bool
-  pub exact : IsExact (tree_of arena rows) out (is_taken pool)
-  pub only : IsOnlyOf out v
-  pub node : Node
-  pub visible : IsVisible (nodes_of arena) v node

@@ -1,13 +1,11 @@
 //! Handing the list of a hidden node over to one of its children, before the two nodes are merged.
 
 ghost use Rattle.std.specs.Prelude.{◌≡◌, ◌+◌, ◌≤◌, ℕ, true, Some, IsSome};
-ghost use Rattle.balanced_tree.specs.Rows.{Rows};
-ghost use Rattle.page_list.specs.declared.row.Row.{Row};
 ghost use Rattle.page_list.specs.Lists.{slots_of};
 ghost use Rattle.cow_arena.specs.declared.node.Node.{Node};
 ghost use Rattle.cow_arena.specs.Nodes.{nodes_of};
 ghost use Rattle.cow_arena.specs.Walk.{frame_in};
-ghost use Rattle.frame_pool.specs.Pool.{Pool, taken_frames};
+ghost use Rattle.frame_pool.specs.Pool.{taken_frames};
 ghost use Rattle.cow_merge.specs.inside.Lifting.{IsLifting};
 ghost use Rattle.cow_merge.specs.inside.HandingOver.{frame_there, HasDroppedRow, HasRowPut, AreSeenFrom, IsHandingOver, HasHandedOver};
 
@@ -63,13 +61,11 @@ pub(crate) fn hand_over(
     hidden: NodeId,
     child: NodeId,
 )
-    requires lifting { IsLifting arena.now lists.old lists.old frames.old frames.old leaf.0 hidden.0 child.0 }
+    requires lifting { IsLifting arena.now lists.old frames.old leaf.0 hidden.0 child.0 }
     requires sees { (node : Node) → nodes_of arena.now child.0 ≡ Some node → node.first ≡ 0 }
     requires seen { (node parent : Node) → nodes_of arena.now leaf.0 ≡ Some node → nodes_of arena.now hidden.0 ≡ Some parent →
         AreSeenFrom (slots_of lists.old) parent leaf.0 node.first (node.first + node.seen) }
-    ensures { (old : Rows Row) (before : Pool) →
-        IsLifting arena.now old lists.old before frames.old leaf.0 hidden.0 child.0 →
-        HasHandedOver arena.now old lists.new before frames.new leaf.0 hidden.0 child.0 }
+    ensures { HasHandedOver arena.now lists.old lists.new frames.old frames.new leaf.0 hidden.0 child.0 }
 {
     let shared = share_rows(arena, lists, frames, leaf, hidden, child);
     let node = arena.node(leaf);
@@ -90,9 +86,7 @@ fn hand_rows(
     child: NodeId,
 )
     requires { IsHandingOver arena.now lists.old lists.old frames.old frames.old leaf.0 hidden.0 child.0 0 }
-    ensures { (old : Rows Row) (before : Pool) →
-        IsHandingOver arena.now old lists.old before frames.old leaf.0 hidden.0 child.0 0 →
-        HasHandedOver arena.now old lists.new before frames.new leaf.0 hidden.0 child.0 }
+    ensures { HasHandedOver arena.now lists.old lists.new frames.old frames.new leaf.0 hidden.0 child.0 }
 {
     let to = arena.node(hidden).list;
     let list = arena.node(child).list;

@@ -2,9 +2,7 @@
 
 ghost use Rattle.std.specs.Prelude.{◌≡◌, ◌≤◌, ◌<◌, ◌+◌, ◌^◌, ◌↔◌, ℕ, if◌then◌else◌, Bool, true, false, not, None, Some, IsSome, IfSome, IfNone, IsTrue};
 ghost use Rattle.balanced_tree.specs.Pairs.{with_pair, IsNext};
-ghost use Rattle.balanced_tree.specs.Rows.{Rows};
 ghost use Rattle.vm_base.specs.declared.names.Tag.{Tag};
-ghost use Rattle.page_list.specs.declared.row.Row.{Row};
 ghost use Rattle.page_list.specs.declared.row.Slot.{Slot};
 ghost use Rattle.page_list.specs.Lists.{slots_of, row_count};
 ghost use Rattle.cow_arena.specs.declared.node.Node.{Node};
@@ -12,9 +10,9 @@ ghost use Rattle.cow_arena.specs.Nodes.{nodes_of, side_of};
 ghost use Rattle.cow_arena.specs.Forest.{IsForest};
 ghost use Rattle.cow_arena.specs.Walk.{frame_in};
 ghost use Rattle.cow_split.specs.Trees.{tree_of};
-ghost use Rattle.frame_pool.specs.Pool.{Pool, taken_frames, links_of};
+ghost use Rattle.frame_pool.specs.Pool.{taken_frames, links_of};
 ghost use Rattle.cow_merge.specs.Ranges.{bit_on};
-ghost use Rattle.cow_merge.specs.inside.Lifting.{IsLifting, IsBefore, HasSettled, SeesRow, IsMoved, is_row_of_frame};
+ghost use Rattle.cow_merge.specs.inside.Lifting.{IsLifting, HasLifted, IsBefore, HasSettled, SeesRow, IsMoved, is_row_of_frame};
 
 use crate::ranges::give_back_frame;
 use cow_arena::{CowArena, Node, NodeId, Side};
@@ -38,10 +36,8 @@ pub(crate) fn lift_rows(
     from: PageNo,
     to: Option<PageNo>,
 )
-    requires { IsLifting arena.now lists.old lists.old frames.old frames.old leaf.0 hidden.0 child.0 }
-    ensures lifting { (old : Rows Row) (before : Pool) →
-        IsLifting arena.now old lists.old before frames.old leaf.0 hidden.0 child.0 →
-        IsLifting arena.now old lists.new before frames.new leaf.0 hidden.0 child.0 }
+    requires { IsLifting arena.now lists.old frames.old leaf.0 hidden.0 child.0 }
+    ensures lifted { HasLifted arena.now lists.old lists.new frames.old frames.new leaf.0 hidden.0 child.0 }
     ensures empty { (parent : Node) → nodes_of arena.now hidden.0 ≡ Some parent →
         (p : ℕ) → from ≤ p → IsBefore to p → slots_of lists.new parent.list.0 p ≡ None }
     ensures others { (parent : Node) → nodes_of arena.now hidden.0 ≡ Some parent →

@@ -1,10 +1,8 @@
 //! Leaving a range of pages of a VMO's node out of sight.
 
 ghost use Rattle.std.specs.Prelude.{◌≡◌, ◌+◌, ◌^◌, ◌<◌, ◌≤◌, ℕ, true, Option, None, Some, IsSome, IfSome, IfNone, IsSomeAnd, option_copied};
-ghost use Rattle.balanced_tree.specs.Rows.{Rows};
-ghost use Rattle.page_list.specs.declared.row.Row.{Row};
 ghost use Rattle.page_list.specs.Lists.{slots_of};
-ghost use Rattle.frame_pool.specs.Pool.{Pool, taken_frames, is_taken};
+ghost use Rattle.frame_pool.specs.Pool.{taken_frames, is_taken};
 ghost use Rattle.vm_base.specs.declared.names.Tag.{Tag};
 ghost use Rattle.cow_arena.specs.declared.node.Node.{Node};
 ghost use Rattle.cow_arena.specs.declared.node.NodeId.{NodeId};
@@ -19,7 +17,7 @@ ghost use Rattle.cow_split.specs.declared.answers.Cut.TheVariants as cut;
 ghost use Rattle.balanced_tree.specs.Pairs.{IsNext};
 ghost use Rattle.cow_jump.specs.Jumps.{MayJump};
 ghost use Rattle.cow_merge.specs.inside.Lifting.{IsFamilyOf};
-ghost use Rattle.cow_merge.specs.Ranges.{IsOutside, no_pages, IsNextOutside, bare_of, is_split, HasGiven, IsLeftBare, IsPassing, IsOnItsWayUp, IsSparing, IsOnlyWay, HasPassedRow, KeepsList, KeepsOthers, HasLeftOut, IsExactFor};
+ghost use Rattle.cow_merge.specs.Ranges.{IsOutside, no_pages, IsNextOutside, bare_of, is_split, HasGiven, HasLost, IsLeftBare, IsPassing, IsOnItsWayUp, IsSparing, IsOnlyWay, HasPassedRow, KeepsList, KeepsOthers, HasLeftOut, IsExactFor};
 
 use crate::witness::leave_out_beside;
 use cow_arena::{CowArena, Node, NodeId, Side};
@@ -92,7 +90,8 @@ pub(crate) fn leave_out_above(
     requires leaf { IsSomeAnd (nodes_of arena.now leaf.0) (λ node. IsSome node.koid × (node.parent ≡ Some hidden)) }
     requires family { IsFamilyOf arena.now leaf.0 hidden.0 sibling.0 }
     requires jumps { MayJump (tree_of arena.now lists.old) (option_copied jumps) }
-    ensures sparing { IsSparing arena.now lists.old lists.new frames.old frames.new leaf.0 0 (Some hidden) }
+    ensures sparing { IsSparing arena.now lists.new frames.new leaf.0 0 (Some hidden) }
+    ensures lost { HasLost arena.now lists.old lists.new frames.old frames.new leaf.0 0 }
     ensures kept { (above : Node) → nodes_of arena.now hidden.0 ≡ Some above → KeepsList lists.old lists.new above.list.0 }
 {
     drop_rows(arena, lists, frames, leaf, 0);
@@ -127,9 +126,10 @@ fn leave_out_further(
     requires end { (node : Node) → nodes_of arena.now leaf.0 ≡ Some node → to ≤ shift + node.seen }
     requires range { first + shift < 2 ^ 64 }
     requires jumps { MayJump (tree_of arena.now lists.old) (option_copied jumps) }
-    ensures sparing { (old : Rows Row) (before : Pool) (spared : Option NodeId) (above : Node) → nodes_of arena.now hidden.0 ≡ Some above →
-        IsPassing arena.now old lists.old before frames.old leaf.0 first no_pages spared above shift to to →
-        IsSparing arena.now old lists.new before frames.new leaf.0 first spared }
+    ensures sparing { (spared : Option NodeId) (above : Node) → nodes_of arena.now hidden.0 ≡ Some above →
+        IsPassing arena.now lists.old frames.old leaf.0 first no_pages spared above shift to to →
+        IsSparing arena.now lists.new frames.new leaf.0 first spared }
+    ensures lost { HasLost arena.now lists.old lists.new frames.old frames.new leaf.0 first }
     ensures kept { (above : Node) → nodes_of arena.now hidden.0 ≡ Some above → KeepsList lists.old lists.new above.list.0 }
 {
     let skip = leave_out_beside(
@@ -161,9 +161,10 @@ fn cut_upwards(
     requires start { nodes_of arena.now start.0 ≡ Some node }
     requires way { first + shift < to → ComesTo (bare_of arena.now) leaf.0 first start.0 (first + shift) }
     requires range { first + shift < 2 ^ 64 }
-    ensures sparing { (old : Rows Row) (before : Pool) (spared : Option NodeId) →
-        IsPassing arena.now old lists.old before frames.old leaf.0 first skip spared node shift to to →
-        IsSparing arena.now old lists.new before frames.new leaf.0 first spared }
+    ensures sparing { (spared : Option NodeId) →
+        IsPassing arena.now lists.old frames.old leaf.0 first skip spared node shift to to →
+        IsSparing arena.now lists.new frames.new leaf.0 first spared }
+    ensures lost { HasLost arena.now lists.old lists.new frames.old frames.new leaf.0 first }
     ensures kept { KeepsList lists.old lists.new node.list.0 }
 {
     let mut at = start;
@@ -213,7 +214,8 @@ fn drop_rows(
 )
     requires exact { IsExact (tree_of arena.now lists.old) all_in_sight (is_taken frames.old) }
     requires leaf { IsSomeAnd (nodes_of arena.now leaf.0) (λ node. IsSome node.koid) }
-    ensures bare { IsLeftBare arena.now lists.old lists.new frames.old frames.new leaf.0 first }
+    ensures bare { IsLeftBare arena.now lists.new frames.new leaf.0 first }
+    ensures lost { HasLost arena.now lists.old lists.new frames.old frames.new leaf.0 first }
     ensures others { (node : Node) → nodes_of arena.now leaf.0 ≡ Some node → KeepsOthers lists.old lists.new node.list.0 }
 {
     let node = arena.node(leaf);
@@ -254,9 +256,10 @@ fn cut_rows(
     requires node { nodes_of arena.now node.0 ≡ Some above }
     requires way { Reaches (bare_of arena.now) leaf.0 first side node.0 (first + shift) }
     requires range { first + shift < to }
-    ensures passing { (old : Rows Row) (before : Pool) (spared : Option NodeId) →
-        IsPassing arena.now old lists.old before frames.old leaf.0 first skip spared above shift to (first + shift) →
-        IsPassing arena.now old lists.new before frames.new leaf.0 first skip spared above shift to to }
+    ensures passing { (spared : Option NodeId) →
+        IsPassing arena.now lists.old frames.old leaf.0 first skip spared above shift to (first + shift) →
+        IsPassing arena.now lists.new frames.new leaf.0 first skip spared above shift to to }
+    ensures lost { HasLost arena.now lists.old lists.new frames.old frames.new leaf.0 first }
     ensures others { KeepsOthers lists.old lists.new above.list.0 }
 {
     let mut from = first + shift;

@@ -1,17 +1,14 @@
 //! Rows of a hidden node that VMOs on both sides of a hidden child see.
 
 ghost use Rattle.std.specs.Prelude.{◌≡◌, ◌+◌, ◌^◌, ◌<◌, ◌≤◌, ℕ, Some};
-ghost use Rattle.balanced_tree.specs.Rows.{Rows};
-ghost use Rattle.page_list.specs.declared.row.Row.{Row};
 ghost use Rattle.page_list.specs.declared.row.Slot.{Slot};
 ghost use Rattle.page_list.specs.Lists.{slots_of};
-ghost use Rattle.frame_pool.specs.Pool.{Pool};
 ghost use Rattle.cow_arena.specs.declared.node.Node.{Node};
 ghost use Rattle.cow_arena.specs.declared.node.Side.{Side};
 ghost use Rattle.cow_arena.specs.Nodes.{nodes_of, side_in};
 ghost use Rattle.cow_arena.specs.Forest.{IsChild};
 ghost use Rattle.cow_split.specs.Trees.{tree_of};
-ghost use Rattle.cow_merge.specs.inside.Lifting.{IsLifting};
+ghost use Rattle.cow_merge.specs.inside.Lifting.{IsLifting, HasLifted};
 ghost use Rattle.cow_merge.specs.inside.Sharing.{AreReached, AreShared, IsDown};
 
 use crate::lifting::lift_rows;
@@ -33,10 +30,8 @@ pub(crate) fn share_rows(
     hidden: NodeId,
     child: NodeId,
 ) -> Pages
-    requires lifting { IsLifting arena.now lists.old lists.old frames.old frames.old leaf.0 hidden.0 child.0 }
-    ensures lifting { (old : Rows Row) (before : Pool) →
-        IsLifting arena.now old lists.old before frames.old leaf.0 hidden.0 child.0 →
-        IsLifting arena.now old lists.new before frames.new leaf.0 hidden.0 child.0 }
+    requires lifting { IsLifting arena.now lists.old frames.old leaf.0 hidden.0 child.0 }
+    ensures lifted { HasLifted arena.now lists.old lists.new frames.old frames.new leaf.0 hidden.0 child.0 }
     ensures others { (parent : Node) → nodes_of arena.now hidden.0 ≡ Some parent →
         (p : ℕ) (row : Slot) → slots_of lists.new parent.list.0 p ≡ Some row → slots_of lists.old parent.list.0 p ≡ Some row }
     ensures shared { (parent node : Node) → nodes_of arena.now hidden.0 ≡ Some parent → nodes_of arena.now child.0 ≡ Some node →
@@ -76,11 +71,9 @@ fn share_side(
     below: NodeId,
     seen: PageNo,
 ) -> Pages
-    requires lifting { IsLifting arena.now lists.old lists.old frames.old frames.old leaf.0 hidden.0 child.0 }
+    requires lifting { IsLifting arena.now lists.old frames.old leaf.0 hidden.0 child.0 }
     requires below { IsChild (nodes_of arena.now) child.0 below.0 }
-    ensures lifting { (old : Rows Row) (before : Pool) →
-        IsLifting arena.now old lists.old before frames.old leaf.0 hidden.0 child.0 →
-        IsLifting arena.now old lists.new before frames.new leaf.0 hidden.0 child.0 }
+    ensures lifted { HasLifted arena.now lists.old lists.new frames.old frames.new leaf.0 hidden.0 child.0 }
     ensures others { (parent : Node) → nodes_of arena.now hidden.0 ≡ Some parent →
         (p : ℕ) (row : Slot) → slots_of lists.new parent.list.0 p ≡ Some row → slots_of lists.old parent.list.0 p ≡ Some row }
     ensures reached { (parent : Node) (side : Side) → nodes_of arena.now hidden.0 ≡ Some parent →
@@ -114,12 +107,10 @@ fn settle_under(
     way: Way,
     list: ListId,
 )
-    requires lifting { IsLifting arena.now lists.old lists.old frames.old frames.old leaf.0 hidden.0 child.0 }
+    requires lifting { IsLifting arena.now lists.old frames.old leaf.0 hidden.0 child.0 }
     requires list { (node : Node) → nodes_of arena.now way.at.0 ≡ Some node → list ≡ node.list }
     requires fits { (p : ℕ) → way.from ≤ p → p < way.to → p + way.shift + 1 < 2 ^ 64 }
-    ensures lifting { (old : Rows Row) (before : Pool) →
-        IsLifting arena.now old lists.old before frames.old leaf.0 hidden.0 child.0 →
-        IsLifting arena.now old lists.new before frames.new leaf.0 hidden.0 child.0 }
+    ensures lifted { HasLifted arena.now lists.old lists.new frames.old frames.new leaf.0 hidden.0 child.0 }
     ensures others { (parent : Node) → nodes_of arena.now hidden.0 ≡ Some parent →
         (p : ℕ) (row : Slot) → slots_of lists.new parent.list.0 p ≡ Some row → slots_of lists.old parent.list.0 p ≡ Some row }
     ensures down { (parent : Node) (side : Side) (seen : ℕ) → nodes_of arena.now hidden.0 ≡ Some parent →

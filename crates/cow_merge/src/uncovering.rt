@@ -9,6 +9,7 @@ ghost use Rattle.cow_arena.specs.Nodes.{nodes_of};
 ghost use Rattle.cow_split.specs.Trees.{tree_of};
 ghost use Rattle.cow_split.specs.Exact.{IsExact, all_in_sight};
 ghost use Rattle.frame_pool.specs.Pool.{taken_frames, is_taken};
+ghost use Rattle.cow_merge.specs.Ranges.{HasLost};
 ghost use Rattle.cow_merge.specs.inside.Uncovering.{IsUncovering, IsUncovered, without_bits};
 
 use crate::ranges::{give_back_frame, next_below};
@@ -28,8 +29,9 @@ pub(crate) fn uncover(
 )
     requires exact { IsExact (tree_of arena.now lists.old) all_in_sight (is_taken frames.old) }
     requires leaf { IsSomeAnd (nodes_of arena.now leaf.0) (λ node. IsSome node.koid × (node.parent ≡ Some hidden)) }
-    ensures { (node : Node) → nodes_of arena.now leaf.0 ≡ Some node →
-        IsUncovering arena.now lists.old lists.new frames.old frames.new leaf.0 hidden.0 node.seen }
+    ensures freed { (node : Node) → nodes_of arena.now leaf.0 ≡ Some node →
+        IsUncovering arena.now lists.new frames.new leaf.0 hidden.0 node.seen }
+    ensures lost { HasLost arena.now lists.old lists.new frames.old frames.new leaf.0 0 }
 {
     let node = arena.node(leaf);
     let above = arena.node(hidden);

@@ -1,10 +1,7 @@
 //! Pages of a VMO's node that go out of sight at once, since another VMO, below the sibling, shows them too.
 
 ghost use Rattle.std.specs.Prelude.{◌≡◌, ◌+◌, ◌^◌, ◌<◌, ◌≤◌, ℕ, Option, None, Some, IsSome, IsSomeAnd, option_copied};
-ghost use Rattle.balanced_tree.specs.Rows.{Rows};
-ghost use Rattle.page_list.specs.declared.row.Row.{Row};
 ghost use Rattle.page_list.specs.Lists.{slots_of};
-ghost use Rattle.frame_pool.specs.Pool.{Pool};
 ghost use Rattle.cow_arena.specs.declared.node.Node.{Node};
 ghost use Rattle.cow_arena.specs.declared.node.NodeId.{NodeId};
 ghost use Rattle.cow_arena.specs.declared.node.Side.{Side};
@@ -13,7 +10,7 @@ ghost use Rattle.cow_arena.specs.Forest.{IsForest, IsChild};
 ghost use Rattle.cow_split.specs.Trees.{tree_of};
 ghost use Rattle.cow_jump.specs.Jumps.{MayJump};
 ghost use Rattle.cow_merge.specs.inside.Lifting.{IsFamilyOf};
-ghost use Rattle.cow_merge.specs.Ranges.{no_pages, IsPassing, IsOnItsWayUp, IsExactFor, KeepsList};
+ghost use Rattle.cow_merge.specs.Ranges.{no_pages, HasLost, IsPassing, IsOnItsWayUp, IsExactFor, KeepsList};
 ghost use Rattle.cow_merge.specs.inside.Witness.{IsGoingDown, IsBeside, IsEntered, IsPageCut};
 
 use crate::ranges::{Pages, cut_off, next_below};
@@ -64,9 +61,10 @@ pub(crate) fn leave_out_beside(
     requires base { (node : Node) → nodes_of arena.now leaf.0 ≡ Some node → shift ≡ node.first }
     requires range { first + shift < 2 ^ 64 }
     requires jumps { MayJump (tree_of arena.now lists.old) (option_copied jumps) }
-    ensures passing { (old : Rows Row) (before : Pool) (spared : Option NodeId) (above : Node) → nodes_of arena.now hidden.0 ≡ Some above →
-        IsPassing arena.now old lists.old before frames.old leaf.0 first no_pages spared above shift to to →
-        IsPassing arena.now old lists.new before frames.new leaf.0 first result spared above shift to to }
+    ensures passing { (spared : Option NodeId) (above : Node) → nodes_of arena.now hidden.0 ≡ Some above →
+        IsPassing arena.now lists.old frames.old leaf.0 first no_pages spared above shift to to →
+        IsPassing arena.now lists.new frames.new leaf.0 first result spared above shift to to }
+    ensures lost { HasLost arena.now lists.old lists.new frames.old frames.new leaf.0 first }
     ensures kept { (above : Node) → nodes_of arena.now hidden.0 ≡ Some above → KeepsList lists.old lists.new above.list.0 }
 {
     let end = to.min(arena.node(hidden).seen);
@@ -177,9 +175,10 @@ fn cut_under(
     requires down { IsGoingDown arena.now lists.old frames.old leaf.0 hidden.0 shift way }
     requires list { (node : Node) → nodes_of arena.now way.at.0 ≡ Some node → list ≡ node.list }
     requires jumps { MayJump (tree_of arena.now lists.old) (option_copied jumps) }
-    ensures beside { (old : Rows Row) (before : Pool) (first : ℕ) (spared : Option NodeId) (above : Node) (to : ℕ) (s : Side) →
-        IsBeside arena.now old lists.old before frames.old leaf.0 first spared hidden.0 above shift to s way way.from →
-        IsBeside arena.now old lists.new before frames.new leaf.0 first spared hidden.0 above shift to s way way.to }
+    ensures beside { (first : ℕ) (spared : Option NodeId) (above : Node) (to : ℕ) (s : Side) →
+        IsBeside arena.now lists.old frames.old leaf.0 first spared hidden.0 above shift to s way way.from →
+        IsBeside arena.now lists.new frames.new leaf.0 first spared hidden.0 above shift to s way way.to
+        × HasLost arena.now lists.old lists.new frames.old frames.new leaf.0 first }
     ensures kept { (above : Node) → nodes_of arena.now hidden.0 ≡ Some above → KeepsList lists.old lists.new above.list.0 }
 {
     let mut from = way.from;

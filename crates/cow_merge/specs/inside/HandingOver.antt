@@ -14,8 +14,10 @@ use Rattle.cow_arena.specs.declared.node.Side.{Side}
 use Rattle.cow_arena.specs.Nodes.{Arena, nodes_of, side_of}
 use Rattle.cow_arena.specs.Renamed.{exchanged, AreExchanged}
 use Rattle.cow_arena.specs.Walk.{Slots, tree_with, frame_in}
+use Rattle.cow_arena.specs.Ways.{KeepsBelow}
+use Rattle.cow_split.specs.Trees.{tree_of}
 use Rattle.cow_split.specs.Exact.{without_frame}
-use Rattle.cow_merge.specs.Ranges.{bit_on, AreLinked, GivesBack, HasGiven}
+use Rattle.cow_merge.specs.Ranges.{bit_on, ShowsBut, Accounts, GivesBack, HasGiven}
 use Rattle.cow_merge.specs.inside.Lifting.{IsFamilyOf, AreLifted, is_row_of_frame}
 use Rattle.cow_merge.specs.inside.Sharing.{IsReached}
 
@@ -53,7 +55,9 @@ pub record AreSeenFrom (slots : Slots) (parent : Node) (k first end : ℕ) : Typ
 pub record IsHandingOver (arena : Arena) (old new : Rows Row) (before after : Pool) (k h s from : ℕ) : Type 0 where
   pub of : IsFamilyOf arena k h s
   pub slots : Slots
-  pub lifted : AreLifted arena old slots before after k h s of
+  pub lifted : AreLifted arena slots after k h of.node
+  pub shows : ShowsBut (tree_of arena old) (tree_with (nodes_of arena) arena.lists slots) k 0
+  pub below : KeepsBelow (slots_of old) slots of.parent of.sibling
   pub first : of.sibling.first ≡ 0
   pub shared : of.sibling.koid ≡ None → (q : ℕ) → IsSome (slots of.parent.list.0 q) → (side : Side) →
       IsReached (tree_with (nodes_of arena) arena.lists slots) side s q
@@ -63,9 +67,7 @@ pub record IsHandingOver (arena : Arena) (old new : Rows Row) (before after : Po
   -- both children see the rows of h that are left, unless s has a row of its own there
   pub inside : (q : ℕ) → IsSome (slots of.parent.list.0 q) → q < of.sibling.seen
   pub seen : (end : ℕ) → AreSeenFrom slots of.parent k 0 end
-  pub linked : AreLinked old before → AreLinked new after
-  pub spare : old.spare ≤ new.spare
-  pub count : row_count new ≤ row_count old
+  pub accounts : Accounts old new before after
 
 -- The same, with all rows of s below some page at or past `from` gone from its list.
 pub record IsHandedUpTo (arena : Arena) (old new : Rows Row) (before after : Pool) (k h s from : ℕ) : Type 0 where
@@ -79,9 +81,9 @@ pub record IsHandedUpTo (arena : Arena) (old new : Rows Row) (before after : Poo
 pub record HasHandedOver (arena : Arena) (old new : Rows Row) (before after : Pool) (k h s : ℕ) : Type 0 where
   pub of : IsFamilyOf arena k h s
   pub slots : Slots
-  pub lifted : AreLifted arena old slots before after k h s of
+  pub lifted : AreLifted arena slots after k h of.node
+  pub shows : ShowsBut (tree_of arena old) (tree_with (nodes_of arena) arena.lists slots) k 0
+  pub below : KeepsBelow (slots_of old) slots of.parent of.sibling
   pub empty : (p : ℕ) → slots of.parent.list.0 p ≡ None
   pub rows : AreExchanged slots (slots_of new) of.parent.list.0 of.sibling.list.0
-  pub linked : AreLinked old before → AreLinked new after
-  pub spare : old.spare ≤ new.spare
-  pub count : row_count new ≤ row_count old
+  pub accounts : Accounts old new before after

@@ -17,7 +17,7 @@ use Rattle.cow_arena.specs.Ways.{KeepsBelow}
 use Rattle.cow_split.specs.Trees.{tree_of}
 use Rattle.cow_split.specs.Search.{reached_from}
 use Rattle.cow_split.specs.Exact.{IsExact, IsOnlyOf}
-use Rattle.cow_merge.specs.Ranges.{bit_on, ShowsSame, AreLinked, GivesBack, HasGiven, IsHeldBy}
+use Rattle.cow_merge.specs.Ranges.{bit_on, Moves, HasGiven, IsHeldBy}
 
 -- each page of node k that comes to page q of its parent is left out of sight; `node` is k
 abbrev pub IsAside : (ℕ → ℕ → Bool) → (k : ℕ) → Node → (q : ℕ) → Type 0
@@ -50,26 +50,26 @@ pub record IsFamilyOf (arena : Arena) (k h s : ℕ) : Type 0 where
   pub family : AreFamily (nodes_of arena) k h s node parent sibling
   pub visible : IsVisible (nodes_of arena) k node
 
--- Rows of h, the parent of the VMO's node k, went or moved into the list of s, the other child of h, so that `slots`
--- are left. The tree is exact with some pages of k left out. Each other page of k that shows a frame is held by h.
-pub record AreLifted (arena : Arena) (old : Rows Row) (slots : Slots) (before after : Pool) (k h s : ℕ) (of : IsFamilyOf arena k h s) : Type 0 where
+-- The tree of these slots is exact with some pages of the VMO's node k left out. The node has no rows, and each other page of it that shows
+-- a frame is held by its parent h.
+pub record AreLifted (arena : Arena) (slots : Slots) (pool : Pool) (k h : ℕ) (node : Node) : Type 0 where
   pub out : ℕ → ℕ → Bool
-  pub exact : IsExact (tree_with (nodes_of arena) arena.lists slots) out (is_taken after)
+  pub exact : IsExact (tree_with (nodes_of arena) arena.lists slots) out (is_taken pool)
   pub only : IsOnlyOf out k
-  pub shows : ShowsSame (tree_of arena old) (tree_with (nodes_of arena) arena.lists slots) out
-  pub bare : (p : ℕ) → slots of.node.list.0 p ≡ None
-  pub held : (p tag : ℕ) → p < of.node.count → out k p ≡ false →
-      frame_shown (tree_with (nodes_of arena) arena.lists slots) k p ≡ Some tag → IsHeldBy (nodes_of arena) slots h of.node p
-  pub gives : GivesBack before after
-  pub rows : KeepsBelow (slots_of old) slots of.parent of.sibling
+  pub bare : (p : ℕ) → slots node.list.0 p ≡ None
+  pub held : (p tag : ℕ) → p < node.count → out k p ≡ false →
+      frame_shown (tree_with (nodes_of arena) arena.lists slots) k p ≡ Some tag → IsHeldBy (nodes_of arena) slots h node p
 
--- the same for the rows of the lists; the backlinks of their frames lead to them
-pub record IsLifting (arena : Arena) (old new : Rows Row) (before after : Pool) (k h s : ℕ) : Type 0 where
+-- Rows of h, the parent of the VMO's node k, may go or move into the list of s, the other child of h.
+pub record IsLifting (arena : Arena) (rows : Rows Row) (pool : Pool) (k h s : ℕ) : Type 0 where
   pub of : IsFamilyOf arena k h s
-  pub lifted : AreLifted arena old (slots_of new) before after k h s of
-  pub linked : AreLinked old before → AreLinked new after
-  pub spare : old.spare ≤ new.spare
-  pub count : row_count new ≤ row_count old
+  pub lifted : AreLifted arena (slots_of rows) pool k h of.node
+
+-- some did, and more of them may
+pub record HasLifted (arena : Arena) (old new : Rows Row) (before after : Pool) (k h s : ℕ) : Type 0 where
+  pub now : IsLifting arena new after k h s
+  pub moves : Moves arena old new before after k 0
+  pub rows : KeepsBelow (slots_of old) (slots_of new) now.of.parent now.of.sibling
 
 -- the page is below `to`, if there is a `to`
 abbrev pub IsBefore : Option ℕ → ℕ → Type 0

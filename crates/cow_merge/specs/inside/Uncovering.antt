@@ -6,15 +6,13 @@ use Rattle.page_list.specs.declared.row.Row.{Row}
 use Rattle.page_list.specs.declared.row.Slot.{Slot}
 use Rattle.page_list.specs.declared.row.Slot.TheVariants as slot
 use Rattle.page_list.specs.Lists.{slots_of, row_count}
-use Rattle.frame_pool.specs.Pool.{Pool, is_taken, links_of}
+use Rattle.frame_pool.specs.Pool.{Pool, is_taken}
 use Rattle.cow_arena.specs.declared.node.Node.{Node}
 use Rattle.cow_arena.specs.Nodes.{Arena, nodes_of, IsVisible, link_to}
-use Rattle.cow_arena.specs.Walk.{frame_in, frame_shown}
-use Rattle.cow_arena.specs.Ways.{IsPartOf}
+use Rattle.cow_arena.specs.Walk.{frame_in}
 use Rattle.cow_split.specs.Trees.{tree_of}
-use Rattle.cow_split.specs.Sight.{IsPage}
 use Rattle.cow_split.specs.Exact.{IsExact, all_in_sight}
-use Rattle.cow_merge.specs.Ranges.{GivesBack, HasGiven, IsHeldBy}
+use Rattle.cow_merge.specs.Ranges.{HasGiven, IsHeldBy}
 
 -- the slot with no bit set
 abbrev pub without_bits : Slot → Slot
@@ -42,17 +40,10 @@ pub record IsNotUnder (old new : Rows Row) (before after : Pool) (above q : ℕ)
 abbrev pub IsUncovered : (old new : Rows Row) → (before after : Pool) → (l p above q : ℕ) → Type 0
 IsUncovered old new before after l p above q = IsNotUnder old new before after above q ⊎ IsRowUncovered old new before after l p above q
 
--- Own rows of the VMO's node k below page `from`, over rows of its parent h, went. Each other VMO shows what it showed,
--- and no own row that is left there covers a row of h.
-pub record IsUncovering (arena : Arena) (old new : Rows Row) (before after : Pool) (k h from : ℕ) : Type 0 where
+-- Own rows of the VMO's node k below page `from`, over rows of its parent h, went. No own row that is left there covers a row of h.
+pub record IsUncovering (arena : Arena) (rows : Rows Row) (pool : Pool) (k h from : ℕ) : Type 0 where
   pub node : Node
   pub visible : IsVisible (nodes_of arena) k node
   pub up : node.parent ≡ link_to h
-  pub exact : IsExact (tree_of arena new) all_in_sight (is_taken after)
-  pub shows : (w q : ℕ) → w ≢ k → IsPage (tree_of arena old) w q → frame_shown (tree_of arena new) w q ≡ frame_shown (tree_of arena old) w q
-  pub free : (p : ℕ) → p < from → IsHeldBy (nodes_of arena) (slots_of new) h node p → slots_of new node.list.0 p ≡ None
-  pub part : IsPartOf (slots_of old) (slots_of new)
-  pub links : links_of after ≡ links_of before
-  pub gives : GivesBack before after
-  pub spare : old.spare ≤ new.spare
-  pub count : row_count new ≤ row_count old
+  pub exact : IsExact (tree_of arena rows) all_in_sight (is_taken pool)
+  pub free : (p : ℕ) → p < from → IsHeldBy (nodes_of arena) (slots_of rows) h node p → slots_of rows node.list.0 p ≡ None

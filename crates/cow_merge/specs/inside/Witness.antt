@@ -40,14 +40,8 @@ pub record ComesBeside (t : Tree) (v q h list base to e : ℕ) (node : Node) (fr
   pub beside : (p : ℕ) → q + base ≡ p + way.shift → way.from ≤ p → p < way.to → Arrives t e (node.first + p) from h (q + base)
   pub free : (p : ℕ) → q + base ≡ p + way.shift → way.from ≤ p → p < upto → t.slots node.list.0 p ≡ None
 
--- The way has come from node h, over the child of h on side s, to a child of node e. Each page of v from `first` on
--- that still shows a frame is held by the spared node, if one is spared, or comes to h, and so does the way's page that
--- belongs to it.
-pub record IsBeside (arena : Arena) (old new : Rows Row) (before after : Pool) (v first : ℕ) (spared : Option NodeId) (h : ℕ) (above : Node)
-    (base to : ℕ) (s : Side) (way : Way) (upto : ℕ) : Type 0 where
-  pub bare : IsLeftBare arena old new before after v first
-  pub parent : IsParent spared bare.node
-  pub at : nodes_of arena h ≡ Some above
+-- The way has come, over the child on side s of the node where it began, to a child of node e, in whose window its pages lie.
+pub record IsWayPlace (arena : Arena) (first base to : ℕ) (s : Side) (way : Way) : Type 0 where
   pub node : Node
   pub node_at : nodes_of arena way.at.0 ≡ Some node
   pub e : ℕ
@@ -55,9 +49,19 @@ pub record IsBeside (arena : Arena) (old new : Rows Row) (before after : Pool) (
   pub from : Option Side
   pub side : option_or from (side_in (nodes_of arena) way.at.0) ≡ Some s
   pub within : IsWayWithin first base to node way
-  pub came : (q tag : ℕ) → first ≤ q → q < bare.node.count → bare.out v q ≡ false → frame_shown (tree_of arena new) v q ≡ Some tag →
-      IsSpared (nodes_of arena) (slots_of new) spared bare.node q
-      ⊎ ComesBeside (tree_of arena new) v q h above.list.0 base to e node from way upto
+
+-- The way has come from node h, over the child of h on side s, to this place. Each page of v from `first` on
+-- that still shows a frame is held by the spared node, if one is spared, or comes to h, and so does the way's page that
+-- belongs to it.
+pub record IsBeside (arena : Arena) (rows : Rows Row) (pool : Pool) (v first : ℕ) (spared : Option NodeId) (h : ℕ) (above : Node)
+    (base to : ℕ) (s : Side) (way : Way) (upto : ℕ) : Type 0 where
+  pub bare : IsLeftBare arena rows pool v first
+  pub parent : IsParent spared bare.has.node
+  pub at : nodes_of arena h ≡ Some above
+  pub place : IsWayPlace arena first base to s way
+  pub came : (q tag : ℕ) → first ≤ q → q < bare.has.node.count → bare.has.out v q ≡ false → frame_shown (tree_of arena rows) v q ≡ Some tag →
+      IsSpared (nodes_of arena) (slots_of rows) spared bare.has.node q
+      ⊎ ComesBeside (tree_of arena rows) v q h above.list.0 base to place.e place.node place.from way upto
 
 -- some way has come so far
 pub record IsGoingDown (arena : Arena) (rows : Rows Row) (pool : Pool) (v h base : ℕ) (way : Way) : Type 0 where
@@ -67,7 +71,7 @@ pub record IsGoingDown (arena : Arena) (rows : Rows Row) (pool : Pool) (v h base
   pub to : ℕ
   pub fits : to < 2 ^ 64
   pub side : Side
-  pub beside : IsBeside arena rows rows pool pool v first spared h above base to side way way.from
+  pub beside : IsBeside arena rows pool v first spared h above base to side way way.from
 
 -- page p of v sees a row of node h
 pub record SeesRowOf (t : Tree) (v p h : ℕ) : Type 0 where

@@ -10,25 +10,21 @@ use Rattle.cow_merge.proofs.handing.hand_rows.Goals as goal
 
 pub loop-page-init : goal.loop-page-init
 loop-page-init c = record {
-  handing = λ old before was. handed-start c.args.arena.now old c.args.lists.now before c.args.frames.now c.args.leaf.0 c.args.hidden.0 c.args.child.0 was;
+  handing = handed-start c.requires;
 }
 
 pub put_row-requires-clause-taken : goal.put_row-requires-clause-taken
 put_row-requires-clause-taken c =
-    hand-taken c.args.arena.now c.args.lists.now c.loop-page.lists c.args.frames.now c.loop-page.frames c.args.leaf.0 c.args.hidden.0 c.args.child.0 c.loop-page.from
-    (c.loop-page.invariant.handing c.args.lists.now c.args.frames.now c.requires) c.node-2.result c.node-2.ensures c.in-Some.page c.in-Some.slot c.in-Some.ensures.page
-    c.in-Some.ensures.slot
+    hand-taken c.loop-page.invariant.handing c.node-2.result c.node-2.ensures c.in-Some.page c.in-Some.slot c.in-Some.ensures.page c.in-Some.ensures.slot
 
 pub put_row-requires-clause-under : goal.put_row-requires-clause-under
 put_row-requires-clause-under c =
-    hand-under c.args.arena.now c.args.lists.now c.loop-page.lists c.args.frames.now c.loop-page.frames c.args.leaf.0 c.args.hidden.0 c.args.child.0 c.loop-page.from
-    (c.loop-page.invariant.handing c.args.lists.now c.args.frames.now c.requires) c.node-2.result c.node-2.ensures c.in-Some.page c.in-Some.slot c.in-Some.ensures.page
+    hand-under c.loop-page.invariant.handing c.node-2.result c.node-2.ensures c.in-Some.page c.in-Some.slot c.in-Some.ensures.page
     c.in-Some.ensures.slot c.node.result c.node.ensures c.take_next.new.self c.in-Some.ensures.slots
 
 pub put_row-requires-clause-apart : goal.put_row-requires-clause-apart
 put_row-requires-clause-apart c =
-    hand-apart c.args.arena.now c.args.lists.now c.loop-page.lists c.args.frames.now c.loop-page.frames c.args.leaf.0 c.args.hidden.0 c.args.child.0 c.loop-page.from
-    (c.loop-page.invariant.handing c.args.lists.now c.args.frames.now c.requires) c.node-2.result c.node-2.ensures c.in-Some.page c.in-Some.slot c.in-Some.ensures.page
+    hand-apart c.loop-page.invariant.handing c.node-2.result c.node-2.ensures c.in-Some.page c.in-Some.slot c.in-Some.ensures.page
     c.in-Some.ensures.slot c.node.result c.node.ensures c.take_next.new.self c.in-Some.ensures.slots
 
 pub loop-page-smaller : goal.loop-page-smaller
@@ -36,23 +32,20 @@ loop-page-smaller c =
     let least = c.in-Some.ensures.page.least c.in-Some.page refl in
     ahead-less (slots_of c.loop-page.lists c.node-2.result.list.0) (slots_of c.put_row.new.lists c.node-2.result.list.0) c.loop-page.from c.in-Some.page c.in-Some.slot
     least.0 c.in-Some.ensures.fits c.in-Some.ensures.slot
-    (hand-gone c.args.arena.now c.args.lists.now c.loop-page.lists c.args.frames.now c.loop-page.frames c.args.leaf.0 c.args.hidden.0 c.args.child.0 c.loop-page.from
-    (c.loop-page.invariant.handing c.args.lists.now c.args.frames.now c.requires) c.node-2.result c.node-2.ensures c.in-Some.page c.in-Some.slot c.in-Some.ensures.page
+    (hand-gone c.loop-page.invariant.handing c.node-2.result c.node-2.ensures c.in-Some.page c.in-Some.slot c.in-Some.ensures.page
     c.in-Some.ensures.slot c.node.result c.node.ensures c.take_next.new.self c.in-Some.ensures.slots c.put_row.new.lists c.put_row.new.frames c.put_row.ensures)
 
 pub loop-page-preserved : goal.loop-page-preserved
 loop-page-preserved c = record {
-  handing = λ old before was.
-      hand-next c.args.arena.now old c.loop-page.lists before c.loop-page.frames c.args.leaf.0 c.args.hidden.0 c.args.child.0 c.loop-page.from
-      (c.loop-page.invariant.handing old before was) c.node-2.result c.node-2.ensures c.in-Some.page c.in-Some.slot c.in-Some.ensures.page
+  handing =
+      hand-next c.loop-page.invariant.handing c.node-2.result c.node-2.ensures c.in-Some.page c.in-Some.slot c.in-Some.ensures.page
       c.in-Some.ensures.slot c.node.result c.node.ensures c.take_next.new.self c.in-Some.ensures.slots
       c.put_row.new.lists c.put_row.new.frames c.put_row.ensures c.in-Some.ensures.spare c.in-Some.ensures.count;
 }
 
 pub returns : goal.returns
-returns c = λ old before was.
-    over-end c.args.arena.now old c.take_next.new.self before c.loop-page.frames c.args.leaf.0 c.args.hidden.0 c.args.child.0 c.node-2.result c.node-2.ensures
-    c.loop-page.from
-    (subst (λ (rows : Rows Row). IsHandedUpTo c.args.arena.now old rows before c.loop-page.frames c.args.leaf.0 c.args.hidden.0 c.args.child.0 c.loop-page.from)
-    (sym c.in_default.ensures.none) (c.loop-page.invariant.handing old before was))
+returns c =
+    over-end c.node-2.result c.node-2.ensures c.loop-page.from
+    (subst (λ (rows : Rows Row). IsHandedUpTo c.args.arena.now c.args.lists.now rows c.args.frames.now c.loop-page.frames c.args.leaf.0 c.args.hidden.0 c.args.child.0 c.loop-page.from)
+    (sym c.in_default.ensures.none) c.loop-page.invariant.handing)
     (λ p from. ap (λ (rows : Rows Row). slots_of rows c.node-2.result.list.0 p) c.in_default.ensures.none ∙ c.in_default.ensures.page.none refl p from)

@@ -6,64 +6,56 @@ use Rattle.balanced_tree.specs.Rows.{Rows}
 use Rattle.page_list.specs.declared.row.Row.{Row}
 use Rattle.page_list.specs.Lists.{slots_of}
 use Rattle.cow_arena.specs.declared.node.Node.{Node}
-use Rattle.cow_merge.specs.inside.Lifting.{IsLifting}
-use Rattle.cow_merge.proofs.LiftedLaws.{lifting-with, lifting-settled, lifting-list, row-taken, row-sees-mid, passed-more, left-was, ahead-less, gone-here}
+use Rattle.cow_merge.proofs.LiftedLaws.{lifting-with, lifting-settled, lifting-list, row-taken, row-sees-mid, passed-more, left-was, ahead-less, gone-here, lifted-same, lifted-then}
 use Rattle.cow_merge.proofs.lifting.lift_rows.Goals as goal
+use Rattle.cow_merge.specs.inside.Lifting.{HasLifted}
 
 pub loop-page-init : goal.loop-page-init
-loop-page-init c = record { lifting = λ old before was. was; below = λ p least less. absurd (omega arith); others = λ p row at. at }
+loop-page-init c = record { lifted = lifted-same c.requires; below = λ p least less. absurd (omega arith); others = λ p row at. at }
 
 pub settle-requires-clause-taken : goal.settle-requires-clause-taken
 settle-requires-clause-taken c =
-    let was = lifting-with c.args.arena.now c.args.lists.now c.loop-page.lists c.args.frames.now c.loop-page.frames c.args.leaf.0 c.args.hidden.0 c.args.child.0
-    (c.loop-page.invariant.lifting c.args.lists.now c.args.frames.now c.requires) c.node-above.result c.node-node.result c.node-above.ensures c.node-node.ensures in
-    row-taken c.args.arena.now c.args.lists.now c.loop-page.lists c.take_below.new.lists c.take_below.new.lists c.args.frames.now c.loop-page.frames c.loop-page.frames
+    let was = lifting-with c.loop-page.invariant.lifted.now c.node-above.result c.node-node.result c.node-above.ensures c.node-node.ensures in
+    row-taken c.args.arena.now c.loop-page.lists c.take_below.new.lists c.take_below.new.lists c.loop-page.frames c.loop-page.frames
     c.args.leaf.0 c.args.hidden.0 c.args.child.0 c.in-Some.page c.in-Some.slot was c.in-Some.ensures.slot c.in-Some.ensures.slots
 
 pub settle-requires-clause-seen : goal.settle-requires-clause-seen
 settle-requires-clause-seen c = λ tag left right e seen.
-    let was = lifting-with c.args.arena.now c.args.lists.now c.loop-page.lists c.args.frames.now c.loop-page.frames c.args.leaf.0 c.args.hidden.0 c.args.child.0
-    (c.loop-page.invariant.lifting c.args.lists.now c.args.frames.now c.requires) c.node-above.result c.node-node.result c.node-above.ensures c.node-node.ensures in
-    row-sees-mid c.args.arena.now c.args.lists.now c.loop-page.lists c.take_below.new.lists c.take_below.new.lists c.args.frames.now c.loop-page.frames c.loop-page.frames
+    let was = lifting-with c.loop-page.invariant.lifted.now c.node-above.result c.node-node.result c.node-above.ensures c.node-node.ensures in
+    row-sees-mid c.args.arena.now c.loop-page.lists c.take_below.new.lists c.take_below.new.lists c.loop-page.frames c.loop-page.frames
     c.args.leaf.0 c.args.hidden.0 c.args.child.0 c.in-Some.page c.in-Some.slot was c.in-Some.ensures.slot c.in-Some.ensures.slots tag left right e seen
 
 pub loop-page-smaller : goal.loop-page-smaller
 loop-page-smaller c =
-    let was = lifting-with c.args.arena.now c.args.lists.now c.loop-page.lists c.args.frames.now c.loop-page.frames c.args.leaf.0 c.args.hidden.0 c.args.child.0
-    (c.loop-page.invariant.lifting c.args.lists.now c.args.frames.now c.requires) c.node-above.result c.node-node.result c.node-above.ensures c.node-node.ensures in
+    let was = lifting-with c.loop-page.invariant.lifted.now c.node-above.result c.node-node.result c.node-above.ensures c.node-node.ensures in
     let least = c.in-Some.ensures.page.least c.in-Some.page refl in
     ahead-less (slots_of c.loop-page.lists c.node-above.result.list.0) (slots_of c.settle.new.lists c.node-above.result.list.0) c.loop-page.at c.in-Some.page
     c.in-Some.slot least.0 c.in-Some.ensures.fits c.in-Some.ensures.slot
-    (lifting-list c.args.arena.now c.args.lists.now c.loop-page.lists c.take_below.new.lists c.settle.new.lists c.args.frames.now c.loop-page.frames c.settle.new.frames
+    (lifting-list c.args.arena.now c.loop-page.lists c.take_below.new.lists c.settle.new.lists c.loop-page.frames c.settle.new.frames
     c.args.leaf.0 c.args.hidden.0 c.args.child.0 c.in-Some.page c.in-Some.slot was c.in-Some.ensures.slot c.in-Some.ensures.slots
     c.settle.ensures c.in-Some.page ∙ gone-here _ c.in-Some.page)
 
 pub loop-page-preserved : goal.loop-page-preserved
 loop-page-preserved c =
-    let was = lifting-with c.args.arena.now c.args.lists.now c.loop-page.lists c.args.frames.now c.loop-page.frames c.args.leaf.0 c.args.hidden.0 c.args.child.0
-    (c.loop-page.invariant.lifting c.args.lists.now c.args.frames.now c.requires) c.node-above.result c.node-node.result c.node-above.ensures c.node-node.ensures in
+    let was = lifting-with c.loop-page.invariant.lifted.now c.node-above.result c.node-node.result c.node-above.ensures c.node-node.ensures in
     record {
-      lifting = λ old before start.
-          let now = lifting-with c.args.arena.now old c.loop-page.lists before c.loop-page.frames c.args.leaf.0 c.args.hidden.0 c.args.child.0
-          (c.loop-page.invariant.lifting old before start) c.node-above.result c.node-node.result c.node-above.ensures c.node-node.ensures in
-          lifting-settled c.args.arena.now old c.loop-page.lists c.take_below.new.lists c.settle.new.lists before c.loop-page.frames c.settle.new.frames
-          c.args.leaf.0 c.args.hidden.0 c.args.child.0 c.in-Some.page c.in-Some.slot now c.in-Some.ensures.slot c.in-Some.ensures.slots
-          c.settle.ensures c.in-Some.ensures.count c.in-Some.ensures.spare;
+      lifted = lifted-then c.loop-page.invariant.lifted
+          (lifting-settled c.args.arena.now c.loop-page.lists c.take_below.new.lists c.settle.new.lists c.loop-page.frames c.settle.new.frames
+          c.args.leaf.0 c.args.hidden.0 c.args.child.0 c.in-Some.page c.in-Some.slot was c.in-Some.ensures.slot c.in-Some.ensures.slots
+          c.settle.ensures c.in-Some.ensures.count c.in-Some.ensures.spare);
       below = passed-more (slots_of c.loop-page.lists c.node-above.result.list.0) (slots_of c.settle.new.lists c.node-above.result.list.0) c.args.from c.loop-page.at c.in-Some.page
           c.loop-page.invariant.below c.in-Some.ensures.page
-          (lifting-list c.args.arena.now c.args.lists.now c.loop-page.lists c.take_below.new.lists c.settle.new.lists c.args.frames.now c.loop-page.frames c.settle.new.frames
-          c.args.leaf.0 c.args.hidden.0 c.args.child.0 c.in-Some.page c.in-Some.slot was c.in-Some.ensures.slot c.in-Some.ensures.slots
-          c.settle.ensures);
+          (lifting-list c.args.arena.now c.loop-page.lists c.take_below.new.lists c.settle.new.lists c.loop-page.frames c.settle.new.frames
+          c.args.leaf.0 c.args.hidden.0 c.args.child.0 c.in-Some.page c.in-Some.slot was c.in-Some.ensures.slot c.in-Some.ensures.slots c.settle.ensures);
       others = λ p row at. c.loop-page.invariant.others p row (left-was (slots_of c.loop-page.lists c.node-above.result.list.0) (slots_of c.settle.new.lists c.node-above.result.list.0) c.in-Some.page
-          (lifting-list c.args.arena.now c.args.lists.now c.loop-page.lists c.take_below.new.lists c.settle.new.lists c.args.frames.now c.loop-page.frames c.settle.new.frames
-          c.args.leaf.0 c.args.hidden.0 c.args.child.0 c.in-Some.page c.in-Some.slot was c.in-Some.ensures.slot c.in-Some.ensures.slots
-          c.settle.ensures) p row at);
+          (lifting-list c.args.arena.now c.loop-page.lists c.take_below.new.lists c.settle.new.lists c.loop-page.frames c.settle.new.frames
+          c.args.leaf.0 c.args.hidden.0 c.args.child.0 c.in-Some.page c.in-Some.slot was c.in-Some.ensures.slot c.in-Some.ensures.slots c.settle.ensures) p row at);
     }
 
-pub returns-clause-lifting : goal.returns-clause-lifting
-returns-clause-lifting c = λ old before was.
-    subst (λ (rows : Rows Row). IsLifting c.args.arena.now old rows before c.loop-page.frames c.args.leaf.0 c.args.hidden.0 c.args.child.0)
-    (sym c.in_default.ensures.none) (c.loop-page.invariant.lifting old before was)
+pub returns-clause-lifted : goal.returns-clause-lifted
+returns-clause-lifted c =
+    subst (λ (rows : Rows Row). HasLifted c.args.arena.now c.args.lists.now rows c.args.frames.now c.loop-page.frames c.args.leaf.0 c.args.hidden.0 c.args.child.0)
+    (sym c.in_default.ensures.none) c.loop-page.invariant.lifted
 
 pub returns-clause-empty : goal.returns-clause-empty
 returns-clause-empty c = λ parent at p least less.
@@ -76,7 +68,6 @@ returns-clause-empty c = λ parent at p least less.
 pub returns-clause-others : goal.returns-clause-others
 returns-clause-others c = λ parent at p row there.
     let one : c.node-above.result ≡ parent = some_same (sym c.node-above.ensures ∙ at) in
-    subst (λ (n : Node). slots_of c.args.lists.now n.list.0 p ≡ Some row) one
-    (c.loop-page.invariant.others p row
+    subst (λ (n : Node). slots_of c.args.lists.now n.list.0 p ≡ Some row) one (c.loop-page.invariant.others p row
     (ap (λ (rows : Rows Row). slots_of rows c.node-above.result.list.0 p) (sym c.in_default.ensures.none)
     ∙ subst (λ (n : Node). slots_of c.take_below.new.lists n.list.0 p ≡ Some row) (sym one) there))

@@ -1,18 +1,13 @@
 use Rattle.std.proofs.Common.{◌≡◌, ℕ, ◌<◌, ◌≤◌, None, Some}
-use Rattle.balanced_tree.specs.Rows.{Rows}
-use Rattle.page_list.specs.declared.row.Row.{Row}
 use Rattle.page_list.specs.declared.row.Slot.{Slot}
 use Rattle.page_list.specs.Lists.{slots_of}
-use Rattle.frame_pool.specs.Pool.{Pool}
-use Rattle.cow_merge.specs.inside.Lifting.{IsLifting}
 use Rattle.cow_merge.proofs.LiftedLaws.{still_ahead}
 use Rattle.cow_merge.proofs.lifting.lift_rows.Given as goal
+use Rattle.cow_merge.specs.inside.Lifting.{HasLifted}
 
 abbrev pub invariant-loop-page : goal.invariant-loop-page
 invariant-loop-page l = record {
-  lifting : (old : Rows Row) (before : Pool) →
-      IsLifting l.arena old l.fn.lists before l.fn.frames l.fn.leaf.0 l.fn.hidden.0 l.child.0 →
-      IsLifting l.arena old l.lists before l.frames l.fn.leaf.0 l.fn.hidden.0 l.child.0;
+  lifted : HasLifted l.arena l.fn.lists l.lists l.fn.frames l.frames l.fn.leaf.0 l.fn.hidden.0 l.child.0;
   below : (p : ℕ) → l.from ≤ p → p < l.at → slots_of l.lists l.above.list.0 p ≡ None;
   others : (p : ℕ) (row : Slot) → slots_of l.lists l.above.list.0 p ≡ Some row → slots_of l.fn.lists l.above.list.0 p ≡ Some row;
 }

@@ -1,41 +1,47 @@
 -- Each row that is passed has cut off the page that came to it.
-use Rattle.std.proofs.Common.{◌-◌, sym, ◌∙◌, arith}
+use Rattle.std.proofs.Common.{◌-◌, refl, sym, ◌∙◌, arith}
 use Rattle.cow_arena.specs.Nodes.{nodes_of}
 use Rattle.cow_arena.specs.Forest.{IsForest}
-use Rattle.cow_merge.proofs.PassingLaws.{passing-exact, passing-bare, passing-cut, passing-end}
+use Rattle.cow_merge.proofs.PassingLaws.{passing-bare, passing-cut, passing-end, passing-lost}
 use Rattle.cow_merge.proofs.PassedLaws.{bare-only, bare-hidden, bare-apart}
 use Rattle.cow_merge.proofs.ranges.cut_rows.Goals as goal
+use Rattle.cow_merge.proofs.RangeLaws.{lost-same, lost-then}
+
+pub loop-row-init : goal.loop-row-init
+loop-row-init c = record {
+  from = omega arith;
+  below = omega arith;
+  passing = λ spared was. was;
+  lost = lost-same;
+  others = λ l apart q. refl;
+}
 
 pub returns-clause-passing : goal.returns-clause-passing
-returns-clause-passing c = λ old before spared was.
-    passing-end c.args.arena.now old c.loop-row.lists before c.loop-row.frames c.args.leaf.0 c.args.first c.args.skip spared c.args.above c.args.shift c.args.to c.loop-row.from
-    (c.loop-row.invariant.passing old before spared was) c.in_default.ensures.none
+returns-clause-passing c = λ spared was.
+    passing-end (c.loop-row.invariant.passing spared was) c.in_default.ensures.none
 
 pub cut_off-requires-clause-exact : goal.cut_off-requires-clause-exact
 cut_off-requires-clause-exact c =
     let under = c.requires.passing in
-    passing-exact c.args.arena.now c.args.lists.now c.loop-row.lists c.args.frames.now c.loop-row.frames c.args.leaf.0 c.args.first c.args.skip under.spared c.args.above
-    c.args.shift c.args.to c.loop-row.from (c.loop-row.invariant.passing c.args.lists.now c.args.frames.now under.spared under.passing)
+    (c.loop-row.invariant.passing under.spared under.passing).bare.has
 
 pub cut_off-requires-clause-bare : goal.cut_off-requires-clause-bare
 cut_off-requires-clause-bare c =
     let next = c.in-Some.ensures.next in
     let under = c.requires.passing in
-    passing-bare c.args.arena.now c.args.lists.now c.loop-row.lists c.args.frames.now c.loop-row.frames c.args.leaf.0 c.args.first c.args.skip under.spared c.args.above
-    c.args.shift c.args.to c.loop-row.from (c.loop-row.invariant.passing c.args.lists.now c.args.frames.now under.spared under.passing)
-    (c.in-Some.row - c.args.shift) (omega (arith, next.least))
+    passing-bare (c.loop-row.invariant.passing under.spared under.passing) (c.in-Some.row - c.args.shift) (omega (arith, next.least))
 
 pub cut_off-requires-clause-row : goal.cut_off-requires-clause-row
 cut_off-requires-clause-row c = record { node = c.args.above; at = c.requires.node; row = sym c.in-Some-find.ensures }
 
 pub cut_off-requires-clause-hidden : goal.cut_off-requires-clause-hidden
 cut_off-requires-clause-hidden c =
-    bare-hidden c.args.arena.now c.requires.passing.passing.bare.leaving.exact.forest c.args.leaf.0 c.args.first c.args.shift c.args.node.0 c.args.side c.requires.way
+    bare-hidden c.args.arena.now c.requires.passing.passing.bare.has.exact.forest c.args.leaf.0 c.args.first c.args.shift c.args.node.0 c.args.side c.requires.way
 
 pub cut_off-requires-clause-only : goal.cut_off-requires-clause-only
 cut_off-requires-clause-only c =
     let next = c.in-Some.ensures.next in
-    bare-only c.args.arena.now c.requires.passing.passing.bare.leaving.exact.forest c.args.leaf.0 c.args.first c.args.shift c.args.node.0 c.args.side c.requires.way
+    bare-only c.args.arena.now c.requires.passing.passing.bare.has.exact.forest c.args.leaf.0 c.args.first c.args.shift c.args.node.0 c.args.side c.requires.way
     c.loop-row.lists c.in-Some.row (omega (arith, next.least))
 
 pub loop-row-smaller : goal.loop-row-smaller
@@ -44,17 +50,20 @@ loop-row-smaller c = let next = c.in-Some.ensures.next in omega (arith, next.lea
 pub loop-row-preserved : goal.loop-row-preserved
 loop-row-preserved c =
     let next = c.in-Some.ensures.next in
-    let f : IsForest (nodes_of c.args.arena.now) c.args.arena.now.lists = c.requires.passing.passing.bare.leaving.exact.forest in
+    let f : IsForest (nodes_of c.args.arena.now) c.args.arena.now.lists = c.requires.passing.passing.bare.has.exact.forest in
     record {
       from = omega (arith, next.least);
       below = omega (arith, next.below);
-      passing = λ old before spared was.
-          passing-cut c.args.arena.now old c.loop-row.lists c.cut_off.new.lists before c.loop-row.frames c.cut_off.new.frames c.args.leaf.0 c.args.first c.args.skip spared
-          c.args.above c.args.shift c.args.to c.loop-row.from c.in-Some.row
-          (c.loop-row.invariant.passing old before spared was) c.loop-row.invariant.from next c.args.node.0 c.args.side c.requires.node
+      passing = λ spared was.
+          passing-cut _ _ (c.loop-row.invariant.passing spared was) c.loop-row.invariant.from next c.args.node.0 c.args.side c.requires.node
           (bare-apart c.args.arena.now f c.args.leaf.0 c.args.first c.args.shift c.args.node.0 c.args.side c.requires.way)
           (bare-only c.args.arena.now f c.args.leaf.0 c.args.first c.args.shift c.args.node.0 c.args.side c.requires.way
-          c.loop-row.lists c.in-Some.row (omega (arith, next.least)))
-          c.cut_off.ensures.passed;
+          c.loop-row.lists c.in-Some.row (omega (arith, next.least))) c.cut_off.ensures.passed;
+      lost =
+          let under = c.requires.passing in
+          lost-then c.loop-row.invariant.lost (passing-lost _ _ (c.loop-row.invariant.passing under.spared under.passing) c.loop-row.invariant.from next
+          c.args.node.0 c.args.side c.requires.node (bare-apart c.args.arena.now f c.args.leaf.0 c.args.first c.args.shift c.args.node.0 c.args.side c.requires.way)
+          (bare-only c.args.arena.now f c.args.leaf.0 c.args.first c.args.shift c.args.node.0 c.args.side c.requires.way
+          c.loop-row.lists c.in-Some.row (omega (arith, next.least))) c.cut_off.ensures.passed);
       others = λ l apart q. c.cut_off.ensures.others c.args.above c.requires.node l apart q ∙ c.loop-row.invariant.others l apart q;
     }

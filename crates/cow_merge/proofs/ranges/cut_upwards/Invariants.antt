@@ -1,12 +1,9 @@
 use Rattle.std.proofs.Common.{◌≡◌, ◌+◌, ◌<◌, ◌≤◌, Option, Some}
-use Rattle.balanced_tree.specs.Rows.{Rows}
-use Rattle.page_list.specs.declared.row.Row.{Row}
-use Rattle.frame_pool.specs.Pool.{Pool}
 use Rattle.cow_arena.specs.declared.node.NodeId.{NodeId}
 use Rattle.cow_arena.specs.Nodes.{nodes_of}
 use Rattle.cow_split.specs.Cost.{nodes_up}
 use Rattle.cow_split.specs.Searching.{ComesTo}
-use Rattle.cow_merge.specs.Ranges.{bare_of, IsPassing, KeepsList}
+use Rattle.cow_merge.specs.Ranges.{bare_of, IsPassing, KeepsList, HasLost}
 use Rattle.cow_merge.proofs.ranges.cut_upwards.Given as goal
 
 abbrev pub invariant-loop-node : goal.invariant-loop-node
@@ -14,9 +11,10 @@ invariant-loop-node l = record {
   from : l.from ≡ l.first + l.shift;
   here : nodes_of l.arena l.at.0 ≡ Some l.node;
   way : l.from < l.to → ComesTo (bare_of l.arena) l.leaf.0 l.first l.at.0 l.from;
-  passing : (old : Rows Row) (before : Pool) (spared : Option NodeId) →
-      IsPassing l.arena old l.fn.lists before l.fn.frames l.leaf.0 l.first l.skip spared l.fn.node l.fn.shift l.fn.to l.fn.to →
-      IsPassing l.arena old l.lists before l.frames l.leaf.0 l.first l.skip spared l.node l.shift l.to l.to;
+  passing : (spared : Option NodeId) →
+      IsPassing l.arena l.fn.lists l.fn.frames l.leaf.0 l.first l.skip spared l.fn.node l.fn.shift l.fn.to l.fn.to →
+      IsPassing l.arena l.lists l.frames l.leaf.0 l.first l.skip spared l.node l.shift l.to l.to;
+  lost : HasLost l.arena l.fn.lists l.lists l.fn.frames l.frames l.leaf.0 l.first;
   up : nodes_up (nodes_of l.arena) l.arena.lists l.node.parent ≤ nodes_up (nodes_of l.arena) l.arena.lists l.fn.node.parent;
   kept : KeepsList l.fn.lists l.lists l.fn.node.list.0;
 }

@@ -7,21 +7,22 @@ use Rattle.cow_arena.specs.Walk.{Slots}
 use Rattle.cow_arena.proofs.AlikeLaws.{with_pair-other}
 use Rattle.balanced_tree.specs.Rows.{Rows}
 use Rattle.page_list.specs.declared.row.Row.{Row}
-use Rattle.cow_merge.specs.Ranges.{IsLeftBare}
-use Rattle.cow_merge.proofs.RangeLaws.{visible-of, dropping-start, dropping-taken, dropping-more, dropping-end}
+use Rattle.cow_merge.specs.Ranges.{IsLeftBare, HasLost}
+use Rattle.cow_merge.proofs.RangeLaws.{visible-of, dropping-start, dropping-taken, dropping-more, dropping-end, dropping-lost, lost-same, lost-then}
 use Rattle.cow_merge.proofs.ranges.drop_rows.Goals as goal
 
 pub loop-page-init : goal.loop-page-init
 loop-page-init c = record {
   from = omega arith;
   dropping = dropping-start c.args.arena.now c.args.lists.now c.args.frames.now c.args.leaf.0 c.node-node.result c.args.first c.requires.exact
-      (visible-of c.args.arena.now c.args.leaf.0 c.node-node.result c.requires.leaf c.node-node.ensures);
+      (visible-of c.args.arena.now c.requires.leaf c.node-node.ensures);
+  lost = lost-same;
   others = λ m apart p. refl;
 }
 
 pub give_back_frame-requires : goal.give_back_frame-requires
 give_back_frame-requires c =
-    dropping-taken c.args.arena.now c.args.lists.now c.loop-page.lists c.take_next.new.self c.args.frames.now c.loop-page.frames c.loop-page.frames
+    dropping-taken c.args.arena.now c.loop-page.lists c.take_next.new.self c.loop-page.frames c.loop-page.frames
     c.args.leaf.0 c.node-node.result c.args.first c.loop-page.from c.in-Some.page c.in-Some.slot c.loop-page.invariant.dropping c.in-Some.ensures.slot
 
 pub loop-page-preserved : goal.loop-page-preserved
@@ -29,10 +30,14 @@ loop-page-preserved c =
     let least = c.in-Some.ensures.page.least c.in-Some.page refl in
     record {
       from = omega (arith, least.0);
-      dropping = dropping-more c.args.arena.now c.args.lists.now c.loop-page.lists c.take_next.new.self c.args.frames.now c.loop-page.frames
-          c.give_back_frame.new.frames c.args.leaf.0 c.node-node.result c.args.first c.loop-page.from c.in-Some.page c.in-Some.slot
+      dropping = dropping-more c.args.arena.now c.loop-page.lists c.take_next.new.self c.loop-page.frames c.give_back_frame.new.frames c.args.leaf.0 c.node-node.result c.args.first c.loop-page.from c.in-Some.page c.in-Some.slot
           c.loop-page.invariant.dropping c.in-Some.ensures.slot c.loop-page.invariant.from c.in-Some.ensures.page c.in-Some.ensures.slots
           c.give_back_frame.ensures (omega (arith, c.in-Some.ensures.spare)) (omega (arith, c.in-Some.ensures.count));
+      lost = lost-then c.loop-page.invariant.lost
+          (dropping-lost c.args.arena.now c.loop-page.lists c.take_next.new.self c.loop-page.frames c.give_back_frame.new.frames c.args.leaf.0 c.node-node.result
+          c.args.first c.loop-page.from c.in-Some.page c.in-Some.slot c.loop-page.invariant.dropping c.in-Some.ensures.slot c.loop-page.invariant.from
+          c.in-Some.ensures.page c.in-Some.ensures.slots c.give_back_frame.ensures (omega (arith, c.in-Some.ensures.spare))
+          (omega (arith, c.in-Some.ensures.count)));
       others = λ m apart p.
           ap (λ (x : Slots). x m p) c.in-Some.ensures.slots
           ∙ (with_pair-other (slots_of c.loop-page.lists) c.node-node.result.list.0 c.in-Some.page None m p (λ list _. apart list)
@@ -41,10 +46,14 @@ loop-page-preserved c =
 
 pub returns-clause-bare : goal.returns-clause-bare
 returns-clause-bare c =
-    subst (λ (rows : Rows Row). IsLeftBare c.args.arena.now c.args.lists.now rows c.args.frames.now c.loop-page.frames c.args.leaf.0 c.args.first)
-    (sym c.in_default.ensures.none)
-    (dropping-end c.args.arena.now c.args.lists.now c.loop-page.lists c.args.frames.now c.loop-page.frames c.args.leaf.0 c.node-node.result c.args.first
+    subst (λ (rows : Rows Row). IsLeftBare c.args.arena.now rows c.loop-page.frames c.args.leaf.0 c.args.first) (sym c.in_default.ensures.none)
+    (dropping-end c.args.arena.now c.loop-page.lists c.loop-page.frames c.args.leaf.0 c.node-node.result c.args.first
     c.loop-page.from c.loop-page.invariant.dropping c.loop-page.invariant.from c.in_default.ensures.page)
+
+pub returns-clause-lost : goal.returns-clause-lost
+returns-clause-lost c =
+    subst (λ (rows : Rows Row). HasLost c.args.arena.now c.args.lists.now rows c.args.frames.now c.loop-page.frames c.args.leaf.0 c.args.first)
+    (sym c.in_default.ensures.none) c.loop-page.invariant.lost
 
 pub returns-clause-others : goal.returns-clause-others
 returns-clause-others c = λ node at l apart p.

@@ -5,8 +5,8 @@ use Rattle.vm_base.proofs.EntryLaws.{some_same}
 use Rattle.cow_arena.specs.declared.node.Node.{Node}
 use Rattle.cow_arena.specs.Ways.{Reaches}
 use Rattle.cow_merge.specs.Ranges.{bare_of, no_pages, IsOnItsWayUp}
-use Rattle.cow_merge.proofs.RangeLaws.{visible-of}
-use Rattle.cow_merge.proofs.PassingLaws.{no-parent, passing-start, passing-parent, passing-top, passing-again, sparing-none}
+use Rattle.cow_merge.proofs.RangeLaws.{visible-of, lost-then}
+use Rattle.cow_merge.proofs.PassingLaws.{no-parent, passing-start, passing-parent, passing-top, sparing-none}
 use Rattle.cow_merge.proofs.CloseLaws.{root-of, family-of}
 use Rattle.cow_merge.proofs.PassedLaws.{bare-up}
 use Rattle.cow_merge.proofs.JumpingLaws.{jumps-left}
@@ -14,37 +14,24 @@ use Rattle.cow_merge.proofs.ranges.leave_out.Goals as goal
 
 pub returns-in_default-clause-left : goal.returns-in_default-clause-left
 returns-in_default-clause-left c = λ node at.
-    sparing-none c.args.arena.now c.args.lists.now c.drop_rows.new.lists c.args.frames.now c.drop_rows.new.frames c.args.leaf.0 c.args.first node at
-    (passing-top c.args.arena.now c.args.lists.now c.drop_rows.new.lists c.args.frames.now c.drop_rows.new.frames c.args.leaf.0 c.args.first no_pages None
-    c.node-node.result 0 c.node-node.result.seen
-    (passing-start c.args.arena.now c.args.lists.now c.drop_rows.new.lists c.args.frames.now c.drop_rows.new.frames c.args.leaf.0 c.args.first
-    c.node-node.result c.drop_rows.ensures.bare c.node-node.ensures)
+    sparing-none at c.drop_rows.ensures.lost (passing-top (passing-start c.drop_rows.ensures.bare c.node-node.ensures)
     (λ parent is q from one two apart. no-parent c.node-node.result.parent parent
     (root-of c.node-node.result c.sibling.result (c.sibling.ensures.root c.node-node.result c.node-node.ensures) c.in_default.is-1) is))
 
 pub returns-in_default-2-clause-left : goal.returns-in_default-2-clause-left
 returns-in_default-2-clause-left c = λ node at.
-    sparing-none c.args.arena.now c.args.lists.now c.drop_rows.new.lists c.args.frames.now c.drop_rows.new.frames c.args.leaf.0 c.args.first node at
-    (passing-top c.args.arena.now c.args.lists.now c.drop_rows.new.lists c.args.frames.now c.drop_rows.new.frames c.args.leaf.0 c.args.first no_pages None
-    c.node-node.result 0 c.node-node.result.seen
-    (passing-start c.args.arena.now c.args.lists.now c.drop_rows.new.lists c.args.frames.now c.drop_rows.new.frames c.args.leaf.0 c.args.first
-    c.node-node.result c.drop_rows.ensures.bare c.node-node.ensures)
+    sparing-none at c.drop_rows.ensures.lost (passing-top (passing-start c.drop_rows.ensures.bare c.node-node.ensures)
     (λ parent is q from one two apart. absurd (let root = c.sibling.ensures.root c.node-node.result c.node-node.ensures in cc)))
 
 pub returns-then-node-first-clause-left : goal.returns-then-node-first-clause-left
 returns-then-node-first-clause-left c = λ node at.
-    sparing-none c.args.arena.now c.args.lists.now c.drop_rows.new.lists c.args.frames.now c.drop_rows.new.frames c.args.leaf.0 c.args.first node at
-    (passing-top c.args.arena.now c.args.lists.now c.drop_rows.new.lists c.args.frames.now c.drop_rows.new.frames c.args.leaf.0 c.args.first no_pages None
-    c.node-node.result 0 c.node-node.result.seen
-    (passing-start c.args.arena.now c.args.lists.now c.drop_rows.new.lists c.args.frames.now c.drop_rows.new.frames c.args.leaf.0 c.args.first
-    c.node-node.result c.drop_rows.ensures.bare c.node-node.ensures)
+    sparing-none at c.drop_rows.ensures.lost (passing-top (passing-start c.drop_rows.ensures.bare c.node-node.ensures)
     (λ parent is q from one two apart. absurd (omega arith)))
 
 pub node-above-requires : goal.node-above-requires
 node-above-requires c =
-    let visible = visible-of c.args.arena.now c.args.leaf.0 c.node-node.result c.requires.leaf c.node-node.ensures in
-    let of = family-of c.args.arena.now c.requires.exact.forest c.args.leaf.0 c.node-node.result visible c.in-Some-Some.hidden c.in-Some-Some.sibling
-    c.in-Some-Some.is-0 (sym c.in-Some-Some.is-1 ∙ c.sibling.ensures.sibling) in
+    let visible = visible-of c.args.arena.now c.requires.leaf c.node-node.ensures in
+    let of = family-of c.args.arena.now c.requires.exact.forest visible c.in-Some-Some.is-0 (sym c.in-Some-Some.is-1 ∙ c.sibling.ensures.sibling) in
     ap is_some of.family.parent_at
 
 pub overflow_add-to : goal.overflow_add-to
@@ -56,9 +43,7 @@ overflow_add-to c =
 pub cut_rows-requires-clause-passing : goal.cut_rows-requires-clause-passing
 cut_rows-requires-clause-passing c = record {
   spared = None;
-  passing = passing-again c.args.arena.now c.args.lists.now c.drop_rows.new.lists c.args.frames.now c.drop_rows.new.frames c.args.leaf.0 c.args.first _ _ _ _ _ _
-      (passing-parent c.args.arena.now c.args.lists.now c.drop_rows.new.lists c.args.frames.now c.drop_rows.new.frames c.args.leaf.0 c.args.first
-      c.node-node.result c.in-Some-Some.hidden c.node-above.result c.drop_rows.ensures.bare c.node-node.ensures c.in-Some-Some.is-0 c.node-above.ensures);
+  passing = (passing-parent c.drop_rows.ensures.bare c.node-node.ensures c.in-Some-Some.is-0 c.node-above.ensures);
 }
 
 pub cut_rows-requires-clause-way : goal.cut_rows-requires-clause-way
@@ -72,20 +57,15 @@ cut_rows-requires-clause-way c =
 pub leave_out_further-requires-clause-passing : goal.leave_out_further-requires-clause-passing
 leave_out_further-requires-clause-passing c = λ above at.
     subst (λ (n : Node). IsOnItsWayUp c.args.arena.now c.cut_rows.new.lists c.cut_rows.new.frames c.args.leaf.0 c.args.first no_pages n c.node-node.result.first
-    (c.node-node.result.first + c.node-node.result.seen) (c.node-node.result.first + c.node-node.result.seen))
-    (some_same (sym c.node-above.ensures ∙ at)) (record {
+    (c.node-node.result.first + c.node-node.result.seen) (c.node-node.result.first + c.node-node.result.seen)) (some_same (sym c.node-above.ensures ∙ at)) (record {
       spared = None;
-      passing = passing-again c.args.arena.now c.args.lists.now c.cut_rows.new.lists c.args.frames.now c.cut_rows.new.frames c.args.leaf.0 c.args.first _ _ _ _ _ _
-          (c.cut_rows.ensures.passing c.args.lists.now c.args.frames.now None
-          (passing-parent c.args.arena.now c.args.lists.now c.drop_rows.new.lists c.args.frames.now c.drop_rows.new.frames c.args.leaf.0 c.args.first
-          c.node-node.result c.in-Some-Some.hidden c.node-above.result c.drop_rows.ensures.bare c.node-node.ensures c.in-Some-Some.is-0 c.node-above.ensures));
+      passing = (c.cut_rows.ensures.passing None
+          (passing-parent c.drop_rows.ensures.bare c.node-node.ensures c.in-Some-Some.is-0 c.node-above.ensures));
     })
 
 pub leave_out_further-requires-clause-family : goal.leave_out_further-requires-clause-family
 leave_out_further-requires-clause-family c =
-    family-of c.args.arena.now c.requires.exact.forest c.args.leaf.0 c.node-node.result
-    (visible-of c.args.arena.now c.args.leaf.0 c.node-node.result c.requires.leaf c.node-node.ensures) c.in-Some-Some.hidden c.in-Some-Some.sibling
-    c.in-Some-Some.is-0 (sym c.in-Some-Some.is-1 ∙ c.sibling.ensures.sibling)
+    family-of c.args.arena.now c.requires.exact.forest (visible-of c.args.arena.now c.requires.leaf c.node-node.ensures) c.in-Some-Some.is-0 (sym c.in-Some-Some.is-1 ∙ c.sibling.ensures.sibling)
 
 pub leave_out_further-requires-clause-range : goal.leave_out_further-requires-clause-range
 leave_out_further-requires-clause-range c =
@@ -102,36 +82,29 @@ leave_out_further-requires-clause-end c = λ node at.
 
 pub returns-clause-left : goal.returns-clause-left
 returns-clause-left c = λ node at.
-    sparing-none c.args.arena.now c.args.lists.now c.leave_out_further.new.lists c.args.frames.now c.leave_out_further.new.frames c.args.leaf.0 c.args.first node at
-    (c.leave_out_further.ensures.sparing c.args.lists.now c.args.frames.now None c.node-above.result c.node-above.ensures
-    (c.cut_rows.ensures.passing c.args.lists.now c.args.frames.now None
-    (passing-parent c.args.arena.now c.args.lists.now c.drop_rows.new.lists c.args.frames.now c.drop_rows.new.frames c.args.leaf.0 c.args.first
-    c.node-node.result c.in-Some-Some.hidden c.node-above.result c.drop_rows.ensures.bare c.node-node.ensures c.in-Some-Some.is-0 c.node-above.ensures)))
+    sparing-none at (lost-then (lost-then c.drop_rows.ensures.lost c.cut_rows.ensures.lost) c.leave_out_further.ensures.lost)
+    (c.leave_out_further.ensures.sparing None c.node-above.result c.node-above.ensures (c.cut_rows.ensures.passing None
+    (passing-parent c.drop_rows.ensures.bare c.node-node.ensures c.in-Some-Some.is-0 c.node-above.ensures)))
 
 -- ---- the rows that are left stood there
 
 pub returns-in_default-clause-part : goal.returns-in_default-clause-part
-returns-in_default-clause-part c = c.drop_rows.ensures.bare.leaving.part
+returns-in_default-clause-part c = c.drop_rows.ensures.lost.part
 
 pub returns-in_default-2-clause-part : goal.returns-in_default-2-clause-part
-returns-in_default-2-clause-part c = c.drop_rows.ensures.bare.leaving.part
+returns-in_default-2-clause-part c = c.drop_rows.ensures.lost.part
 
 pub returns-then-node-first-clause-part : goal.returns-then-node-first-clause-part
-returns-then-node-first-clause-part c = c.drop_rows.ensures.bare.leaving.part
+returns-then-node-first-clause-part c = c.drop_rows.ensures.lost.part
 
 pub returns-clause-part : goal.returns-clause-part
 returns-clause-part c =
-    (c.leave_out_further.ensures.sparing c.args.lists.now c.args.frames.now None c.node-above.result c.node-above.ensures
-    (c.cut_rows.ensures.passing c.args.lists.now c.args.frames.now None
-    (passing-parent c.args.arena.now c.args.lists.now c.drop_rows.new.lists c.args.frames.now c.drop_rows.new.frames c.args.leaf.0 c.args.first
-    c.node-node.result c.in-Some-Some.hidden c.node-above.result c.drop_rows.ensures.bare c.node-node.ensures c.in-Some-Some.is-0 c.node-above.ensures))).bare.leaving.part
+    (lost-then (lost-then c.drop_rows.ensures.lost c.cut_rows.ensures.lost) c.leave_out_further.ensures.lost).part
 
 -- ---- the jumps
 
 pub leave_out_further-requires-clause-jumps : goal.leave_out_further-requires-clause-jumps
 leave_out_further-requires-clause-jumps c =
-    jumps-left c.args.arena.now c.args.lists.now c.cut_rows.new.lists c.args.frames.now c.cut_rows.new.frames c.args.leaf.0 c.args.first
-    (c.cut_rows.ensures.passing c.args.lists.now c.args.frames.now None
-    (passing-parent c.args.arena.now c.args.lists.now c.drop_rows.new.lists c.args.frames.now c.drop_rows.new.frames c.args.leaf.0 c.args.first
-    c.node-node.result c.in-Some-Some.hidden c.node-above.result c.drop_rows.ensures.bare c.node-node.ensures c.in-Some-Some.is-0 c.node-above.ensures)).bare
+    jumps-left (c.cut_rows.ensures.passing None (passing-parent c.drop_rows.ensures.bare c.node-node.ensures c.in-Some-Some.is-0 c.node-above.ensures)).bare.has
+    (lost-then c.drop_rows.ensures.lost c.cut_rows.ensures.lost)
     _ c.requires.jumps

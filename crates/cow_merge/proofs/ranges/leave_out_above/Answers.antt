@@ -3,9 +3,10 @@ use Rattle.std.proofs.Common.{◌≡◌, ◌+◌, ◌≤◌, Some, sym, ap, subs
 use Rattle.vm_base.proofs.EntryLaws.{some_same}
 use Rattle.page_list.specs.Lists.{slots_of}
 use Rattle.cow_arena.specs.declared.node.Node.{Node}
-use Rattle.cow_merge.proofs.PassingLaws.{passing-above, passing-again, above-there, above-fits, above-parent, above-visible, above-list}
+use Rattle.cow_merge.proofs.PassingLaws.{passing-above, above-there, above-fits, above-parent, above-visible, above-list}
 use Rattle.cow_merge.proofs.JumpingLaws.{jumps-left}
 use Rattle.cow_merge.proofs.ranges.leave_out_above.Goals as goal
+use Rattle.cow_merge.proofs.RangeLaws.{lost-then}
 
 pub drop_rows-requires-clause-leaf : goal.drop_rows-requires-clause-leaf
 drop_rows-requires-clause-leaf c = above-visible c.args.arena.now c.args.leaf.0 c.args.hidden c.requires.leaf
@@ -22,9 +23,7 @@ overflow_add-to c =
 pub leave_out_further-requires-clause-passing : goal.leave_out_further-requires-clause-passing
 leave_out_further-requires-clause-passing c = λ above at. record {
   spared = Some c.args.hidden;
-  passing = passing-again c.args.arena.now c.args.lists.now c.drop_rows.new.lists c.args.frames.now c.drop_rows.new.frames c.args.leaf.0 0 _ _ _ _ _ _
-      (passing-above c.args.arena.now c.args.lists.now c.drop_rows.new.lists c.args.frames.now c.drop_rows.new.frames c.args.leaf.0
-      c.node-node.result c.args.hidden above c.drop_rows.ensures.bare c.node-node.ensures
+  passing = (passing-above c.drop_rows.ensures.bare c.node-node.ensures
       (above-parent c.args.arena.now c.args.leaf.0 c.args.hidden c.node-node.result c.requires.leaf c.node-node.ensures) at);
 }
 
@@ -37,9 +36,7 @@ leave_out_further-requires-clause-end c = λ node at.
 
 pub returns-clause-sparing : goal.returns-clause-sparing
 returns-clause-sparing c =
-    c.leave_out_further.ensures.sparing c.args.lists.now c.args.frames.now (Some c.args.hidden) c.node-above.result c.node-above.ensures
-    (passing-above c.args.arena.now c.args.lists.now c.drop_rows.new.lists c.args.frames.now c.drop_rows.new.frames c.args.leaf.0
-    c.node-node.result c.args.hidden c.node-above.result c.drop_rows.ensures.bare c.node-node.ensures
+    c.leave_out_further.ensures.sparing (Some c.args.hidden) c.node-above.result c.node-above.ensures (passing-above c.drop_rows.ensures.bare c.node-node.ensures
     (above-parent c.args.arena.now c.args.leaf.0 c.args.hidden c.node-node.result c.requires.leaf c.node-node.ensures) c.node-above.ensures)
 
 pub returns-clause-kept : goal.returns-clause-kept
@@ -53,5 +50,8 @@ returns-clause-kept c = λ above at q.
 
 pub leave_out_further-requires-clause-jumps : goal.leave_out_further-requires-clause-jumps
 leave_out_further-requires-clause-jumps c =
-    jumps-left c.args.arena.now c.args.lists.now c.drop_rows.new.lists c.args.frames.now c.drop_rows.new.frames c.args.leaf.0 0 c.drop_rows.ensures.bare _
-    c.requires.jumps
+    jumps-left c.drop_rows.ensures.bare.has c.drop_rows.ensures.lost _ c.requires.jumps
+
+pub returns-clause-lost : goal.returns-clause-lost
+returns-clause-lost c =
+    lost-then c.drop_rows.ensures.lost c.leave_out_further.ensures.lost

@@ -6,9 +6,9 @@ use Rattle.page_list.specs.Lists.{slots_of}
 use Rattle.cow_arena.specs.declared.node.Node.{Node}
 use Rattle.cow_arena.specs.Nodes.{side_of}
 use Rattle.cow_merge.specs.Ranges.{no_pages, IsPassing}
-use Rattle.cow_merge.proofs.PassingLaws.{passing-again}
 use Rattle.cow_merge.proofs.PassedLaws.{bare-up}
 use Rattle.cow_merge.proofs.ranges.leave_out_further.Goals as goal
+use Rattle.cow_merge.proofs.RangeLaws.{lost-then}
 
 pub node-above-requires : goal.node-above-requires
 node-above-requires c = ap is_some c.requires.family.family.parent_at
@@ -18,9 +18,7 @@ cut_upwards-requires-clause-passing c =
     let under = c.requires.passing c.node-above.result c.node-above.ensures in
     record {
       spared = under.spared;
-      passing = passing-again c.args.arena.now c.args.lists.now c.leave_out_beside-skip.new.lists c.args.frames.now c.leave_out_beside-skip.new.frames c.args.leaf.0
-          c.args.first c.leave_out_beside-skip.result under.spared c.node-above.result c.args.shift c.args.to c.args.to
-          (c.leave_out_beside-skip.ensures.passing c.args.lists.now c.args.frames.now under.spared c.node-above.result c.node-above.ensures under.passing);
+      passing = (c.leave_out_beside-skip.ensures.passing under.spared c.node-above.result c.node-above.ensures under.passing);
     }
 
 pub cut_upwards-requires-clause-way : goal.cut_upwards-requires-clause-way
@@ -31,16 +29,15 @@ cut_upwards-requires-clause-way c = λ less.
     let under = c.requires.passing c.node-above.result c.node-above.ensures in
     record {
       side = Some (side_of c.node-above.result c.args.leaf.0);
-      way = bare-up c.args.arena.now under.passing.bare.leaving.exact.forest c.args.leaf.0 c.args.first c.args.leaf.0 c.args.hidden of.node c.node-above.result
+      way = bare-up c.args.arena.now under.passing.bare.has.exact.forest c.args.leaf.0 c.args.first c.args.leaf.0 c.args.hidden of.node c.node-above.result
           c.args.first (c.args.first + c.args.shift) of.family.at of.family.parent_is c.node-above.ensures (omega arith) (omega arith)
           (record { side = None; way = (refl, refl) });
     }
 
 pub returns-clause-sparing : goal.returns-clause-sparing
-returns-clause-sparing c = λ old before spared above at was.
-    c.cut_upwards.ensures.sparing old before spared
-    (c.leave_out_beside-skip.ensures.passing old before spared c.node-above.result c.node-above.ensures
-    (subst (λ (n : Node). IsPassing c.args.arena.now old c.args.lists.now before c.args.frames.now c.args.leaf.0 c.args.first no_pages spared n c.args.shift c.args.to c.args.to)
+returns-clause-sparing c = λ spared above at was.
+    c.cut_upwards.ensures.sparing spared (c.leave_out_beside-skip.ensures.passing spared c.node-above.result c.node-above.ensures
+    (subst (λ (n : Node). IsPassing c.args.arena.now c.args.lists.now c.args.frames.now c.args.leaf.0 c.args.first no_pages spared n c.args.shift c.args.to c.args.to)
     (some_same (sym at ∙ c.node-above.ensures)) was))
 
 pub returns-clause-kept : goal.returns-clause-kept
@@ -48,3 +45,7 @@ returns-clause-kept c = λ above at q.
     let same : c.node-above.result ≡ above = some_same (sym c.node-above.ensures ∙ at) in
     subst (λ (n : Node). slots_of c.cut_upwards.new.lists n.list.0 q ≡ slots_of c.args.lists.now n.list.0 q) same
     (c.cut_upwards.ensures.kept q ∙ c.leave_out_beside-skip.ensures.kept c.node-above.result c.node-above.ensures q)
+
+pub returns-clause-lost : goal.returns-clause-lost
+returns-clause-lost c =
+    lost-then c.leave_out_beside-skip.ensures.lost c.cut_upwards.ensures.lost

@@ -4,14 +4,14 @@ use Rattle.balanced_tree.specs.Pairs.{IsNext}
 use Rattle.page_list.specs.declared.row.ListId.{ListId}
 use Rattle.page_list.specs.Lists.{slots_of}
 use Rattle.cow_split.specs.Trees.{tree_of}
-use Rattle.cow_merge.proofs.LiftedLaws.{lifting-again, lifting-found}
 use Rattle.cow_merge.proofs.SharingLaws.{down-row, down-end}
 use Rattle.cow_merge.proofs.sharing.settle_under.Goals as goal
+use Rattle.cow_merge.proofs.LiftedLaws.{below-found, lifted-same, lifted-then}
 
 pub loop-page-init : goal.loop-page-init
 loop-page-init c = record {
   from = omega arith;
-  lifting = λ old before was. was;
+  lifted = lifted-same c.requires.lifting;
   others = λ parent at p row there. there;
   down = λ parent side seen at was. was;
 }
@@ -29,9 +29,7 @@ overflow_add-at-in-Some c =
     omega arith
 
 pub lift_rows-requires : goal.lift_rows-requires
-lift_rows-requires c =
-    lifting-again c.args.arena.now c.args.lists.now c.loop-page.lists c.args.frames.now c.loop-page.frames c.args.leaf.0 c.args.hidden.0 c.args.child.0
-    (c.loop-page.invariant.lifting c.args.lists.now c.args.frames.now c.requires.lifting)
+lift_rows-requires c = c.loop-page.invariant.lifted.now
 
 pub loop-page-smaller : goal.loop-page-smaller
 loop-page-smaller c =
@@ -44,23 +42,20 @@ loop-page-preserved c =
     let least = c.in-Some.ensures.next.least c.in-Some.page refl in
     record {
       from = omega (arith, least.0, c.loop-page.invariant.from);
-      lifting = λ old before was. c.lift_rows.ensures.lifting old before (c.loop-page.invariant.lifting old before was);
+      lifted = lifted-then c.loop-page.invariant.lifted c.lift_rows.ensures.lifted;
       others = λ parent at p row there. c.loop-page.invariant.others parent at p row (c.lift_rows.ensures.others parent at p row there);
       down = λ parent side seen at was.
           let it = c.loop-page.invariant.down parent side seen at was in
-          let now = lifting-found c.args.arena.now c.loop-page.lists c.lift_rows.new.lists c.loop-page.frames c.lift_rows.new.frames c.args.leaf.0 c.args.hidden.0 c.args.child.0
-          (c.lift_rows.ensures.lifting c.loop-page.lists c.loop-page.frames
-          (lifting-again c.args.arena.now c.args.lists.now c.loop-page.lists c.args.frames.now c.loop-page.frames c.args.leaf.0 c.args.hidden.0 c.args.child.0
-          (c.loop-page.invariant.lifting c.args.lists.now c.args.frames.now c.requires.lifting))) parent at in
+          let now = c.lift_rows.ensures.lifted.now in
           down-row (tree_of c.args.arena.now c.loop-page.lists) now.lifted.exact.forest (slots_of c.lift_rows.new.lists) parent now.of.sibling c.args.child.0
-          now.of.family.sibling_at now.lifted.rows (c.lift_rows.ensures.others parent at) seen side c.args.way c.loop-page.from it c.in-Some.page
+          now.of.family.sibling_at
+          (below-found c.lift_rows.ensures.lifted parent at) (c.lift_rows.ensures.others parent at) seen side c.args.way c.loop-page.from it c.in-Some.page
           (subst (λ (l : ListId). IsNext (slots_of c.loop-page.lists l.0) c.loop-page.from (Some c.in-Some.page)) (c.requires.list it.node it.node_at)
-          c.in-Some.ensures.next)
-          (c.lift_rows.ensures.empty parent at (c.in-Some.page + c.args.way.shift) (omega arith) (omega arith));
+          c.in-Some.ensures.next) (c.lift_rows.ensures.empty parent at (c.in-Some.page + c.args.way.shift) (omega arith) (omega arith));
     }
 
-pub returns-clause-lifting : goal.returns-clause-lifting
-returns-clause-lifting c = c.loop-page.invariant.lifting
+pub returns-clause-lifted : goal.returns-clause-lifted
+returns-clause-lifted c = c.loop-page.invariant.lifted
 
 pub returns-clause-others : goal.returns-clause-others
 returns-clause-others c = c.loop-page.invariant.others
@@ -69,5 +64,4 @@ pub returns-clause-down : goal.returns-clause-down
 returns-clause-down c = λ parent side seen at was.
     let it = c.loop-page.invariant.down parent side seen at was in
     down-end (tree_of c.args.arena.now c.loop-page.lists) parent.list.0 c.args.child.0 seen side c.args.way c.loop-page.from it
-    (λ p from below. subst (λ (l : ListId). slots_of c.loop-page.lists l.0 p ≡ None) (c.requires.list it.node it.node_at)
-    (c.in_default.ensures.none p from below))
+    (λ p from below. subst (λ (l : ListId). slots_of c.loop-page.lists l.0 p ≡ None) (c.requires.list it.node it.node_at) (c.in_default.ensures.none p from below))

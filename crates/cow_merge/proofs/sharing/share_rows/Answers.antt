@@ -10,9 +10,9 @@ use Rattle.cow_arena.proofs.ReachLaws.{child-there, side-of-child}
 use Rattle.cow_split.specs.Trees.{tree_of}
 use Rattle.cow_merge.specs.inside.Sharing.{AreShared}
 use Rattle.cow_merge.proofs.BesideLaws.{left-there, right-there, hidden-there, no-koid_of}
-use Rattle.cow_merge.proofs.LiftedLaws.{lifting-again, lifting-found}
 use Rattle.cow_merge.proofs.SharingLaws.{reached-kept, shared-visible, shared-both}
 use Rattle.cow_merge.proofs.sharing.share_rows.Goals as goal
+use Rattle.cow_merge.proofs.LiftedLaws.{below-found, lifted-same, lifted-then}
 
 pub node-node-requires : goal.node-node-requires
 node-node-requires c = ap is_some c.requires.lifting.of.family.sibling_at
@@ -46,12 +46,15 @@ share_side-other-requires-clause-below c =
     c.node-node.ensures c.in-Some-right.is
 
 pub share_side-other-requires-clause-lifting : goal.share_side-other-requires-clause-lifting
-share_side-other-requires-clause-lifting c =
-    lifting-again c.args.arena.now c.args.lists.now c.share_side-one.new.lists c.args.frames.now c.share_side-one.new.frames c.args.leaf.0 c.args.hidden.0 c.args.child.0
-    (c.share_side-one.ensures.lifting c.args.lists.now c.args.frames.now c.requires.lifting)
+share_side-other-requires-clause-lifting c = c.share_side-one.ensures.lifted.now
 
-pub returns-clause-lifting : goal.returns-clause-lifting
-returns-clause-lifting c = λ old before was. c.share_side-other.ensures.lifting old before (c.share_side-one.ensures.lifting old before was)
+pub returns-then-is_some-clause-lifted : goal.returns-then-is_some-clause-lifted
+returns-then-is_some-clause-lifted c =
+    lifted-same c.requires.lifting
+
+pub returns-clause-lifted : goal.returns-clause-lifted
+returns-clause-lifted c =
+    lifted-then c.share_side-one.ensures.lifted c.share_side-other.ensures.lifted
 
 pub returns-clause-others : goal.returns-clause-others
 returns-clause-others c = λ parent at p row there. c.share_side-one.ensures.others parent at p row (c.share_side-other.ensures.others parent at p row there)
@@ -60,20 +63,16 @@ pub returns-clause-shared : goal.returns-clause-shared
 returns-clause-shared c = λ parent node at there.
     let f = c.requires.lifting.lifted.exact.forest in
     let same : c.node-node.result ≡ node = some_same (sym c.node-node.ensures ∙ there) in
-    let now = lifting-found c.args.arena.now c.share_side-one.new.lists c.share_side-other.new.lists c.share_side-one.new.frames c.share_side-other.new.frames
-    c.args.leaf.0 c.args.hidden.0 c.args.child.0
-    (c.share_side-other.ensures.lifting c.share_side-one.new.lists c.share_side-one.new.frames
-    (lifting-again c.args.arena.now c.args.lists.now c.share_side-one.new.lists c.args.frames.now c.share_side-one.new.frames c.args.leaf.0 c.args.hidden.0 c.args.child.0
-    (c.share_side-one.ensures.lifting c.args.lists.now c.args.frames.now c.requires.lifting))) parent at in
+    let now = c.share_side-other.ensures.lifted.now in
     subst (λ (n : Node). AreShared (tree_of c.args.arena.now c.share_side-other.new.lists) parent.list.0 c.args.child.0 n
     (record { from = c.max.result; to = c.min.result })) same
     (shared-both (tree_of c.args.arena.now c.share_side-other.new.lists) parent.list.0 c.args.child.0 c.node-node.result c.share_side-one.result c.share_side-other.result
     (record { from = c.max.result; to = c.min.result })
     (reached-kept (tree_of c.args.arena.now c.share_side-one.new.lists) f (slots_of c.share_side-other.new.lists) parent now.of.sibling c.args.child.0
-    now.of.family.sibling_at now.lifted.rows (c.share_side-other.ensures.others parent at) side.Left c.node-node.result.seen c.share_side-one.result
+    now.of.family.sibling_at
+    (below-found c.share_side-other.ensures.lifted parent at) (c.share_side-other.ensures.others parent at) side.Left c.node-node.result.seen c.share_side-one.result
     (c.share_side-one.ensures.reached parent side.Left at
     (side-of-child (nodes_of c.args.arena.now) c.args.arena.now.lists f c.args.child.0 c.in-Some.left.0 c.node-node.result side.Left c.node-node.ensures c.in-Some.is)))
     (c.share_side-other.ensures.reached parent side.Right at
     (side-of-child (nodes_of c.args.arena.now) c.args.arena.now.lists f c.args.child.0 c.in-Some-right.right.0 c.node-node.result side.Right c.node-node.ensures
-    c.in-Some-right.is))
-    (omega (arith, c.max.ensures)) (omega (arith, c.max.ensures)) (omega (arith, c.min.ensures)) (omega (arith, c.min.ensures)))
+    c.in-Some-right.is)) (omega (arith, c.max.ensures)) (omega (arith, c.max.ensures)) (omega (arith, c.min.ensures)) (omega (arith, c.min.ensures)))

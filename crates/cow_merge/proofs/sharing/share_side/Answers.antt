@@ -5,16 +5,16 @@ use Rattle.vm_base.proofs.EntryLaws.{some_same}
 use Rattle.cow_arena.specs.declared.node.Node.{Node}
 use Rattle.cow_split.specs.Trees.{tree_of}
 use Rattle.cow_merge.proofs.BesideLaws.{hidden-there, no-koid_of}
-use Rattle.cow_merge.proofs.LiftedLaws.{lifting-again}
 use Rattle.cow_merge.proofs.SharingLaws.{side-there, down-start, down-further, down-witness, down-none, down-fits}
 use Rattle.cow_merge.proofs.sharing.share_side.Goals as goal
+use Rattle.cow_merge.proofs.LiftedLaws.{lifted-same, lifted-then}
 
 pub enter-way-requires : goal.enter-way-requires
 enter-way-requires c = record { child = ap is_some c.requires.below.at }
 
 pub loop-left-init : goal.loop-left-init
 loop-left-init c = record {
-  lifting = λ old before was. was;
+  lifted = lifted-same c.requires.lifting;
   others = λ parent at p row there. there;
   down = λ parent side at is.
       down-start (tree_of c.args.arena.now c.args.lists.now) c.requires.lifting.lifted.exact.forest parent.list.0 c.args.child.0 c.args.seen (omega arith) side
@@ -28,9 +28,7 @@ node-node-requires c =
     ap is_some (c.loop-left.invariant.down of.parent side.0 of.family.parent_at side.1).node_at
 
 pub settle_under-requires-clause-lifting : goal.settle_under-requires-clause-lifting
-settle_under-requires-clause-lifting c =
-    lifting-again c.args.arena.now c.args.lists.now c.loop-left.lists c.args.frames.now c.loop-left.frames c.args.leaf.0 c.args.hidden.0 c.args.child.0
-    (c.loop-left.invariant.lifting c.args.lists.now c.args.frames.now c.requires.lifting)
+settle_under-requires-clause-lifting c = c.loop-left.invariant.lifted.now
 
 pub settle_under-requires-clause-list : goal.settle_under-requires-clause-list
 settle_under-requires-clause-list c = λ node at. ap (λ (n : Node). n.list) (some_same (sym c.node-node.ensures ∙ at))
@@ -65,7 +63,7 @@ enter-way-requires-in-loop-left c = record { child = ap is_some c.wider-next.ens
 
 pub loop-left-preserved : goal.loop-left-preserved
 loop-left-preserved c = record {
-  lifting = λ old before was. c.settle_under.ensures.lifting old before (c.loop-left.invariant.lifting old before was);
+  lifted = lifted-then c.loop-left.invariant.lifted c.settle_under.ensures.lifted;
   others = λ parent at p row there. c.loop-left.invariant.others parent at p row (c.settle_under.ensures.others parent at p row there);
   down = λ parent side at is.
       down-further (tree_of c.args.arena.now c.settle_under.new.lists) c.requires.lifting.lifted.exact.forest parent.list.0 c.args.child.0 c.args.seen (omega arith) side
@@ -79,8 +77,9 @@ returns-else-way-clause-reached c = λ parent side at is. down-none (tree_of c.a
 pub returns-after-loop-left-clause-reached : goal.returns-after-loop-left-clause-reached
 returns-after-loop-left-clause-reached c = λ parent side at is. down-none (tree_of c.args.arena.now c.loop-left.lists) parent.list.0 c.args.child.0 c.args.seen side
 
-pub returns-then-is_some-clause-lifting : goal.returns-then-is_some-clause-lifting
-returns-then-is_some-clause-lifting c = λ old before was. c.settle_under.ensures.lifting old before (c.loop-left.invariant.lifting old before was)
+pub returns-then-is_some-clause-lifted : goal.returns-then-is_some-clause-lifted
+returns-then-is_some-clause-lifted c =
+    lifted-then c.loop-left.invariant.lifted c.settle_under.ensures.lifted
 
 pub returns-then-is_some-clause-others : goal.returns-then-is_some-clause-others
 returns-then-is_some-clause-others c = λ parent at p row there. c.loop-left.invariant.others parent at p row (c.settle_under.ensures.others parent at p row there)
@@ -91,14 +90,14 @@ returns-then-is_some-clause-reached c = λ parent side at is.
     c.loop-left.way (c.settle_under.ensures.down parent side c.args.seen at (c.loop-left.invariant.down parent side at is)) c.node-node.result c.node-node.ensures
     (sym c.is_some.ensures ∙ c.if-is_some.true) c.pages_of.result c.pages_of.ensures.from c.pages_of.ensures.to
 
-pub returns-else-way-clause-lifting : goal.returns-else-way-clause-lifting
-returns-else-way-clause-lifting c = c.loop-left.invariant.lifting
+pub returns-else-way-clause-lifted : goal.returns-else-way-clause-lifted
+returns-else-way-clause-lifted c = c.loop-left.invariant.lifted
 
 pub returns-else-way-clause-others : goal.returns-else-way-clause-others
 returns-else-way-clause-others c = c.loop-left.invariant.others
 
-pub returns-after-loop-left-clause-lifting : goal.returns-after-loop-left-clause-lifting
-returns-after-loop-left-clause-lifting c = c.loop-left.invariant.lifting
+pub returns-after-loop-left-clause-lifted : goal.returns-after-loop-left-clause-lifted
+returns-after-loop-left-clause-lifted c = c.loop-left.invariant.lifted
 
 pub returns-after-loop-left-clause-others : goal.returns-after-loop-left-clause-others
 returns-after-loop-left-clause-others c = c.loop-left.invariant.others

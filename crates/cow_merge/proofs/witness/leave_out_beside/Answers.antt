@@ -4,10 +4,11 @@ use Rattle.std.specs.Prelude.{is_some}
 use Rattle.vm_base.proofs.EntryLaws.{some_same}
 use Rattle.cow_arena.specs.declared.node.Node.{Node}
 use Rattle.cow_arena.specs.Nodes.{other_side, side_of}
-use Rattle.cow_merge.proofs.BesideLaws.{beside-start, beside-again, beside-down, beside-none, hidden-there, no-koid_of}
+use Rattle.cow_merge.proofs.BesideLaws.{beside-start, beside-down, beside-none, hidden-there, no-koid_of}
 use Rattle.cow_merge.proofs.WitnessLaws.{beside-witness}
 use Rattle.cow_merge.proofs.JumpingLaws.{jumps-left}
 use Rattle.cow_merge.proofs.witness.leave_out_beside.Goals as goal
+use Rattle.cow_merge.proofs.RangeLaws.{lost-same, lost-then}
 
 pub node-requires : goal.node-requires
 node-requires c = ap is_some c.requires.family.family.parent_at
@@ -17,9 +18,10 @@ enter-way-requires c = record { child = ap is_some c.requires.family.family.sibl
 
 pub loop-left-init : goal.loop-left-init
 loop-left-init c = record {
-  beside = λ old before spared above at was.
-      beside-start c.args.arena.now old c.args.lists.now before c.args.frames.now c.args.leaf.0 c.args.first spared above c.args.shift c.args.to c.args.hidden.0
+  beside = λ spared above at was.
+      beside-start c.args.arena.now c.args.lists.now c.args.frames.now c.args.leaf.0 c.args.first spared above c.args.shift c.args.to c.args.hidden.0
       c.args.sibling (omega arith) c.requires.family at c.min-end.result (omega (arith, c.min-end.ensures)) c.enter-way.result c.enter-way.ensures was;
+  lost = lost-same;
   kept = λ above at q. refl;
 }
 
@@ -27,8 +29,8 @@ pub node-node-requires : goal.node-node-requires
 node-node-requires c =
     let of = c.requires.family in
     let under = c.requires.passing of.parent of.family.parent_at in
-    let there = c.loop-left.invariant.beside c.args.lists.now c.args.frames.now under.spared of.parent of.family.parent_at under.passing in
-    ap is_some there.node_at
+    let there = c.loop-left.invariant.beside under.spared of.parent of.family.parent_at under.passing in
+    ap is_some there.place.node_at
 
 pub cut_under-requires-clause-down : goal.cut_under-requires-clause-down
 cut_under-requires-clause-down c =
@@ -41,9 +43,7 @@ cut_under-requires-clause-down c =
       to = c.args.to;
       fits = omega arith;
       side = other_side (side_of of.parent c.args.leaf.0);
-      beside = beside-again c.args.arena.now c.args.lists.now c.loop-left.lists c.args.frames.now c.loop-left.frames c.args.leaf.0 c.args.first under.spared
-          c.args.hidden.0 of.parent c.args.shift c.args.to (other_side (side_of of.parent c.args.leaf.0)) c.loop-left.way c.loop-left.way.from
-          (c.loop-left.invariant.beside c.args.lists.now c.args.frames.now under.spared of.parent of.family.parent_at under.passing);
+      beside = (c.loop-left.invariant.beside under.spared of.parent of.family.parent_at under.passing);
     }
 
 pub cut_under-requires-clause-list : goal.cut_under-requires-clause-list
@@ -53,21 +53,21 @@ pub pages_of-requires-clause-from : goal.pages_of-requires-clause-from
 pages_of-requires-clause-from c =
     let of = c.requires.family in
     let under = c.requires.passing of.parent of.family.parent_at in
-    let there = c.loop-left.invariant.beside c.args.lists.now c.args.frames.now under.spared of.parent of.family.parent_at under.passing in
-    let low = there.within.low c.loop-left.way.from (omega arith) (omega arith) in
+    let there = c.loop-left.invariant.beside under.spared of.parent of.family.parent_at under.passing in
+    let low = there.place.within.low c.loop-left.way.from (omega arith) (omega arith) in
     omega arith
 
 pub pages_of-requires-clause-to : goal.pages_of-requires-clause-to
 pages_of-requires-clause-to c =
     let of = c.requires.family in
     let under = c.requires.passing of.parent of.family.parent_at in
-    let there = c.loop-left.invariant.beside c.args.lists.now c.args.frames.now under.spared of.parent of.family.parent_at under.passing in
-    let high = there.within.high (c.loop-left.way.to - 1) (omega arith) (omega arith) in
+    let there = c.loop-left.invariant.beside under.spared of.parent of.family.parent_at under.passing in
+    let high = there.place.within.high (c.loop-left.way.to - 1) (omega arith) (omega arith) in
     omega arith
 
 pub wider-child-requires-clause-forest : goal.wider-child-requires-clause-forest
 wider-child-requires-clause-forest c =
-    (c.requires.passing c.requires.family.parent c.requires.family.family.parent_at).passing.bare.leaving.exact.forest
+    (c.requires.passing c.requires.family.parent c.requires.family.family.parent_at).passing.bare.has.exact.forest
 
 pub wider-child-requires-clause-hidden : goal.wider-child-requires-clause-hidden
 wider-child-requires-clause-hidden c =
@@ -78,38 +78,46 @@ enter-way-requires-in-loop-left c = record { child = ap is_some c.wider-child.en
 
 pub loop-left-preserved : goal.loop-left-preserved
 loop-left-preserved c = record {
-  beside = λ old before spared above at was.
-      let it = c.cut_under.ensures.beside old before c.args.first spared above c.args.to (other_side (side_of above c.args.leaf.0))
-      (c.loop-left.invariant.beside old before spared above at was) in
+  beside = λ spared above at was.
+      let it = (c.cut_under.ensures.beside c.args.first spared above c.args.to (other_side (side_of above c.args.leaf.0))
+      (c.loop-left.invariant.beside spared above at was)).0 in
       let child = c.wider-child.ensures in
-      beside-down c.args.arena.now old c.cut_under.new.lists before c.cut_under.new.frames c.args.leaf.0 c.args.first spared c.args.hidden.0 above c.args.shift
-      c.args.to (other_side (side_of above c.args.leaf.0)) c.loop-left.way it (omega arith) c.wider-child.result child.node child.at child.parent
+      beside-down it (omega arith) c.wider-child.result child.node child.at child.parent
       c.enter-way-in-loop-left.result (c.enter-way-in-loop-left.ensures child.node child.at);
+  lost =
+      let of = c.requires.family in
+      let under = c.requires.passing of.parent of.family.parent_at in
+      lost-then c.loop-left.invariant.lost (c.cut_under.ensures.beside c.args.first under.spared of.parent c.args.to (other_side (side_of of.parent c.args.leaf.0))
+      (c.loop-left.invariant.beside under.spared of.parent of.family.parent_at under.passing)).1;
   kept = λ above at q. c.cut_under.ensures.kept above at q ∙ c.loop-left.invariant.kept above at q;
 }
 
 pub returns-else-way-clause-passing : goal.returns-else-way-clause-passing
-returns-else-way-clause-passing c = λ old before spared above at was.
-    beside-none c.args.arena.now old c.loop-left.lists before c.loop-left.frames c.args.leaf.0 c.args.first spared c.args.hidden.0 above c.args.shift c.args.to
-    (other_side (side_of above c.args.leaf.0)) c.loop-left.way c.loop-left.way.from (c.loop-left.invariant.beside old before spared above at was)
+returns-else-way-clause-passing c = λ spared above at was.
+    beside-none (c.loop-left.invariant.beside spared above at was)
 
 pub returns-after-loop-left-clause-passing : goal.returns-after-loop-left-clause-passing
-returns-after-loop-left-clause-passing c = λ old before spared above at was.
-    beside-none c.args.arena.now old c.loop-left.lists before c.loop-left.frames c.args.leaf.0 c.args.first spared c.args.hidden.0 above c.args.shift c.args.to
-    (other_side (side_of above c.args.leaf.0)) c.loop-left.way c.loop-left.way.from (c.loop-left.invariant.beside old before spared above at was)
+returns-after-loop-left-clause-passing c = λ spared above at was.
+    beside-none (c.loop-left.invariant.beside spared above at was)
 
 pub returns-then-is_some-clause-passing : goal.returns-then-is_some-clause-passing
-returns-then-is_some-clause-passing c = λ old before spared above at was.
-    let it = c.cut_under.ensures.beside old before c.args.first spared above c.args.to (other_side (side_of above c.args.leaf.0))
-    (c.loop-left.invariant.beside old before spared above at was) in
+returns-then-is_some-clause-passing c = λ spared above at was.
+    let it = (c.cut_under.ensures.beside c.args.first spared above c.args.to (other_side (side_of above c.args.leaf.0))
+    (c.loop-left.invariant.beside spared above at was)).0 in
     let of = c.requires.family in
-    let leaf : of.node ≡ it.bare.node = some_same (sym of.family.at ∙ it.bare.visible.at) in
-    let node : c.node-node.result ≡ it.node = some_same (sym c.node-node.ensures ∙ it.node_at) in
-    beside-witness c.args.arena.now old c.cut_under.new.lists before c.cut_under.new.frames c.args.leaf.0 c.args.first spared c.args.hidden.0 above c.args.shift
-    c.args.to (other_side (side_of above c.args.leaf.0)) c.loop-left.way it
+    let leaf : of.node ≡ it.bare.has.node = some_same (sym of.family.at ∙ it.bare.has.visible.at) in
+    let node : c.node-node.result ≡ it.place.node = some_same (sym c.node-node.ensures ∙ it.place.node_at) in
+    beside-witness it
     (ap (λ (n : Node). is_some n.koid) (sym node) ∙ (sym c.is_some.ensures ∙ c.if-is_some.true))
     (ap (λ (n : Node). n.parent) (sym leaf) ∙ of.family.parent_is) (c.requires.base of.node of.family.at ∙ ap (λ (n : Node). n.first) leaf) refl
     c.pages_of.result.from c.pages_of.result.to c.pages_of.ensures.from c.pages_of.ensures.to (omega arith)
+
+pub returns-then-is_some-clause-lost : goal.returns-then-is_some-clause-lost
+returns-then-is_some-clause-lost c =
+    let of = c.requires.family in
+    let under = c.requires.passing of.parent of.family.parent_at in
+    lost-then c.loop-left.invariant.lost (c.cut_under.ensures.beside c.args.first under.spared of.parent c.args.to (other_side (side_of of.parent c.args.leaf.0))
+    (c.loop-left.invariant.beside under.spared of.parent of.family.parent_at under.passing)).1
 
 -- ---- the jumps
 
@@ -117,5 +125,5 @@ pub cut_under-requires-clause-jumps : goal.cut_under-requires-clause-jumps
 cut_under-requires-clause-jumps c =
     let of = c.requires.family in
     let under = c.requires.passing of.parent of.family.parent_at in
-    let there = c.loop-left.invariant.beside c.args.lists.now c.args.frames.now under.spared of.parent of.family.parent_at under.passing in
-    jumps-left c.args.arena.now c.args.lists.now c.loop-left.lists c.args.frames.now c.loop-left.frames c.args.leaf.0 c.args.first there.bare _ c.requires.jumps
+    let there = c.loop-left.invariant.beside under.spared of.parent of.family.parent_at under.passing in
+    jumps-left there.bare.has c.loop-left.invariant.lost _ c.requires.jumps
