@@ -12,6 +12,6 @@ returns-in-RootCreate-clause-acts c = rw c.in-RootCreate.is
 
 pub returns-in-VmarAllocate-clause-acts : goal.returns-in-VmarAllocate-clause-acts
 returns-in-VmarAllocate-clause-acts c = rw c.in-VmarAllocate.is
-    (some_place c.args.vmos.now c.args.vmos.now (spaces_of (regions_of c.args.regions.now) (table_of c.args.maps.now)) (spaces_of (regions_of c.vmar_allocate.new.regions) (table_of c.vmar_allocate.new.maps)) (rows_of c.args.ready.now) (rows_of c.args.ready.now)
+    (some_place c.args.vmos.now c.args.vmos.now (spaces_of (regions_of c.args.regions.now) (table_of c.args.maps.now)) (spaces_of (regions_of c.vmar_allocate-outcome.new.regions) (table_of c.vmar_allocate-outcome.new.maps)) (rows_of c.args.ready.now) (rows_of c.args.ready.now)
     (VmarAllocate c.in-VmarAllocate.region c.in-VmarAllocate.parent c.in-VmarAllocate.offset c.in-VmarAllocate.len c.in-VmarAllocate.flags c.in-VmarAllocate.caps) c.args.told
-    c.vmar_allocate.result c.at_place.result c.at_place.ensures (c.vmar_allocate.ensures.does (rows_of c.args.ready.now)))
+    c.vmar_allocate-outcome.result c.at_place.result c.at_place.ensures (c.vmar_allocate-outcome.ensures.does (rows_of c.args.ready.now)))
