@@ -25,6 +25,20 @@ none-kept map a b k q e = elim (cases_Bool ((k == a) && (q == b))) [
   | inr there ↦ cond-false _ _ _ there ∙ e
 ]
 
+-- a pair that has this value, or none, already
+pub with_pair-kept : {V : Type 0} (map : ℕ → ℕ → Option V) (a b : ℕ) (v : Option V) → map a b ≡ v → with_pair map a b v ≡ map
+unfolding with_pair
+with_pair-kept map a b v is = λ i k q. at k q i
+  where
+    at : (k q : ℕ) → cond ((k == a) && (q == b)) v (map k q) ≡ map k q
+    at k q = elim (cases_Bool ((k == a) && (q == b))) [
+      | inl here ↦
+          let first : k ≡ a = grind (arith, common_steps) in
+          let second : q ≡ b = grind (arith, common_steps) in
+          cond-true _ _ _ here ∙ (sym is ∙ (λ i. map (sym first i) (sym second i)))
+      | inr there ↦ cond-false _ _ _ there
+    ]
+
 module _ {R V : Type 0} {f : Functions R} {first second : R → ℕ} {value : R → V} (pairs : ArePairs f first second value) where
   value-at : (rows : List R) (a b : ℕ) → b < 2 ^ 64 → value_at f value rows a b ≡ option_map value (row_at f (pair_rank a b) rows)
   unfolding value_at
@@ -128,15 +142,18 @@ module _ {R V : Type 0} {f : Functions R} {first second : R → ℕ} {value : R 
         length-replaced row is e some =
             omega (arith, length-put row is e, ap length seen, ap {B = ℕ} (λ c. cond c 1 0) (row-there some))
 
+        -- one row less, if the pair has one
+        pub length-less : new ≡ without_rank f n was → length new + cond (is_some (value_at f value old a b)) 1 0 ≡ length old
+        length-less e =
+            let there : is_some (value_at f value old a b) ≡ is_some (row_at f n was) = ap is_some value-seen ∙ some-mapped (row_at f n was) in
+            omega (arith, ap length e, ap length seen, length-without_rank f n 0 (2 ^ 128) was rising, ap {B = ℕ} (λ c. cond c 1 0) there)
+          where
+            some-mapped : (o : Option R) → is_some (option_map value o) ≡ is_some o
+            some-mapped None = refl
+            some-mapped (Some row) = refl
+
         pub length-taken : new ≡ without_rank f n was → IsSome (value_at f value old a b) → length new + 1 ≡ length old
-        length-taken e some =
-            omega (
-              arith,
-              ap length e,
-              ap length seen,
-              length-without_rank f n 0 (2 ^ 128) was rising,
-              ap {B = ℕ} (λ c. cond c 1 0) (row-there some),
-            )
+        length-taken e some = omega (arith, length-less e, ap {B = ℕ} (λ c. cond c 1 0) some)
 
   -- what the way down finds from a pair on is the next value of its first number, or lies behind all of them
   module _ (rows old : List R) (seen : rows ≡ old) (a from : ℕ) (rising : IsRising f rows) where

@@ -159,6 +159,9 @@ module _ {R : Type 0} (f : Functions R) (laws : AreLawful f) where
     pub row_at-removed : row_at f n (rows_in f s root).rows ≡ y
     row_at-removed = sym (made.row ∙ row_in-IsTree n h)
 
+    pub there-removed : has_rank f n h.tree ≡ is_some y
+    there-removed = has_rank-IsTree n h ∙ ap is_some row_at-removed
+
   module _ {s s1 : Slab R} {root : Option ℕ} (n : ℕ) (w : R) {c : Change} {before after : ℕ} (h : IsTree f s root) (made : HasMoved f s s1 n w h.tree 0 (2 ^ 128) c before after) where
     moved_standing : IsStanding f s1 root (moved f n w h.tree) 0 (2 ^ 128)
     moved_standing =

@@ -1,6 +1,6 @@
 //! The balanced tree as its callers see it.
 
-ghost use Rattle.std.specs.Prelude.{◌≡◌, ◌+◌, ◌-◌, ◌^◌, ◌<◌, ◌≤◌, [], length, option_copied, IsNone, IsSome, Some, OnOk};
+ghost use Rattle.std.specs.Prelude.{◌≡◌, ◌+◌, ◌-◌, ◌^◌, ◌<◌, ◌≤◌, [], length, option_copied, is_some, if◌then◌else◌, IsNone, IsSome, Some, OnOk};
 ghost use Rattle.std.specs.Option.{MatchOption, option_map};
 ghost use Rattle.balanced_tree.specs.Gaps.{AreApart, HasNoGap, IsFirstGap};
 ghost use Rattle.balanced_tree.specs.Row.{plain};
@@ -148,6 +148,19 @@ impl<R: TreeRow> BalancedTree<R> {
         move_below(&mut self.rows, self.root, rank, &row, steps);
     }
 
+    /// Takes the row of this rank out, if there is one, and answers it.
+    pub fn take_counted<L: Ledger>(&mut self, rank: u128, steps: &mut Steps<L>) -> Option<R>
+        ensures row { result ≡ row_at R.functions rank self.old.rows }
+        ensures rows { self.new.rows ≡ without_rank R.functions rank self.old.rows }
+        ensures spare { self.new.spare ≡ self.old.spare + (if is_some result then 1 else 0) }
+        ensures cost { 2 ^ (steps.new - steps.old) ≤ (length self.old.rows + 2) ^ 32 }
+    {
+        let mut taken = None;
+        let change = remove_below(&mut self.rows, self.root, rank, &mut taken, steps);
+        self.root = root_after(change, self.root);
+        taken
+    }
+
     /// Takes the row of this rank out, and answers it.
     pub fn remove_counted<L: Ledger>(&mut self, rank: u128, steps: &mut Steps<L>) -> R
         requires { IsSome (row_at R.functions rank self.old.rows) }
@@ -156,10 +169,7 @@ impl<R: TreeRow> BalancedTree<R> {
         ensures spare { self.new.spare ≡ self.old.spare + 1 }
         ensures cost { 2 ^ (steps.new - steps.old) ≤ (length self.old.rows + 2) ^ 32 }
     {
-        let mut taken = None;
-        let change = remove_below(&mut self.rows, self.root, rank, &mut taken, steps);
-        self.root = root_after(change, self.root);
-        let Some(row) = taken else { unreachable!() };
+        let Some(row) = self.take_counted(rank, steps) else { unreachable!() };
         row
     }
 
@@ -215,6 +225,15 @@ impl<R: TreeRow> BalancedTree<R> {
         ensures spare { self.new.spare ≡ self.old.spare }
     {
         replace_at_with::<R, Brand>(self, rank, row, Blank::new(1));
+    }
+
+    /// Takes the row of this rank out, if there is one, and answers it.
+    pub fn take(&mut self, rank: u128) -> Option<R>
+        ensures row { result ≡ row_at R.functions rank self.old.rows }
+        ensures rows { self.new.rows ≡ without_rank R.functions rank self.old.rows }
+        ensures spare { self.new.spare ≡ self.old.spare + (if is_some result then 1 else 0) }
+    {
+        take_with::<R, Brand>(self, rank, Blank::new(1))
     }
 
     /// Takes the row of this rank out, and answers it.
@@ -360,6 +379,20 @@ fn replace_at_with<R: TreeRow, L: Ledger>(
 {
     let mut steps = Steps::<L>::new(blank);
     tree.replace_at_counted(rank, row, &mut steps);
+}
+
+fn take_with<R: TreeRow, L: Ledger>(
+    tree: &mut BalancedTree<R>,
+    rank: u128,
+    blank: Blank,
+) -> Option<R>
+    requires ledger { (blank.name ≡ L.name) × (blank.parts ≡ L.parts) × (0 < blank.parts) }
+    ensures row { result ≡ row_at R.functions rank tree.old.rows }
+    ensures rows { tree.new.rows ≡ without_rank R.functions rank tree.old.rows }
+    ensures spare { tree.new.spare ≡ tree.old.spare + (if is_some result then 1 else 0) }
+{
+    let mut steps = Steps::<L>::new(blank);
+    tree.take_counted(rank, &mut steps)
 }
 
 fn remove_with<R: TreeRow, L: Ledger>(tree: &mut BalancedTree<R>, rank: u128, blank: Blank) -> R
