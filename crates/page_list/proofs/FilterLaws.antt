@@ -128,6 +128,18 @@ module _ {f g : Filter} {was : Rows Row} (filtered : AreFiltered f was) (more : 
   filtered-taken new l p n few rank rows =
       filtered-with new l p None (values-taken row_pairs was.rows was.rows refl l p n few rank new.rows rows) (λ some. absurd (none-some {V = Slot} None refl some))
 
+-- a page whose bit is clear has no row
+pub filtered-absent : {f : Filter} {was : Rows Row} (old : Rows Row) → was ≡ old → AreFiltered f was → (l p : ℕ) → has_bit f l p ≡ false →
+    slots_of old l p ≡ None
+filtered-absent {f} {was} old seen filtered l p clear = nothing (slots_of old l p) refl
+  where
+    nothing : (slot : Option Slot) → slots_of old l p ≡ slot → slots_of old l p ≡ None
+    nothing None at = at
+    nothing (Some slot) at =
+        let some : IsSome (slots_of was l p) = subst (λ rows. IsSome (slots_of rows l p)) (sym seen) (subst IsSome (sym at) refl) in
+        let set = filtered.set l p some in
+        absurd (cc)
+
 -- a list whose word is 0 has no row
 pub filtered-end : {f : Filter} {was : Rows Row} (old : Rows Row) → was ≡ old → AreFiltered f was → (l from word : ℕ) →
     word ≡ word_in f l → word ≡ 0 → IsNext (slots_of old l) from None

@@ -1,6 +1,6 @@
 //! The table of all page lists.
 
-ghost use Rattle.std.specs.Prelude.{◌≡◌, ℕ, ◌+◌, ◌-◌, ◌^◌, ◌%◌, ◌≤◌, ◌<◌, None, Some, Bool, OnOk, IsTrue, IsSome, IfSome, IfNone};
+ghost use Rattle.std.specs.Prelude.{◌≡◌, ℕ, ◌+◌, ◌-◌, ◌^◌, ◌%◌, ◌≤◌, ◌<◌, None, Some, Bool, is_some, if◌then◌else◌, OnOk, IsTrue, IsSome, IfSome, IfNone};
 ghost use Rattle.std.specs.Int.{bit_at};
 ghost use Rattle.std.specs.Option.{option_map};
 ghost use Rattle.vm_base.specs.declared.names.Tag.{Tag};
@@ -157,6 +157,25 @@ impl PageLists {
         let _rising = self.tree.len();
         self.filter.note_gone();
         self.tree.remove(pair_rank(list.0, page)).slot
+    }
+
+    /// Takes the row of a page of a list out, if it has one, and answers its slot. It costs one test if the filter says
+    /// that the page has none, and otherwise one way down the tree, O(log n).
+    pub fn take(&mut self, list: ListId, page: PageNo) -> Option<Slot>
+        ensures slot { result ≡ slots_of self.old list.0 page }
+        ensures slots { slots_of self.new ≡ with_pair (slots_of self.old) list.0 page None }
+        ensures count { row_count self.new + (if is_some result then 1 else 0) ≡ row_count self.old }
+        ensures spare { self.new.spare ≡ self.old.spare + (if is_some result then 1 else 0) }
+    {
+        if !self.filter.may_have(list.0, page) {
+            return None;
+        }
+        let _rising = self.tree.len();
+        let Some(row) = self.tree.take(pair_rank(list.0, page)) else {
+            return None;
+        };
+        self.filter.note_gone();
+        Some(row.slot)
     }
 
     /// Sets both bits of the row of a page of a list, which has a frame.
