@@ -10,7 +10,7 @@ use Rattle.balanced_tree.specs.Pairs.{with_pair}
 use Rattle.page_list.specs.declared.row.Row.{Row}
 use Rattle.page_list.specs.declared.row.Slot.{Slot}
 use Rattle.page_list.specs.declared.row.Slot.TheVariants as slot
-use Rattle.page_list.specs.Lists.{slots_of}
+use Rattle.page_list.specs.Lists.{slots_of, row_count}
 use Rattle.frame_pool.specs.Pool.{Pool, taken_frames, is_taken, links_of}
 use Rattle.cow_arena.specs.declared.node.Node.{Node}
 use Rattle.cow_arena.specs.declared.node.Side.{Side}
@@ -24,7 +24,7 @@ use Rattle.cow_split.specs.declared.answers.Cut.{Cut}
 use Rattle.cow_split.specs.declared.answers.Cut.TheVariants as cut
 use Rattle.cow_split.specs.declared.answers.Holder.{Holder}
 use Rattle.cow_split.specs.Trees.{tree_of, with_row, holder_of, frame_held}
-use Rattle.cow_split.specs.Sight.{IsLastViewer}
+use Rattle.cow_split.specs.Sight.{IsLastViewer, OthersShowSame}
 use Rattle.cow_split.specs.Exact.{IsExact, all_in_sight, leaving_out, with_frame, without_frame}
 use Rattle.cow_split.specs.Cutting.{HasCut, frame_left}
 use Rattle.cow_split.proofs.ExactLaws.{cases_place}
@@ -34,11 +34,16 @@ use Rattle.cow_split.proofs.PartLaws.{part-with_pair, part-cut, stood-with_pair}
 use Rattle.cow_fork.specs.Zeroing.{HasZeroed}
 use Rattle.cow_fork.proofs.PoolLaws.{given-without, taken-same}
 use Rattle.cow_fork.proofs.HolderLaws.{own-shown, held-shown}
-use Rattle.cow_fork.proofs.LeafLaws.{IsLeaf, with_row-there, others-on, put-tree, put-row, put-others}
-use Rattle.cow_fork.specs.inside.ZeroSteps.{HasLetGo, HasHidden}
+use Rattle.cow_fork.proofs.LeafLaws.{IsLeaf, tree-with, with_row-there, others-on, put-tree, put-row, put-others}
+use Rattle.cow_fork.specs.inside.ZeroSteps.{HasLetGo, HasKeptZero, HasHidden}
 use Rattle.cow_fork.proofs.CutOffLaws.{cut-bare, cut-exact, cut-other, cut_off, leaves_cases}
 
 -- ---- an own frame goes
+
+-- a page whose holder has a frame is not zero
+pub shown-frame : (t : Tree) (v p : ℕ) (found : Holder) → found ≡ holder_of (walk t v p) → is_some (frame_held found) ≡ true →
+    frame_shown t v p ≡ None → ⊥
+shown-frame t v p found is shown none = let some = ap is_some (held-shown t v p found is ∙ none) in absurd (cc)
 
 -- v alone shows the frame of its own row: nobody is below it
 pub own-last : (t : Tree) (in_use : ℕ → Bool) (v p : ℕ) (node : Node) (row : Slot) (tag : ℕ) → IsExact t all_in_sight in_use →
@@ -84,28 +89,78 @@ module _ {arena : Arena} {old : Rows Row} {v p : ℕ} {node : Node} (leaf : IsLe
     others = put-others leaf new None gone;
     part = subst (λ (s : Slots). IsPartOf (slots_of old) s) (sym gone) (part-with_pair (slots_of old) node.list.0 p None (λ its e. absurd (cc)));
     spare = spare;
+    shows = λ none. let shown = own-shown leaf row own ∙ frame in absurd (cc);
   }
 
 -- the page is cut off from the row that it sees
 pub let_go-cut : {arena : Arena} {old mid : Rows Row} {v p : ℕ} {node : Node} {answer : Cut} (leaf : IsLeaf arena old v p node)
     (none : slots_of old node.list.0 p ≡ None) (is : HasCut arena old mid v p answer) (in_use : ℕ → Bool) (found : Holder) →
     IsExact (tree_of arena old) all_in_sight in_use → found ≡ holder_of (walk (tree_of arena old) v p) →
-    HasLetGo arena old mid in_use v p answer
-let_go-cut {arena} {old} {mid} {v} {p} {node} {answer} leaf none is in_use found exact held = record {
+    is_some (frame_held found) ≡ true → HasLetGo arena old mid in_use v p answer
+let_go-cut {arena} {old} {mid} {v} {p} {node} {answer} leaf none is in_use found exact held shown = record {
   exact = cut-exact leaf none is in_use exact;
   last = (cut_off leaf none is in_use found exact held).last;
   bare = cut-bare leaf none is;
   others = cut-other leaf none is in_use exact;
   part = part-cut arena old mid v p answer leaf.forest node leaf.visible none is;
   spare = is.spare;
+  shows = shown-frame (tree_of arena old) v p found held shown;
 }
 
--- ---- the page comes back into sight
+-- ---- a page that was zero
 
--- a page whose holder has a frame is not zero
-pub shown-frame : (t : Tree) (v p : ℕ) (found : Holder) → found ≡ holder_of (walk t v p) → is_some (frame_held found) ≡ true →
-    frame_shown t v p ≡ None → ⊥
-shown-frame t v p found is shown none = let some = ap is_some (held-shown t v p found is ∙ none) in absurd (cc)
+-- a row is taken where there is none
+module _ {arena : Arena} {old : Rows Row} (mid : Rows Row) {v p : ℕ} {node : Node} (leaf : IsLeaf arena old v p node)
+    (gone : slots_of mid ≡ with_pair (slots_of old) node.list.0 p None) (none : slots_of old node.list.0 p ≡ None) where
+  mid-same : tree_of arena mid ≡ tree_of arena old
+  mid-same = put-tree leaf mid None gone ∙ with_row-there (tree_of arena old) node.list.0 p None none
+
+  pub let_go-same : (new : Rows Row) (in_use : ℕ → Bool) (answer : Cut) → old.spare ≤ mid.spare → IsExact (tree_of arena old) all_in_sight in_use →
+      (IsExact (tree_of arena mid) all_in_sight in_use → HasLetGo arena mid new in_use v p answer) → HasLetGo arena old new in_use v p answer
+  let_go-same new in_use answer spare exact goes = let it = goes (subst (λ (u : Tree). IsExact u all_in_sight in_use) (sym mid-same) exact) in record {
+    exact = it.exact;
+    last = subst (λ (u : Tree). (tag : Tag) → (answer ≡ cut.LastViewer tag) ↔ IsSole u v p tag.0) mid-same it.last;
+    bare = it.bare;
+    others = subst (λ (u : Tree). OthersShowSame u (tree_of arena new) v p) mid-same it.others;
+    part = subst (λ (u : Tree). IsPartOf u.slots (slots_of new)) mid-same it.part;
+    spare = let more = it.spare in omega (arith, more, spare);
+    shows = λ zero. it.shows (ap (λ (u : Tree). frame_shown u v p) mid-same ∙ zero);
+  }
+
+  pub kept-same : (new : Rows Row) → row_count mid ≡ row_count old → mid.spare ≡ old.spare → HasKeptZero arena mid new v p → HasKeptZero arena old new v p
+  kept-same new count spare it = record {
+    zero = ap (λ (u : Tree). frame_shown u v p) (sym mid-same) ∙ it.zero;
+    slots = it.slots ∙ ap (λ (u : Tree). u.slots) mid-same;
+    count = it.count ∙ count;
+    spare = it.spare ∙ spare;
+  }
+
+-- a page that shows nothing keeps its rows
+pub kept-bare : (arena : Arena) (old : Rows Row) (v p : ℕ) (found : Holder) → found ≡ holder_of (walk (tree_of arena old) v p) →
+    is_some (frame_held found) ≡ false → HasKeptZero arena old old v p
+kept-bare arena old v p found is none = record {
+  zero = sym (held-shown (tree_of arena old) v p found is) ∙ none_is (frame_held found) none;
+  slots = refl;
+  count = refl;
+  spare = refl;
+}
+
+-- a row that says zero is taken and put back
+pub kept-back : {arena : Arena} {old : Rows Row} (mid : Rows Row) {new : Rows Row} {v p : ℕ} {node : Node} (leaf : IsLeaf arena old v p node) →
+    slots_of old node.list.0 p ≡ Some slot.Zero → slots_of mid ≡ with_pair (slots_of old) node.list.0 p None →
+    slots_of new ≡ with_pair (slots_of mid) node.list.0 p (Some slot.Zero) → row_count new ≡ row_count old → new.spare ≡ old.spare →
+    HasKeptZero arena old new v p
+kept-back {arena} {old} mid {new} {v} {p} {node} leaf own gone put count spare =
+    let t = tree_of arena old in
+    record {
+      zero = own-shown leaf slot.Zero own;
+      slots = put ∙ (ap (λ (s : Slots). with_pair s node.list.0 p (Some slot.Zero)) gone
+          ∙ ap (λ (u : Tree). u.slots) (with_row-twice t node.list.0 p None (Some slot.Zero) ∙ with_row-there t node.list.0 p (Some slot.Zero) own));
+      count = count;
+      spare = spare;
+    }
+
+-- ---- the page comes back into sight
 
 -- where one place gets a row, no other gets one
 put-places : (slots : Slots) (l q : ℕ) (row : Slot) (m r : ℕ) → IsSome (with_pair slots l q (Some row) m r) → IsSome (slots m r) ⊎ ((m ≡ l) × (r ≡ q))
@@ -201,16 +256,38 @@ part-places old mid list p l q part place = elim place [
   | inr here ↦ inr here
 ]
 
-pub zeroed : {arena : Arena} {old mid new : Rows Row} {v p : ℕ} {answer : Cut} (before after : Pool) (found : Holder) →
-    found ≡ holder_of (walk (tree_of arena old) v p) → is_some (frame_held found) ≡ true →
+-- the page was zero
+pub zeroed-kept : (arena : Arena) (old new : Rows Row) (pool : Pool) (v p : ℕ) → IsExact (tree_of arena old) all_in_sight (is_taken pool) →
+    HasKeptZero arena old new v p → HasZeroed arena old new pool pool v p
+zeroed-kept arena old new pool v p exact kept =
+    let t = tree_of arena old in
+    let same : tree_of arena new ≡ tree_of arena old = tree-with arena old new (slots_of old) kept.slots in
+    record {
+      exact = subst (λ (u : Tree). IsExact u all_in_sight (is_taken pool)) (sym same) exact;
+      zero = ap (λ (u : Tree). frame_shown u v p) same ∙ kept.zero;
+      others = subst (λ (u : Tree). OthersShowSame t u v p) (sym same) (λ w q page differs. refl);
+      given = λ tag sole. let shows = sole.shows in let zero = kept.zero in absurd (cc);
+      kept = λ shared. refl;
+      stood = λ l q row tag at frame. record { row = row; at = ap (λ (s : Slots). s l q) (sym kept.slots) ∙ at; frame = refl };
+      links = refl;
+      frames = refl;
+      gives = λ tag. inl refl;
+      places = λ n at l q some. inl (subst (λ (s : Slots). IsSome (s l q)) kept.slots some);
+      slots = λ none. kept.slots;
+      count = λ none. kept.count;
+      needed = λ some. absurd (some kept.zero);
+      spare = let spare = kept.spare in omega (arith, spare);
+    }
+
+pub zeroed : {arena : Arena} {old mid new : Rows Row} {v p : ℕ} {answer : Cut} (before after : Pool) →
     HasLetGo arena old mid (is_taken before) v p answer →
     HasHidden arena mid new (without_frame (is_taken before) (frame_left answer)) v p →
     ((tag : Tag) → answer ≡ cut.LastViewer tag → taken_frames after ≡ without_key (taken_frames before) tag.0) →
     ((LeavesFrame answer → ⊥) → after ≡ before) → links_of after ≡ links_of before → after.frames ≡ before.frames →
     HasZeroed arena old new before after v p
-zeroed {arena} {old} {mid} {new} {v} {p} {answer} before after found is shown gone hidden given kept links frames =
+zeroed {arena} {old} {mid} {new} {v} {p} {answer} before after gone hidden given kept links frames =
     let t = tree_of arena old in
-    let shows = shown-frame t v p found is shown in
+    let shows = gone.shows in
     record {
       exact = exact-in_use_alike (tree_of arena new) all_in_sight (without_frame (is_taken before) (frame_left answer)) (is_taken after)
           (given-used before after answer given kept) hidden.exact;

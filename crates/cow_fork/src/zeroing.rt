@@ -1,29 +1,29 @@
 //! Making a page zero.
 
-ghost use Rattle.std.specs.Prelude.{◌≡◌, ◌≢◌, ◌≤◌, ℕ, Bool, true, None, Some, IsSome, is_some, option_copied};
+ghost use Rattle.std.specs.Prelude.{◌≡◌, ◌≢◌, ◌≤◌, ℕ, Bool, true, None, Some, is_some, option_copied};
 ghost use Rattle.vm_base.specs.declared.names.Tag.{Tag};
 ghost use Rattle.vm_base.specs.Entries.{without_key};
 ghost use Rattle.page_list.specs.Lists.{slots_of};
 ghost use Rattle.frame_pool.specs.Pool.{taken_frames, is_taken, links_of};
 ghost use Rattle.cow_arena.specs.declared.node.Node.{Node};
 ghost use Rattle.cow_arena.specs.Nodes.{nodes_of};
-ghost use Rattle.cow_arena.specs.Walk.{walk, frame_shown, frame_in};
+ghost use Rattle.cow_arena.specs.Walk.{frame_shown};
 ghost use Rattle.cow_arena.specs.Forest.{IsForest};
-ghost use Rattle.cow_split.specs.Trees.{tree_of, holder_of, frame_held};
+ghost use Rattle.cow_split.specs.Trees.{tree_of, frame_held};
 ghost use Rattle.cow_split.specs.Sight.{IsPage};
 ghost use Rattle.cow_split.specs.Exact.{IsExact, all_in_sight, leaving_out};
 ghost use Rattle.cow_split.specs.declared.answers.Cut.TheVariants as cut;
 ghost use Rattle.cow_jump.specs.Jumps.{AreJumps, MayJump};
 ghost use Rattle.cow_fork.specs.Frames.{LeavesFrame};
 ghost use Rattle.cow_fork.specs.Zeroing.{HasZeroed};
-ghost use Rattle.cow_fork.specs.inside.ZeroSteps.{HasLetGo, HasHidden};
+ghost use Rattle.cow_fork.specs.inside.ZeroSteps.{HasLetGo, HasKeptZero, HasHidden};
 
 use cow_arena::{CowArena, NodeId};
-use cow_jump::{JumpTable, above_with, holder_with};
+use cow_jump::{JumpTable, above_with};
 use cow_split::{Cut, Holder, cut_holder};
 use frame_pool::FramePool;
 use page_list::{PageLists, Slot};
-use vm_base::{PageNo, Tag};
+use vm_base::PageNo;
 
 /// Makes a page of a VMO's node zero. A frame that no other VMO shows is given back. A row that says zero is added only
 /// if the page would otherwise show the frame of a row above it. If the page is zero, nothing changes. The call takes
@@ -79,13 +79,65 @@ fn zero_with(
     requires jumps { MayJump (tree_of arena.now lists.old) (option_copied jumps) }
     ensures { HasZeroed arena.now lists.old lists.new frames.old frames.new leaf.0 page }
 {
-    let found = holder_with(arena, lists, jumps, leaf, page);
-    if !has_frame(found) {
+    let Some(answer) = let_go(arena, lists, jumps, leaf, page) else {
         return;
-    }
-    let answer = let_go(arena, lists, leaf, page, found);
+    };
     give_left(frames, answer);
     hide_above(arena, lists, jumps, leaf, page);
+}
+
+/// Takes a page of a VMO's node out of sight, if it shows a frame: its own row goes, or it is cut off from the row above.
+/// Answers who sees the frame then. If the page is zero, no row changes. It takes no room.
+fn let_go(
+    arena: &CowArena,
+    lists: &mut PageLists,
+    jumps: Option<&JumpTable>,
+    leaf: NodeId,
+    page: PageNo,
+) -> Option<Cut>
+    requires forest { IsForest (nodes_of arena.now) arena.now.lists }
+    requires page { IsPage (tree_of arena.now lists.old) leaf.0 page }
+    requires jumps { MayJump (tree_of arena.now lists.old) (option_copied jumps) }
+    ensures gone { (answer : Cut) → result ≡ Some answer → (in_use : ℕ → Bool) →
+        IsExact (tree_of arena.now lists.old) all_in_sight in_use →
+        HasLetGo arena.now lists.old lists.new in_use leaf.0 page answer }
+    ensures none { result ≡ None → HasKeptZero arena.now lists.old lists.new leaf.0 page }
+{
+    let list = arena.look(leaf).list;
+    let Some(row) = lists.take(list, page) else {
+        return cut_shown(arena, lists, jumps, leaf, page);
+    };
+    match row {
+        Slot::Frame { tag, .. } => Some(Cut::LastViewer(tag)),
+        Slot::Zero => {
+            lists.insert(list, page, Slot::Zero);
+            None
+        }
+    }
+}
+
+/// Does what `let_go` does, with a page that has no row of its own.
+fn cut_shown(
+    arena: &CowArena,
+    lists: &mut PageLists,
+    jumps: Option<&JumpTable>,
+    leaf: NodeId,
+    page: PageNo,
+) -> Option<Cut>
+    requires forest { IsForest (nodes_of arena.now) arena.now.lists }
+    requires page { IsPage (tree_of arena.now lists.old) leaf.0 page }
+    requires bare { (node : Node) → nodes_of arena.now leaf.0 ≡ Some node → slots_of lists.old node.list.0 page ≡ None }
+    requires jumps { MayJump (tree_of arena.now lists.old) (option_copied jumps) }
+    ensures gone { (answer : Cut) → result ≡ Some answer → (in_use : ℕ → Bool) →
+        IsExact (tree_of arena.now lists.old) all_in_sight in_use →
+        HasLetGo arena.now lists.old lists.new in_use leaf.0 page answer }
+    ensures none { result ≡ None → HasKeptZero arena.now lists.old lists.new leaf.0 page }
+{
+    let found = above_with(arena, lists, jumps, leaf, page);
+    if !has_frame(found) {
+        return None;
+    }
+    Some(cut_holder(arena, lists, leaf, page, found))
 }
 
 /// Returns whether a page shows a frame.
@@ -93,37 +145,6 @@ fn has_frame(found: Holder) -> bool
     ensures { result ≡ is_some (frame_held found) }
 {
     found.frame().is_some()
-}
-
-/// Takes a page of a VMO's node that shows a frame out of sight: its own row goes, or it is cut off from the row above.
-/// Answers who sees the frame then. It takes no room.
-fn let_go(arena: &CowArena, lists: &mut PageLists, leaf: NodeId, page: PageNo, found: Holder) -> Cut
-    requires forest { IsForest (nodes_of arena.now) arena.now.lists }
-    requires page { IsPage (tree_of arena.now lists.old) leaf.0 page }
-    requires found { found ≡ holder_of (walk (tree_of arena.now lists.old) leaf.0 page) }
-    requires shows { IsSome (frame_held found) }
-    ensures { (in_use : ℕ → Bool) → IsExact (tree_of arena.now lists.old) all_in_sight in_use →
-        HasLetGo arena.now lists.old lists.new in_use leaf.0 page result }
-{
-    let list = arena.look(leaf).list;
-    match found {
-        Holder::Own(row) => {
-            lists.remove(list, page);
-            Cut::LastViewer(tag_in(row))
-        }
-        _ => cut_holder(arena, lists, leaf, page, found),
-    }
-}
-
-/// Returns the frame of a row that has one.
-fn tag_in(row: Slot) -> Tag
-    requires { IsSome (frame_in row) }
-    ensures { frame_in row ≡ Some result.0 }
-{
-    match row {
-        Slot::Frame { tag, .. } => tag,
-        Slot::Zero => unreachable!(),
-    }
 }
 
 /// Gives back the frame that an answer leaves to its caller, if it leaves one.

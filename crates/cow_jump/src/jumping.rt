@@ -59,26 +59,6 @@ pub fn above_by_jumps(
     rise_with::<Brand>(arena, lists, jumps, leaf, page, Blank::new(1))
 }
 
-/// Returns the first row on the walk from a page of a node upwards, within the windows, as `holder_by_jumps` does. Without jumps
-/// the walk goes up step by step.
-pub fn holder_with(
-    arena: &CowArena,
-    lists: &PageLists,
-    jumps: Option<&JumpTable>,
-    leaf: NodeId,
-    page: PageNo,
-) -> Holder
-    requires forest { IsForest (nodes_of arena.now) arena.now.lists }
-    requires node { IsSome (nodes_of arena.now leaf.0) }
-    requires jumps { MayJump (tree_of arena.now lists.now) (option_copied jumps) }
-    ensures { result ≡ holder_of (walk (tree_of arena.now lists.now) leaf.0 page) }
-{
-    if let Some(slot) = lists.find(arena.look(leaf).list, page) {
-        return Holder::Own(slot);
-    }
-    above_with(arena, lists, jumps, leaf, page)
-}
-
 /// Does what `above_by_jumps` does. Without jumps the walk goes up step by step.
 pub fn above_with(
     arena: &CowArena,

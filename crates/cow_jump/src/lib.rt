@@ -12,7 +12,7 @@ mod jumps;
 mod sending;
 
 pub use jumping::{
-    above_by_jumps, above_with, holder_by_jumps, holder_by_jumps_counted, holder_with, note_pair,
-    renew_jump, retire_pair,
+    above_by_jumps, above_with, holder_by_jumps, holder_by_jumps_counted, note_pair, renew_jump,
+    retire_pair,
 };
 pub use jumps::{Jump, JumpTable};

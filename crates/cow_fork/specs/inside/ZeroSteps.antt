@@ -1,10 +1,10 @@
 -- The two steps by which a page that shows a frame is made zero, where these frames are in use.
-use Rattle.std.specs.Prelude.{◌≡◌, ◌↔◌, ◌⊎◌, ℕ, ◌+◌, ◌≤◌, Bool, None, Some, IsSome}
+use Rattle.std.specs.Prelude.{◌≡◌, ◌≢◌, ◌↔◌, ◌⊎◌, ℕ, ◌+◌, ◌≤◌, Bool, None, Some, IsSome}
 use Rattle.balanced_tree.specs.Rows.{Rows}
 use Rattle.vm_base.specs.declared.names.Tag.{Tag}
 use Rattle.page_list.specs.declared.row.Row.{Row}
 use Rattle.page_list.specs.declared.row.Slot.{Slot}
-use Rattle.page_list.specs.Lists.{slots_of}
+use Rattle.page_list.specs.Lists.{slots_of, row_count}
 use Rattle.cow_arena.specs.declared.node.Node.{Node}
 use Rattle.cow_arena.specs.Nodes.{Arena, nodes_of}
 use Rattle.cow_arena.specs.Walk.{frame_shown, frame_in}
@@ -26,6 +26,14 @@ pub record HasLetGo (arena : Arena) (old new : Rows Row) (in_use : ℕ → Bool)
   pub others : OthersShowSame (tree_of arena old) (tree_of arena new) v p
   pub part : IsPartOf (slots_of old) (slots_of new)
   pub spare : old.spare ≤ new.spare
+  pub shows : frame_shown (tree_of arena old) v p ≢ None
+
+-- Page p of v is zero, and every row stands as it stood.
+pub record HasKeptZero (arena : Arena) (old new : Rows Row) (v p : ℕ) : Type 0 where
+  pub zero : frame_shown (tree_of arena old) v p ≡ None
+  pub slots : slots_of new ≡ slots_of old
+  pub count : row_count new ≡ row_count old
+  pub spare : new.spare ≡ old.spare
 
 -- Page p of v is back in sight, and zero.
 pub record HasHidden (arena : Arena) (old new : Rows Row) (in_use : ℕ → Bool) (v p : ℕ) : Type 0 where

@@ -1,8 +1,0 @@
-use Rattle.std.proofs.Common.{sym, ap, ◌∙◌}
-use Rattle.cow_arena.proofs.WalkLaws.{walk-row}
-use Rattle.cow_split.specs.Trees.{holder_of}
-use Rattle.cow_jump.proofs.jumping.holder_with.Goals as goal
-
-pub returns-in-Some : goal.returns-in-Some
-returns-in-Some c =
-    ap holder_of (sym (walk-row _ c.requires.forest _ _ _ (record { node = c.look.result.now; at = c.look.ensures; row = sym c.find.ensures ∙ c.in-Some.is })))
