@@ -1,11 +1,13 @@
 //! A machine that is held between lines, over the clone tree.
 
+use batch_vm::BatchInterpreter;
 use cow_forest::CowForest;
 use held_vm::{AnswerError, HeldVm};
+use line_server::Interpreter;
 
 /// Reports whether a line is answered so in 64 bytes, with this text at their front.
-fn is_answered(
-    held: &mut HeldVm<CowForest>,
+fn is_answered<I: Interpreter<CowForest>>(
+    held: &mut HeldVm<CowForest, I>,
     line: &[u8],
     answer: Result<usize, AnswerError>,
     text: &[u8],
@@ -43,6 +45,25 @@ fn replies_are_written_to_the_bytes_of_the_caller(rt: HostRuntime) {
     };
     let answered = answers(&mut held);
     // By one call: at the end of the body the machine would be dropped part by part, each with a proof.
+    drop(held);
+    assert!(rt; answered);
+}
+
+#[test]
+fn jobs_are_done_on_a_machine_that_is_held(rt: HostRuntime) {
+    let alloc = rt.alloc();
+    let jobs = BatchInterpreter::new(alloc);
+    let Ok(mut held) = HeldVm::hold(alloc, 2, CowForest::new(alloc), jobs) else {
+        panic!(rt; "the host is out of memory");
+    };
+    let answered = is_answered(&mut held, b"vmo_create v1 8192", Ok(3), b"OK\n??")
+        && is_answered(
+            &mut held,
+            b"begin j1 commit v1 0 8192",
+            Ok(10),
+            b"OK left=2\n??",
+        )
+        && is_answered(&mut held, b"step j1 1", Ok(10), b"OK left=1\n??");
     drop(held);
     assert!(rt; answered);
 }
