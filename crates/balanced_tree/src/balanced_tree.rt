@@ -169,7 +169,9 @@ impl<R: TreeRow> BalancedTree<R> {
         ensures spare { self.new.spare ≡ self.old.spare + 1 }
         ensures cost { 2 ^ (steps.new - steps.old) ≤ (length self.old.rows + 2) ^ 32 }
     {
-        let Some(row) = self.take_counted(rank, steps) else { unreachable!() };
+        let Some(row) = self.take_counted(rank, steps) else {
+            unreachable!()
+        };
         row
     }
 

@@ -20,7 +20,7 @@ cut_shown-requires-clause-bare c =
 pub cut_shown-requires-clause-jumps : goal.cut_shown-requires-clause-jumps
 cut_shown-requires-clause-jumps c =
     let part = subst (λ (s : Slots). IsPartOf (slots_of c.args.lists.now) s) (sym c.take.ensures.slots)
-        (part-with_pair (slots_of c.args.lists.now) c.look.result.now.list.0 c.args.page None (λ its e. absurd (cc))) in
+    (part-with_pair (slots_of c.args.lists.now) c.look.result.now.list.0 c.args.page None (λ its e. absurd (cc))) in
     may-jump_part (tree_of c.args.arena.now c.args.lists.now) c.requires.forest (slots_of c.take.new.self) c.args.leaf.0
     c.requires.page.node c.requires.page.visible part _ c.requires.jumps
 
