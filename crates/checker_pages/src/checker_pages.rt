@@ -441,7 +441,7 @@ impl CheckerPages {
     }
 
     // Makes the pages of a VMO zero from `first` to below `end`.
-    fn release_pages(&mut self, v: Koid, first: PageNo, end: PageNo)
+    pub(crate) fn release_pages(&mut self, v: Koid, first: PageNo, end: PageNo)
         ensures content { eager_content self.new ≡ zeroed (eager_content self.old) v.0 first end }
         ensures spare { eager_spare self.new ≡ eager_spare self.old }
     {

@@ -55,6 +55,10 @@ impl Pages for CheckerPages {
         self.zero(v, page);
     }
 
+    fn zero_pages(&mut self, v: Koid, first: PageNo, end: PageNo) {
+        self.release_pages(v, first, end);
+    }
+
     fn count(&self, v: Koid) -> PageNo {
         self.count(v)
     }

@@ -20,6 +20,7 @@ use Rattle.cow_split.specs.Exact.{IsExact, all_in_sight}
 use Rattle.cow_split.proofs.ExactLaws.{cases_place}
 use Rattle.cow_fork.specs.Zeroing.{HasZeroed}
 use Rattle.cow_fork.proofs.HolderLaws.{held-shown}
+use Rattle.cow_fork.proofs.ZeroLaws.{some-from}
 use Rattle.cow_forest.specs.inside.Looking.{IsNextRowBelow}
 use Rattle.cow_forest.specs.Ranges.{rows_in, shown_from, IsReadyToZero, HasZeroedSome, HasNoFrame}
 
@@ -53,11 +54,6 @@ rows-less old new from end each =
     and_from (nat_le from j) (is_some (old j)) both.0 (each j (leb-true from j both.0) both.1))
 
 -- ---- the pages that show a frame
-
--- what is not None is there
-some-from : {A : Type 0} (o : Option A) → o ≢ None → is_some o ≡ true
-some-from None apart = absurd (apart refl)
-some-from (Some a) apart = refl
 
 -- a page that became zero is one less
 shown-less : (old new : Tree) (v a n p : ℕ) → a ≤ p → p < a + n → ((q : ℕ) → q < a + n → q ≢ p → frame_shown new v q ≡ frame_shown old v q) →
@@ -102,10 +98,10 @@ module _ (arena : Arena) where
     spare = λ node at a n low high below. omega arith;
   }
 
-  -- one page, which showed a frame
-  pub zeroed-one : (old new : Rows Row) (before after : Pool) (v p : ℕ) → IsPage (tree_of arena old) v p → frame_shown (tree_of arena old) v p ≢ None →
+  -- one page, whether it showed a frame or not
+  pub zeroed-one : (old new : Rows Row) (before after : Pool) (v p : ℕ) → IsPage (tree_of arena old) v p →
       HasZeroed arena old new before after v p → HasZeroedSome arena old new before after v p (p + 1)
-  zeroed-one old new before after v p here some z = record {
+  zeroed-one old new before after v p here z = record {
     exact = z.exact;
     others = λ w q page apart. z.others w q page (λ same.
         let place = same.1 in apart (same.0, omega arith, omega arith));

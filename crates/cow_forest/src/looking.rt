@@ -221,7 +221,7 @@ pub(crate) fn next_shown(
 }
 
 /// Does what `next_shown` does, by the rows of the node and of the nodes above.
-fn next_shown_by_rows(
+pub(crate) fn next_shown_by_rows(
     arena: &CowArena,
     lists: &PageLists,
     jumps: &JumpTable,

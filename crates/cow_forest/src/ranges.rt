@@ -14,6 +14,7 @@ ghost use Rattle.cow_jump.specs.Jumps.{AreJumps};
 ghost use Rattle.cow_forest.specs.inside.Looking.{IsNextRowBelow};
 ghost use Rattle.cow_forest.specs.Ranges.{rows_in, rows_reached, IsReadyToZero, HasZeroedSome, AreZero, HasNoFrame};
 
+use crate::looking::next_shown_by_rows;
 use cow_arena::{CowArena, NodeId};
 use cow_fork::zero_by_jumps;
 use cow_jump::{JumpTable, holder_by_jumps};
@@ -61,6 +62,61 @@ pub(crate) fn zero_pages<L: Ledger>(
         here += at.first;
         to = stop + at.first;
         at = above;
+    }
+}
+
+/// Makes the pages of a VMO's node from `first` to below `end` zero, one after another. Behind a page that showed no frame it
+/// goes on at the next one that does, so held pages in a row cost no search.
+pub(crate) fn zero_in_turn(
+    arena: &CowArena,
+    lists: &mut PageLists,
+    frames: &mut FramePool,
+    jumps: &JumpTable,
+    leaf: NodeId,
+    first: PageNo,
+    end: PageNo,
+)
+    requires ready { IsReadyToZero arena.now lists.old frames.old leaf.0 first end }
+    requires jumps { (next : ℕ) × AreJumps (tree_of arena.now lists.old) next jumps.now }
+    ensures some { HasZeroedSome arena.now lists.old lists.new frames.old frames.new leaf.0 first end }
+    ensures zero { AreZero (tree_of arena.now lists.new) leaf.0 first end }
+{
+    let mut from = first;
+    while from < end {
+        from = zero_next(arena, lists, frames, jumps, leaf, from, end);
+    }
+}
+
+/// The most pages of a range that become zero with no search, whether they show frames or not. A search goes up to the root.
+const FEW_PAGES: u64 = 2;
+
+/// Makes a page of a VMO's node zero, and returns a page behind it, up to `end`, before which all are zero. If the page showed
+/// no frame and more than a few are left, it is the next one that does.
+fn zero_next(
+    arena: &CowArena,
+    lists: &mut PageLists,
+    frames: &mut FramePool,
+    jumps: &JumpTable,
+    leaf: NodeId,
+    page: PageNo,
+    end: PageNo,
+) -> PageNo
+    requires exact { IsExact (tree_of arena.now lists.old) all_in_sight (is_taken frames.old) }
+    requires page { IsPage (tree_of arena.now lists.old) leaf.0 page }
+    requires below { page < end }
+    requires room { frame_shown (tree_of arena.now lists.old) leaf.0 page ≢ None → 1 ≤ lists.old.spare }
+    requires jumps { (next : ℕ) × AreJumps (tree_of arena.now lists.old) next jumps.now }
+    ensures range { (page < result) × (result ≤ end) }
+    ensures some { HasZeroedSome arena.now lists.old lists.new frames.old frames.new leaf.0 page (page + 1) }
+    ensures zero { AreZero (tree_of arena.now lists.new) leaf.0 page result }
+{
+    let held = zero_by_jumps(arena, lists, frames, jumps, leaf, page);
+    if held || end - page <= FEW_PAGES {
+        return page + 1;
+    }
+    match next_shown_by_rows(arena, lists, jumps, leaf, page + 1) {
+        Some(next) if next < end => next,
+        _ => end,
     }
 }
 

@@ -1,5 +1,5 @@
 -- What becomes of the clone tree and of the pool where a page is made zero.
-use Rattle.std.proofs.Common.{◌≡◌, ◌↔◌, ◌⊎◌, ℕ, ◌+◌, ◌≤◌, Bool, true, false, List, Option, None, Some, IsSome, refl, sym, ap, ◌∙◌, subst, inl, inr, arith}
+use Rattle.std.proofs.Common.{◌≡◌, ◌≢◌, ◌↔◌, ◌⊎◌, ℕ, ◌+◌, ◌≤◌, Bool, true, false, List, Option, None, Some, IsSome, refl, sym, ap, ◌∙◌, subst, inl, inr, arith}
 use Rattle.std.specs.Prelude.{is_some}
 use Rattle.std.proofs.lemmas.Bool.{cases_eq}
 use Rattle.vm_base.proofs.EntryLaws.{some_same, some_is, none_is, without_key-same, without_key-other}
@@ -277,6 +277,7 @@ zeroed-kept arena old new pool v p exact kept =
       count = λ none. kept.count;
       needed = λ some. absurd (some kept.zero);
       spare = let spare = kept.spare in omega (arith, spare);
+      room = λ none. kept.spare;
     }
 
 pub zeroed : {arena : Arena} {old mid new : Rows Row} {v p : ℕ} {answer : Cut} (before after : Pool) →
@@ -304,4 +305,10 @@ zeroed {arena} {old} {mid} {new} {v} {p} {answer} before after gone hidden given
       count = λ none. absurd (shows none);
       needed = λ some. hidden.needed;
       spare = let room = gone.spare in let spare = hidden.spare in omega (arith, room, spare);
+      room = λ none. absurd (shows none);
     }
+
+-- what is not None is there
+pub some-from : {A : Type 0} (o : Option A) → o ≢ None → is_some o ≡ true
+some-from None apart = absurd (apart refl)
+some-from (Some a) apart = refl

@@ -41,5 +41,6 @@ pub record HasZeroed (arena : Arena) (old new : Rows Row) (before after : Pool) 
   pub slots : frame_shown (tree_of arena old) v p ≡ None → slots_of new ≡ slots_of old
   pub count : frame_shown (tree_of arena old) v p ≡ None → row_count new ≡ row_count old
   pub spare : old.spare ≤ new.spare + 1
+  pub room : frame_shown (tree_of arena old) v p ≡ None → new.spare ≡ old.spare
   -- a row that says zero stands there only if the page would otherwise show a frame
   pub needed : frame_shown (tree_of arena old) v p ≢ None → IsNeeded arena new v p

@@ -46,7 +46,7 @@ pub fn mark_zero(
 }
 
 /// Does what `mark_zero` does, and goes up to rows by jumps where they serve. Room for a row is needed only if the page shows a
-/// frame.
+/// frame. Returns whether it did.
 pub fn zero_by_jumps(
     arena: &CowArena,
     lists: &mut PageLists,
@@ -54,17 +54,18 @@ pub fn zero_by_jumps(
     jumps: &JumpTable,
     leaf: NodeId,
     page: PageNo,
-)
+) -> bool
     requires exact { IsExact (tree_of arena.now lists.old) all_in_sight (is_taken frames.old) }
     requires page { IsPage (tree_of arena.now lists.old) leaf.0 page }
     requires room { frame_shown (tree_of arena.now lists.old) leaf.0 page ≢ None → 1 ≤ lists.old.spare }
     requires jumps { (next : ℕ) × AreJumps (tree_of arena.now lists.old) next jumps.now }
-    ensures { HasZeroed arena.now lists.old lists.new frames.old frames.new leaf.0 page }
+    ensures zeroed { HasZeroed arena.now lists.old lists.new frames.old frames.new leaf.0 page }
+    ensures held { result ≡ is_some (frame_shown (tree_of arena.now lists.old) leaf.0 page) }
 {
-    zero_with(arena, lists, frames, Some(jumps), leaf, page);
+    zero_with(arena, lists, frames, Some(jumps), leaf, page)
 }
 
-/// Makes a page of a VMO's node zero, by these jumps, if there are any.
+/// Makes a page of a VMO's node zero, by these jumps, if there are any. Returns whether it showed a frame.
 fn zero_with(
     arena: &CowArena,
     lists: &mut PageLists,
@@ -72,18 +73,20 @@ fn zero_with(
     jumps: Option<&JumpTable>,
     leaf: NodeId,
     page: PageNo,
-)
+) -> bool
     requires exact { IsExact (tree_of arena.now lists.old) all_in_sight (is_taken frames.old) }
     requires page { IsPage (tree_of arena.now lists.old) leaf.0 page }
     requires room { frame_shown (tree_of arena.now lists.old) leaf.0 page ≢ None → 1 ≤ lists.old.spare }
     requires jumps { MayJump (tree_of arena.now lists.old) (option_copied jumps) }
-    ensures { HasZeroed arena.now lists.old lists.new frames.old frames.new leaf.0 page }
+    ensures zeroed { HasZeroed arena.now lists.old lists.new frames.old frames.new leaf.0 page }
+    ensures held { result ≡ is_some (frame_shown (tree_of arena.now lists.old) leaf.0 page) }
 {
     let Some(answer) = let_go(arena, lists, jumps, leaf, page) else {
-        return;
+        return false;
     };
     give_left(frames, answer);
     hide_above(arena, lists, jumps, leaf, page);
+    true
 }
 
 /// Takes a page of a VMO's node out of sight, if it shows a frame: its own row goes, or it is cut off from the row above.

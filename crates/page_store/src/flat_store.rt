@@ -207,7 +207,8 @@ impl FlatStore {
 
     // Makes the pages of a VMO zero from `first` to below `end`.
     fn release_pages(&mut self, v: Koid, first: PageNo, end: PageNo)
-        ensures { flat_content self.new ≡ zeroed (flat_content self.old) v.0 first end }
+        ensures content { flat_content self.new ≡ zeroed (flat_content self.old) v.0 first end }
+        ensures room { flat_room self.old ≤ flat_room self.new }
     {
         let mut from = first;
         while let Some((page, _)) = self.held_below(v, from, end) {
@@ -295,6 +296,10 @@ impl PageStore for FlatStore {
         if self.rows.find(v.0, page).is_some() {
             self.release_page(v, page);
         }
+    }
+
+    fn zero_pages(&mut self, v: Koid, first: PageNo, end: PageNo) {
+        self.release_pages(v, first, end);
     }
 
     fn count(&self, v: Koid) -> PageNo {

@@ -1,11 +1,12 @@
 //! The contract of a store of pages.
 
-ghost use Rattle.std.specs.Prelude.{◌≡◌, ℕ, ◌+◌, ◌<◌, ◌≤◌, ◌⊎◌, Bool, true, false, length, is_ok, IsSome, None, Some, IfSome, IfNone, IfOk, OnOk, OnErr};
+ghost use Rattle.std.specs.Prelude.{◌≡◌, ℕ, ◌+◌, ◌-◌, ◌<◌, ◌≤◌, ◌⊎◌, Bool, true, false, length, is_ok, IsSome, None, Some, IfSome, IfNone, IfOk, OnOk, OnErr};
 ghost use Rattle.vm_model.specs.Contents.Content.{Content, nothing, used, sole, pages_of, created, views, vmos_of};
 ghost use Rattle.vm_model.specs.Contents.Owning.{Owns};
 ghost use Rattle.vm_model.specs.Contents.Sharing.{viewers, IsLeastViewer, snapshotted, without};
 ghost use Rattle.vm_model.specs.Contents.Zeroing.{zeroed, resized};
 ghost use Rattle.page_store.specs.Pages.{look_at, tag_held, IsShown, IsShownOnce, AreBytesOf, Overwrites};
+ghost use Rattle.page_store.specs.Held.{held_from};
 ghost use Rattle.page_store.specs.Requests.{Request, Fill, Create, Snapshot, Reserve};
 
 use vm_base::{FRAMES, HostMemory, KOIDS, Koid, PAGE, PageNo, Tag, VMO_PAGES};
@@ -30,8 +31,8 @@ pub trait PageStore: Drop {
     ghost content: { Self → Content };
 
     /// The number of pages that may be owned or made zero without asking the host for memory. `reserve` raises it,
-    /// `own` and `zero` lower it by at most 1, `write` leaves it as it was, and `snapshot` does not lower it. The other
-    /// calls that change the store promise nothing of it if they succeed.
+    /// `own` and `zero` lower it by at most 1, and `zero_pages` by at most 1 for each held page. `write` leaves it as it
+    /// was, and `snapshot` does not lower it. The other calls that change the store promise nothing of it if they succeed.
     ghost spare: { Self → ℕ };
 
     /// The possible outcomes of a call that asks the host for memory: the store before it, the call, whether it
@@ -117,6 +118,15 @@ pub trait PageStore: Drop {
         requires room { 1 ≤ spare self.old }
         ensures zero { content self.new ≡ zeroed (content self.old) v.0 page (page + 1) }
         ensures spare { spare self.old ≤ spare self.new + 1 };
+
+    /// Makes the pages of a VMO zero from `first` to below `end`, which `zero` does with one. The call needs room
+    /// (`spare`) for each of them that is held, and takes no more. A store may pass the pages that are zero at once.
+    fn zero_pages(&mut self, v: Koid, first: PageNo, end: PageNo)
+        requires vmo { IsSome ((content self.old).count v.0) }
+        requires range { (first ≤ end) × (end ≤ pages_of (content self.old) v.0) }
+        requires room { held_from (content self.old) v.0 first (end - first) ≤ spare self.old }
+        ensures zero { content self.new ≡ zeroed (content self.old) v.0 first end }
+        ensures spare { spare self.old ≤ spare self.new + held_from (content self.old) v.0 first (end - first) };
 
     /// Returns how many pages a VMO has.
     fn count(&self, v: Koid) -> PageNo

@@ -1,12 +1,13 @@
 //! A store that refuses on demand.
 
-ghost use Rattle.std.specs.Prelude.{◌≡◌, ℕ, ◌+◌, ◌<◌, ◌≤◌, ◌⊎◌, ◌↔◌, true, length, is_ok, IsSome, IsTrue, IfOk, OnOk, OnErr, IsErr, Contains};
+ghost use Rattle.std.specs.Prelude.{◌≡◌, ℕ, ◌+◌, ◌-◌, ◌<◌, ◌≤◌, ◌⊎◌, ◌↔◌, true, length, is_ok, IsSome, IsTrue, IfOk, OnOk, OnErr, IsErr, Contains};
 ghost use Rattle.vm_base.specs.declared.limits.TheConstants.{FRAMES, KOIDS, PAGE, VMO_PAGES};
 ghost use Rattle.vm_model.specs.Contents.Content.{nothing, used, sole, pages_of, created};
 ghost use Rattle.vm_model.specs.Contents.Owning.{Owns};
 ghost use Rattle.vm_model.specs.Contents.Sharing.{snapshotted, without};
 ghost use Rattle.vm_model.specs.Contents.Zeroing.{zeroed, resized};
 ghost use Rattle.page_store.specs.Pages.{IsShownOnce, Overwrites};
+ghost use Rattle.page_store.specs.Held.{held_from};
 ghost use Rattle.page_store.specs.Requests.{Fill, Create, Snapshot, Reserve};
 ghost use Rattle.page_store.specs.Refusing.{Refusals, next_call, counted};
 
@@ -205,6 +206,17 @@ impl<P: PageStore> PageStore for RefusingStore<P> {
         ensures calls { self.new.1 ≡ self.old.1 }
     {
         self.inner.zero(v, page);
+    }
+
+    fn zero_pages(&mut self, v: Koid, first: PageNo, end: PageNo)
+        requires vmo { IsSome ((P.content self.old.0).count v.0) }
+        requires range { (first ≤ end) × (end ≤ pages_of (P.content self.old.0) v.0) }
+        requires room { held_from (P.content self.old.0) v.0 first (end - first) ≤ P.spare self.old.0 }
+        ensures zero { P.content self.new.0 ≡ zeroed (P.content self.old.0) v.0 first end }
+        ensures spare { P.spare self.old.0 ≤ P.spare self.new.0 + held_from (P.content self.old.0) v.0 first (end - first) }
+        ensures calls { self.new.1 ≡ self.old.1 }
+    {
+        self.inner.zero_pages(v, first, end);
     }
 
     fn count(&self, v: Koid) -> PageNo {

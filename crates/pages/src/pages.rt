@@ -1,6 +1,6 @@
 //! The contract of the pages of VMOs, however they are kept.
 
-ghost use Rattle.std.specs.Prelude.{◌≡◌, ℕ, ◌+◌, ◌<◌, ◌≤◌, ◌⊎◌, true, length, take, drop, IsSome, None, Some, IfSome, IfNone, IfOk, OnOk, OnErr};
+ghost use Rattle.std.specs.Prelude.{◌≡◌, ℕ, ◌+◌, ◌-◌, ◌<◌, ◌≤◌, ◌⊎◌, true, length, take, drop, IsSome, None, Some, IfSome, IfNone, IfOk, OnOk, OnErr};
 ghost use Rattle.vm_model.specs.Contents.Content.{Content, used, sole, pages_of, created, shown, vmos_of, IsGood};
 ghost use Rattle.vm_model.specs.Contents.Owning.{Owns};
 ghost use Rattle.vm_model.specs.Contents.Sharing.{snapshotted, without};
@@ -8,6 +8,7 @@ ghost use Rattle.vm_model.specs.Contents.Writing.{WritesPiece};
 ghost use Rattle.vm_model.specs.Contents.Zeroing.{zeroed, resized};
 ghost use Rattle.vm_model.specs.Machine.Attribution.{is_charged};
 ghost use Rattle.page_store.specs.Pages.{look_at, tag_held};
+ghost use Rattle.page_store.specs.Held.{held_from};
 
 use page_store::Look;
 use vm_base::{HostMemory, KOIDS, Koid, PAGE, PageNo, Tag, VMO_PAGES};
@@ -23,7 +24,8 @@ pub trait Pages: Drop {
     ghost content: { Self → Content };
 
     /// The number of pages that may be owned or made zero without asking the host for memory. `reserve` raises it,
-    /// `own`, `write` and `zero` lower it by at most 1, and `snapshot` does not lower it.
+    /// `own`, `write` and `zero` lower it by at most 1, `zero_pages` by at most 1 for each held page, and `snapshot` does
+    /// not lower it.
     ghost spare: { Self → ℕ };
 
     /// Creates a VMO of `count` zero pages under the next koid, and returns the koid. `HostMemory` if the host has too
@@ -100,6 +102,15 @@ pub trait Pages: Drop {
         requires room { 1 ≤ spare self.old }
         ensures zero { content self.new ≡ zeroed (content self.old) v.0 page (page + 1) }
         ensures spare { spare self.old ≤ spare self.new + 1 };
+
+    /// Makes the pages of a VMO zero from `first` to below `end`, as `zero` does with one page. The call needs room
+    /// (`spare`) for each of them that is held. It goes over the range once, and looks for no page from the start.
+    fn zero_pages(&mut self, v: Koid, first: PageNo, end: PageNo)
+        requires vmo { IsSome ((content self.old).count v.0) }
+        requires range { (first ≤ end) × (end ≤ pages_of (content self.old) v.0) }
+        requires room { held_from (content self.old) v.0 first (end - first) ≤ spare self.old }
+        ensures zero { content self.new ≡ zeroed (content self.old) v.0 first end }
+        ensures spare { spare self.old ≤ spare self.new + held_from (content self.old) v.0 first (end - first) };
 
     /// Returns the number of pages of a VMO.
     fn count(&self, v: Koid) -> PageNo

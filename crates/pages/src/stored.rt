@@ -51,6 +51,10 @@ impl<P: PageStore> crate::pages::Pages for P {
         self.zero(v, page);
     }
 
+    fn zero_pages(&mut self, v: Koid, first: PageNo, end: PageNo) {
+        self.zero_pages(v, first, end);
+    }
+
     #[inline(always)]
     fn count(&self, v: Koid) -> PageNo {
         self.count(v)

@@ -4,7 +4,7 @@ use Rattle.page_store.proofs.HeldLaws.{zeroed-start, zeroed-next, zeroed-end}
 use Rattle.page_store.proofs.flat_store.FlatStore.release_pages.Goals as goal
 
 pub loop-page-init : goal.loop-page-init
-loop-page-init c = record { first = omega arith; end = inr refl; zero = zeroed-start (flat_content c.args.self.now) c.args.v.0 c.args.first }
+loop-page-init c = record { first = omega arith; end = inr refl; zero = zeroed-start (flat_content c.args.self.now) c.args.v.0 c.args.first; room = omega arith }
 
 pub loop-page-smaller : goal.loop-page-smaller
 loop-page-smaller c = let next = c.in-Some.ensures.some in omega (arith, next.order, next.below)
@@ -17,9 +17,10 @@ loop-page-preserved c =
       first = omega (arith, next.order, inv.first);
       end = inl (omega (arith, next.below));
       zero = zeroed-next (flat_content c.args.self.now) (flat_content c.loop-page.self) c.args.v.0 c.args.first c.loop-page.from c.args.end inv.zero _ _ inv.first next c.release_page.ensures.content;
+      room = omega (arith, c.release_page.ensures.room, inv.room);
     }
 
-pub returns : goal.returns
-returns c =
+pub returns-clause-content : goal.returns-clause-content
+returns-clause-content c =
     let inv = c.loop-page.invariant in
     zeroed-end (flat_content c.args.self.now) (flat_content c.loop-page.self) c.args.v.0 c.args.first c.loop-page.from c.args.end inv.zero inv.end c.in_default.ensures.none
