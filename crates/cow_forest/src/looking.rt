@@ -221,7 +221,7 @@ pub(crate) fn next_shown(
 }
 
 /// Does what `next_shown` does, by the rows of the node and of the nodes above.
-pub(crate) fn next_shown_by_rows(
+fn next_shown_by_rows(
     arena: &CowArena,
     lists: &PageLists,
     jumps: &JumpTable,
@@ -246,6 +246,38 @@ pub(crate) fn next_shown_by_rows(
         at = page + 1;
     }
     None
+}
+
+/// The most pages of a range for which a search does not pay: it goes up to the root.
+const FEW_PAGES: u64 = 2;
+
+/// Returns a page from `from` on, up to `end`, before which no page of a VMO's node shows a frame. Only if no more than two
+/// pages are left, the page itself may show none. Otherwise it does, or is `end`.
+pub(crate) fn next_shown_below(
+    arena: &CowArena,
+    lists: &PageLists,
+    jumps: &JumpTable,
+    leaf: NodeId,
+    from: PageNo,
+    end: PageNo,
+) -> PageNo
+    requires exact { (in_use : ℕ → Bool) × IsExact (tree_of arena.now lists.now) all_in_sight in_use }
+    requires jumps { (next : ℕ) × AreJumps (tree_of arena.now lists.now) next jumps.now }
+    requires leaf { IsSomeAnd (nodes_of arena.now leaf.0) (λ node. IsSome node.koid) }
+    requires order { from ≤ end }
+    ensures range { (from ≤ result) × (result ≤ end) }
+    ensures none { ShowsNoneIn (tree_of arena.now lists.now) leaf.0 from result }
+{
+    if from == end || shown_frame(arena, lists, jumps, leaf, from).is_some() {
+        return from;
+    }
+    if end - from <= FEW_PAGES {
+        return from + 1;
+    }
+    match next_shown_by_rows(arena, lists, jumps, leaf, from + 1) {
+        Some(page) if page < end => page,
+        _ => end,
+    }
 }
 
 /// Returns the first page from `from` on of a VMO's node that comes to a row, of the node or of one above it. No page

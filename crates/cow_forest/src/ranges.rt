@@ -1,6 +1,6 @@
 //! Making a range of pages zero, from row to row.
 
-ghost use Rattle.std.specs.Prelude.{◌≡◌, ◌≢◌, ◌+◌, ◌<◌, ◌≤◌, ℕ, None};
+ghost use Rattle.std.specs.Prelude.{◌≡◌, ◌≢◌, ◌+◌, ◌<◌, ◌≤◌, ℕ, Bool, None, IsSome, IsSomeAnd};
 ghost use Rattle.page_list.specs.Lists.{slots_of};
 ghost use Rattle.frame_pool.specs.Pool.{is_taken};
 ghost use Rattle.cow_arena.specs.declared.node.Node.{Node};
@@ -11,10 +11,10 @@ ghost use Rattle.cow_split.specs.Cost.{depth};
 ghost use Rattle.cow_split.specs.Sight.{IsPage};
 ghost use Rattle.cow_split.specs.Exact.{IsExact, all_in_sight};
 ghost use Rattle.cow_jump.specs.Jumps.{AreJumps};
-ghost use Rattle.cow_forest.specs.inside.Looking.{IsNextRowBelow};
+ghost use Rattle.cow_forest.specs.inside.Looking.{IsNextRowBelow, ShowsNoneIn};
 ghost use Rattle.cow_forest.specs.Ranges.{rows_in, rows_reached, IsReadyToZero, HasZeroedSome, AreZero, HasNoFrame};
 
-use crate::looking::next_shown_by_rows;
+use crate::looking::next_shown_below;
 use cow_arena::{CowArena, NodeId};
 use cow_fork::zero_by_jumps;
 use cow_jump::{JumpTable, holder_by_jumps};
@@ -81,17 +81,37 @@ pub(crate) fn zero_in_turn(
     ensures some { HasZeroedSome arena.now lists.old lists.new frames.old frames.new leaf.0 first end }
     ensures zero { AreZero (tree_of arena.now lists.new) leaf.0 first end }
 {
-    let mut from = first;
+    let mut from = first_to_zero(arena, lists, jumps, leaf, first, end);
     while from < end {
         from = zero_next(arena, lists, frames, jumps, leaf, from, end);
     }
 }
 
-/// The most pages of a range that become zero with no search, whether they show frames or not. A search goes up to the root.
-const FEW_PAGES: u64 = 2;
+/// Returns a page from `first` on, up to `end`, before which all are zero. A root has no row that says zero, and there no page
+/// is looked at.
+fn first_to_zero(
+    arena: &CowArena,
+    lists: &PageLists,
+    jumps: &JumpTable,
+    leaf: NodeId,
+    first: PageNo,
+    end: PageNo,
+) -> PageNo
+    requires exact { (in_use : ℕ → Bool) × IsExact (tree_of arena.now lists.now) all_in_sight in_use }
+    requires jumps { (next : ℕ) × AreJumps (tree_of arena.now lists.now) next jumps.now }
+    requires leaf { IsSomeAnd (nodes_of arena.now leaf.0) (λ node. IsSome node.koid) }
+    requires order { first ≤ end }
+    ensures range { (first ≤ result) × (result ≤ end) }
+    ensures none { ShowsNoneIn (tree_of arena.now lists.now) leaf.0 first result }
+{
+    if arena.look(leaf).parent.is_none() {
+        return first;
+    }
+    next_shown_below(arena, lists, jumps, leaf, first, end)
+}
 
 /// Makes a page of a VMO's node zero, and returns a page behind it, up to `end`, before which all are zero. If the page showed
-/// no frame and more than a few are left, it is the next one that does.
+/// no frame, the next page that does is searched for.
 fn zero_next(
     arena: &CowArena,
     lists: &mut PageLists,
@@ -110,14 +130,10 @@ fn zero_next(
     ensures some { HasZeroedSome arena.now lists.old lists.new frames.old frames.new leaf.0 page (page + 1) }
     ensures zero { AreZero (tree_of arena.now lists.new) leaf.0 page result }
 {
-    let held = zero_by_jumps(arena, lists, frames, jumps, leaf, page);
-    if held || end - page <= FEW_PAGES {
+    if zero_by_jumps(arena, lists, frames, jumps, leaf, page) {
         return page + 1;
     }
-    match next_shown_by_rows(arena, lists, jumps, leaf, page + 1) {
-        Some(next) if next < end => next,
-        _ => end,
-    }
+    next_shown_below(arena, lists, jumps, leaf, page + 1, end)
 }
 
 /// Makes those pages of a VMO's node zero that come to the rows of a list on its pages from `here` to below `to`: the page that

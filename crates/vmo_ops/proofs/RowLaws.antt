@@ -1,6 +1,6 @@
 -- Laws of a loop that does something to pages of a VMO in a row, one page after another: that the frames which the rest
 -- takes are there, and what the loop leads to.
-use Rattle.std.proofs.Common.{◌≡◌, ◌≢◌, ℕ, zero, suc, ◌+◌, ◌-◌, ◌<◌, ◌≤◌, Bool, cond, List, ◌∷◌, subst, arith}
+use Rattle.std.proofs.Common.{◌≡◌, ◌≢◌, ℕ, suc, ◌+◌, ◌-◌, ◌<◌, ◌≤◌, Bool, cond, List, ◌∷◌, subst, arith}
 use Rattle.std.specs.List.{range_with_len}
 use Rattle.vm_model.specs.Contents.Content.{Content, pages_of, used, IsGood}
 use Rattle.vm_model.proofs.OwningLaws.{count_from, count_from-same}
@@ -56,15 +56,3 @@ module _ (run : Run) (takes : Takes) (v : ℕ) (old : Content) (all : List ℕ) 
         onward = λ last w. way.onward last (subst (λ (n : ℕ). run now (range_with_len from n) last) e
             (done.onward (range_with_len (from + 1) (end - (from + 1))) last w));
       }
-
-  -- pages to which nothing has to be done are passed over
-  pub IsUnderWay-gap : (now : Content) (from end n : ℕ) → IsUnderWay run takes v old all now from end → from + n ≤ end
-      → ((p : ℕ) → from ≤ p → p < from + n → IsDone run takes now p now)
-      → IsUnderWay run takes v old all now (from + n) end
-  IsUnderWay-gap now from end zero way h none =
-      let e : from ≡ from + zero = omega arith in subst (λ (a : ℕ). IsUnderWay run takes v old all now a end) e way
-  IsUnderWay-gap now from end (suc n) way h none =
-      let e : (from + 1) + n ≡ from + suc n = omega arith in
-      let next = IsUnderWay-step now now from end way (omega arith) (none from (omega arith) (omega arith)) in
-      subst (λ (a : ℕ). IsUnderWay run takes v old all now a end) e
-      (IsUnderWay-gap now (from + 1) end n next (omega arith) (λ p low less. none p (omega arith) (omega arith)))

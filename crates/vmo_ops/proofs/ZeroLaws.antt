@@ -1,29 +1,30 @@
--- Laws of zeroing a range by its held pages, from one to the next: what it takes, and what it leads to.
-use Rattle.std.proofs.Common.{min, [], ◌≡◌, ◌≢◌, ℕ, zero, suc, ◌+◌, ◌-◌, ◌*◌, ◌/◌, ◌<◌, ◌≤◌, Bool, true, false, not, ◌&&◌, List, ◌∷◌, length, replicate, Option, None, Some, ◌⊎◌, refl, sym, ap, subst, arith}
+-- Laws of zeroing a range, whole pages in a row and page by page: what it takes, and what it leads to.
+use Rattle.std.proofs.Common.{min, [], ◌≡◌, ◌≢◌, ℕ, zero, suc, ◌+◌, ◌-◌, ◌*◌, ◌/◌, ◌<◌, ◌≤◌, Bool, true, false, not, cond, ◌&&◌, List, ◌∷◌, length, replicate, Option, None, Some, ◌⊎◌, inl, inr, refl, sym, ap, subst, ◌∙◌, arith}
 use Rattle.std.specs.Prelude.{IsSome, is_some}
 use Rattle.std.specs.List.{range_with_len, list_any, filter}
 use Rattle.std.proofs.lemmas.Bool.{cases_Bool, both_ways, and_left, or_left, or_right}
+use Rattle.std.proofs.lemmas.Bool.Decides.{nat_tests}
 use Rattle.vm_base.specs.declared.limits.TheConstants.{PAGE}
+use Rattle.vm_base.proofs.SearchLaws.{bit-true}
 use Rattle.vm_model.specs.Contents.Content.{Content, is_held, pages_of, used, sole, IsGood}
 use Rattle.vm_model.specs.Contents.Owning.{need}
 use Rattle.vm_model.specs.Contents.Writing.{touched, WritesPiece}
-use Rattle.vm_model.specs.Contents.Zeroing.{is_cleared, ZeroesPage, Zeroes, owned_by_zero}
+use Rattle.vm_model.specs.Contents.Zeroing.{zeroed, is_cleared, ZeroesPage, Zeroes, owned_by_zero}
 use Rattle.vm_model.specs.Naming.Pins.{Pin, is_pinned, any_pinned}
 use Rattle.vm_model.specs.declared.names.Target.{Target}
 use Rattle.vm_model.specs.Machine.State.{State, koid_of}
 use Rattle.vm_model.specs.Machine.Step.{touches_any}
 use Rattle.vm_model.proofs.NamesLaws.{target_of-at}
-use Rattle.vm_model.proofs.ContentLaws.{IsOfHeld, IsOfHeld-held}
+use Rattle.vm_model.proofs.ContentLaws.{IsOfHeld}
 use Rattle.vm_model.proofs.OwningLaws.{count_from, count_from-same, count_from_le}
-use Rattle.vm_model.proofs.WritingLaws.{IsKept-same}
 use Rattle.vm_model.proofs.PinLaws.{any_pinned_at, none_pinned}
+use Rattle.vm_model.proofs.ZeroingLaws.{page-zeroed_out}
 use Rattle.vm_model.proofs.ZeroesLaws.{ZeroedPage, ZeroedPage-from_ZeroesPage}
-use Rattle.vmo_ops.proofs.ModelLaws.{ZeroesPage-none, Zeroes-none, need-zero}
+use Rattle.vmo_ops.proofs.ModelLaws.{count_from-next, count_from-split, zeroed-empty, zeroed-more, Zeroes-none, need-zero}
 use Rattle.vmo_ops.specs.Costs.{held_touched}
-use Rattle.vmo_ops.proofs.CountLaws.{IsNextHeld, held_below, count_from-held}
 use Rattle.vm_model.specs.Contents.Writing.{part_at}
 use Rattle.vmo_ops.proofs.PartLaws.{part_bytes-replicate}
-use Rattle.vmo_ops.proofs.RowLaws.{Run, Takes, IsUnderWay, IsUnderWay-start, IsUnderWay-step, IsUnderWay-gap}
+use Rattle.vmo_ops.proofs.RowLaws.{Run, Takes, IsUnderWay, IsUnderWay-start, IsUnderWay-step}
 
 -- ---- a page that is cleared
 
@@ -134,67 +135,109 @@ module _ (v : ℕ) (pinned : ℕ → Bool) (offset len : ℕ) (old : Content) wh
         → Zeroes old v pinned offset len (touched offset len) now
     IsZeroing-end = grind (arith, Zeroes-none)
 
-    -- the next page that is held
-    module _ (page : ℕ) (next : IsNextHeld now v from end page) where
-      -- there is a row for it
-      pub IsZeroing-row : 1 ≤ spare
-      IsZeroing-row =
-          let first = count_from-held now v (is_held now v) (IsOfHeld-held now v) from end page next in
-          grind (arith, first)
+    -- there is a row for the page, where it is held
+    pub IsZeroing-row : from < end → is_held now v from ≡ true → 1 ≤ spare
+    IsZeroing-row less held =
+        let first = count_from-next (is_held now v) from end less in
+        omega (arith, first, bit-true (is_held now v from) held, way.rows)
 
-      -- the pages before it are passed over
-      passed : IsUnderWay (zeroing v pinned offset len) (takes_frame v pinned offset len) v old
-          (touched offset len) now page end
-      passed =
-          let n : from + (page - from) ≡ page = omega (arith, next.0) in
-          subst (λ (p : ℕ). IsUnderWay (zeroing v pinned offset len) (takes_frame v pinned offset len) v old
-          (touched offset len) now p end) n
-          (IsUnderWay-gap (zeroing v pinned offset len) (takes_frame v pinned offset len) v old (touched offset len) now
-          from end (page - from) way.way (omega (arith, next.1))
-          (λ p low less. record {
-            kept = IsKept-same now now way.way.good refl;
-            others = λ q apart. refl;
-            used = omega arith;
-            onward = λ ps last rest. (
-              now,
-              ZeroesPage-none now v pinned offset len p
-                  (next.3 p low (omega (arith, next.0))),
-              rest,
-            );
-          }))
+    -- there is a frame for it, where it does not become zero as a whole
+    pub IsZeroing-frame : from < end → is_cleared pinned offset len from ≡ false → is_held now v from ≡ true
+        → (sole now v from ≡ true) ⊎ (used now < now.frames)
+    IsZeroing-frame less part held =
+        let first = count_from-next (takes_frame v pinned offset len now) from end less in
+        grind (arith, first, cases_Bool)
 
-      -- and a frame, where it takes one
-      pub IsZeroing-frame : (is_cleared pinned offset len page ≡ true) ⊎
-          ((sole now v page ≡ true) ⊎ (used now < now.frames))
-      IsZeroing-frame =
-          let first = count_from-held now v (takes_frame v pinned offset len now)
-          (IsOfHeld-takes now v pinned offset len) from end page next in
-          grind (arith, first, cases_Bool)
+    -- the page is zeroed
+    pub IsZeroing-step : (mid : Content) (left : ℕ) → from < end → ZeroesPage now v pinned offset len from mid
+        → spare ≤ left + cond (is_held now v from) 1 0 → IsZeroing v pinned offset len old mid (from + 1) end left
+    IsZeroing-step mid left less zeroes cost =
+        let zeroed : ZeroedPage now v pinned offset len from mid =
+        ZeroedPage-from_ZeroesPage now v pinned offset len from mid way.way.good (omega (arith, way.way.inside)) way.start zeroes in
+        let held : (q : ℕ) → q ≢ from → is_held mid v q ≡ is_held now v q =
+        λ q apart. ap is_some (zeroed.other_page q apart) in
+        let rest : count_from (is_held mid v) (from + 1) (end - (from + 1)) ≡ count_from (is_held now v) (from + 1)
+        (end - (from + 1)) =
+        count_from-same (is_held mid v) (is_held now v) (from + 1) (end - (from + 1))
+        (λ q low less. let apart : q ≢ from = omega arith in held q apart) in
+        record {
+          way =
+              IsUnderWay-step (zeroing v pinned offset len) (takes_frame v pinned offset len) v old
+              (touched offset len) now mid from end way.way less (record {
+                kept = zeroed.kept;
+                others = λ q apart. grind (arith, held q apart, zeroed.other_sole q apart);
+                used = zeroed.used;
+                onward = λ ps last w. (mid, zeroes, w);
+              });
+          vmo = rw zeroed.kept.count way.vmo;
+          start = omega (arith, way.start);
+          inside = omega (arith, way.inside, zeroed.kept.pages v);
+          rows = omega (arith, rest, count_from-next (is_held now v) from end less, way.rows, cost);
+        }
 
-      -- it is zeroed
-      pub IsZeroing-step : (mid : Content) (left : ℕ) → ZeroesPage now v pinned offset len page mid → spare ≤ left + 1
-          → IsZeroing v pinned offset len old mid (page + 1) end left
-      IsZeroing-step mid left zeroes cost =
-          let zeroed : ZeroedPage now v pinned offset len page mid =
-          ZeroedPage-from_ZeroesPage now v pinned offset len page mid way.way.good
-          (held_below now v page way.way.good next.2) (omega (arith, way.start, next.0)) zeroes in
-          let held : (q : ℕ) → q ≢ page → is_held mid v q ≡ is_held now v q =
-          λ q apart. ap is_some (zeroed.other_page q apart) in
-          let rest : count_from (is_held mid v) (page + 1) (end - (page + 1)) ≡ count_from (is_held now v) (page + 1)
-          (end - (page + 1)) =
-          count_from-same (is_held mid v) (is_held now v) (page + 1) (end - (page + 1))
-          (λ q low less. let apart : q ≢ page = omega arith in held q apart) in
-          record {
-            way =
-                IsUnderWay-step (zeroing v pinned offset len) (takes_frame v pinned offset len) v old
-                (touched offset len) now mid page end passed next.1 (record {
-                  kept = zeroed.kept;
-                  others = λ q apart. grind (arith, held q apart, zeroed.other_sole q apart);
-                  used = zeroed.used;
-                  onward = λ ps last w. (mid, zeroes, w);
-                });
-            vmo = rw zeroed.kept.count way.vmo;
-            start = omega (arith, way.start, next.0);
-            inside = omega (arith, way.inside, zeroed.kept.pages v);
-            rows = grind (arith, rest, count_from-held now v (is_held now v) (IsOfHeld-held now v) from end page next);
-          }
+  -- pages in a row become zero as wholes
+  pub IsZeroing-run : (n : ℕ) (now mid : Content) (from end spare left : ℕ) → IsZeroing v pinned offset len old now from end spare
+      → from + n ≤ end → ((p : ℕ) → from ≤ p → p < from + n → is_cleared pinned offset len p ≡ true)
+      → mid ≡ zeroed now v from (from + n) → spare ≤ left + count_from (is_held now v) from n
+      → IsZeroing v pinned offset len old mid (from + n) end left
+  unfolding count_from
+  IsZeroing-run zero now mid from end spare left way high cleared is cost =
+      let place : from ≡ from + 0 = omega arith in
+      let same : now ≡ mid = sym (is ∙ (ap (zeroed now v from) (sym place) ∙ zeroed-empty now v from)) in
+      subst (λ (c : Content). IsZeroing v pinned offset len old c (from + 0) end left) same
+      (subst (λ (p : ℕ). IsZeroing v pinned offset len old now p end left) place
+      (record { way = way.way; vmo = way.vmo; start = way.start; inside = way.inside; rows = omega (arith, way.rows, cost) }))
+  IsZeroing-run (suc n) now mid from end spare left way high cleared is cost =
+      let whole = cleared from (omega arith) (omega arith) in
+      let next = zeroed now v from (from + 1) in
+      let page : ZeroesPage now v pinned offset len from next = record {
+        cleared = λ e. refl;
+        held = λ part. absurd (both_ways (is_cleared pinned offset len from) part whole);
+        zero = λ part. absurd (both_ways (is_cleared pinned offset len from) part whole);
+      } in
+      let rest : count_from (is_held next v) (from + 1) n ≡ count_from (is_held now v) (from + 1) n =
+      count_from-same (is_held next v) (is_held now v) (from + 1) n
+      (λ q low less. ap is_some (page-zeroed_out now v from (from + 1) v q (λ same. inr low))) in
+      let place : (from + 1) + n ≡ from + suc n = omega arith in
+      let more : mid ≡ zeroed next v (from + 1) ((from + 1) + n) =
+      is ∙ (ap (zeroed now v from) (sym place) ∙ sym (zeroed-more now v from (from + 1) ((from + 1) + n) (omega arith) (omega arith))) in
+      let step = IsZeroing-step now from end spare way next (spare - cond (is_held now v from) 1 0) (omega arith) page (omega arith) in
+      subst (λ (p : ℕ). IsZeroing v pinned offset len old mid p end left) place
+      (IsZeroing-run n next mid (from + 1) end (spare - cond (is_held now v from) 1 0) left step (omega arith)
+      (λ p low less. cleared p (omega arith) (omega arith)) more (omega (arith, rest, cost)))
+
+  module _ (now : Content) (from stop end spare : ℕ) (way : IsZeroing v pinned offset len old now from end spare)
+      (order : from ≤ stop) (bound : stop ≤ end) where
+    -- there are rows for them
+    pub IsZeroing-rows : count_from (is_held now v) from (stop - from) ≤ spare
+    IsZeroing-rows = omega (arith, way.rows, count_from-split (is_held now v) from stop end order bound)
+
+    pub IsZeroing-cleared : (mid : Content) (left : ℕ) → ((p : ℕ) → from ≤ p → p < stop → is_cleared pinned offset len p ≡ true)
+        → mid ≡ zeroed now v from stop → spare ≤ left + count_from (is_held now v) from (stop - from)
+        → IsZeroing v pinned offset len old mid stop end left
+    IsZeroing-cleared mid left cleared is cost =
+        let place : from + (stop - from) ≡ stop = omega arith in
+        subst (λ (p : ℕ). IsZeroing v pinned offset len old mid p end left) place
+        (IsZeroing-run (stop - from) now mid from end spare left way (omega arith) (λ p low less. cleared p low (omega arith))
+        (is ∙ ap (zeroed now v from) (sym place)) cost)
+
+-- ---- pages that become zero as wholes
+
+-- a page that the range does not hold wholly does not
+pub is_cleared-cut : (pinned : ℕ → Bool) (offset len p : ℕ) → (PAGE * p < offset) ⊎ (offset + len < PAGE * (p + 1)) → is_cleared pinned offset len p ≡ false
+is_cleared-cut = grind (arith, nat_tests)
+
+-- nor does a pinned one
+pub is_cleared-pinned : (pinned : ℕ → Bool) (offset len p : ℕ) → pinned p ≡ true → is_cleared pinned offset len p ≡ false
+is_cleared-pinned = grind (arith, cases_Bool)
+
+-- any other does
+pub is_cleared-whole : (pinned : ℕ → Bool) (offset len p : ℕ) → offset ≤ PAGE * p → PAGE * (p + 1) ≤ offset + len → pinned p ≡ false
+    → is_cleared pinned offset len p ≡ true
+is_cleared-whole = grind (arith, nat_tests)
+
+-- up to there the pages lie in the range's, which end at `end`
+pub stop-bound : (offset len first end from stop : ℕ) → first ≡ offset / PAGE → first ≤ end → len ≤ end * PAGE - offset → from ≤ end
+    → (stop ≡ from) ⊎ (stop * PAGE ≤ offset + len) → stop ≤ end
+stop-bound offset len first end from stop is order all low (inl same) = omega (arith, same, low)
+stop-bound offset len first end from stop is order all low (inr whole) = omega (arith, is, order, all, whole)

@@ -111,7 +111,7 @@ fn first_held<P: Pages>(store: &P, v: Koid, from: PageNo, end: PageNo) -> Option
 
 // Whether a page is held.
 #[tactic(auto, using(pages::proofs::LookLaws::look_laws))]
-fn is_held_at<P: Pages>(store: &P, v: Koid, page: PageNo) -> bool
+pub(crate) fn is_held_at<P: Pages>(store: &P, v: Koid, page: PageNo) -> bool
     requires { page < pages_of (P.content store.now) v.0 }
     ensures { result ≡ is_held (P.content store.now) v.0 page }
 {

@@ -1,10 +1,10 @@
 //! Zeroing a range (`ZX_VMO_OP_ZERO`).
 
-ghost use Rattle.std.specs.Prelude.{◌≡◌, ◌+◌, ◌*◌, ◌/◌, ◌<◌, ◌≤◌, not, ◌&&◌, ◌==◌, true, None, Some, IsSome, ◌⊎◌, IfNone, IfSome, OnOk, OnErr, MatchResult};
+ghost use Rattle.std.specs.Prelude.{◌≡◌, ℕ, ◌+◌, ◌*◌, ◌/◌, ◌<◌, ◌≤◌, Bool, not, ◌&&◌, ◌==◌, true, false, if◌then◌else◌, None, Some, IsSome, ◌⊎◌, IfNone, IfSome, OnOk, OnErr, MatchResult};
 ghost use Rattle.vm_base.specs.declared.names.VmoName.{VmoName};
 ghost use Rattle.vm_model.specs.declared.command.Command.{Command};
 ghost use Rattle.vm_model.specs.declared.reply.Reply.{Reply};
-ghost use Rattle.vm_model.specs.Contents.Content.{pages_of, sole, used, IsGood};
+ghost use Rattle.vm_model.specs.Contents.Content.{pages_of, is_held, sole, used, IsGood};
 ghost use Rattle.vm_model.specs.Contents.Owning.{need};
 ghost use Rattle.vm_model.specs.Contents.Writing.{touched};
 ghost use Rattle.vm_model.specs.Naming.Pins.{is_pinned};
@@ -16,13 +16,13 @@ ghost use Rattle.vmo_ops.specs.Targets.{with_pins, DoesWith, IsPlaced, IsRefusal
 ghost use Rattle.vmo_ops.specs.Costs.{held_touched};
 
 use crate::filling::fill_part;
-use crate::held_pages::next_held_below;
+use crate::held_pages::{is_held_at, next_held_below};
 use crate::owning::{are_ample, is_sole, with_one};
 use crate::ranges::{PagePart, part_in_page, touched_pages};
 use crate::ready::{RangeToChange, place_to_change};
 use pages::Pages;
 use pin_table::PinTable;
-use vm_base::{HostMemory, Koid, PAGE, PAGE_BYTES, PageNo, Refusal};
+use vm_base::{HostMemory, Koid, PAGE, PAGE_BYTES, PageNo, Refusal, VMO_PAGES, page_of};
 use vmo_table::Target;
 
 /// Makes the bytes of a range zero (`ZX_VMO_OP_ZERO`): `len` bytes from `offset` bytes into the name on. A page that
@@ -204,7 +204,8 @@ fn is_cleared_page(pins: &PinTable, v: Koid, page: PageNo, part: PagePart) -> bo
     part.len == PAGE && !pins.pinned(v, page, 1)
 }
 
-/// Zeroes a range inside the VMO, one held page after another. There is room for it.
+/// Zeroes a range inside the VMO: whole pages in a row at once, up to the next that is pinned or cut, and that page by
+/// itself. There is room for it.
 pub(crate) fn zero_pages<P: Pages>(store: &mut P, pins: &PinTable, v: Koid, offset: u64, len: u64)
     requires good { IsGood (P.content store.old) }
     requires vmo { IsSome ((P.content store.old).count v.0) }
@@ -218,33 +219,61 @@ pub(crate) fn zero_pages<P: Pages>(store: &mut P, pins: &PinTable, v: Koid, offs
 {
     let (first, end) = touched_pages(offset, len);
     let mut from = first;
-    while let Some(page) = next_held_below(store, v, from, end) {
-        zero_part(store, pins, v, offset, len, page);
-        from = page + 1;
+    loop {
+        let stop = cleared_until(pins, v, offset, len, from);
+        store.zero_pages(v, from, stop);
+        if stop >= end {
+            return;
+        }
+        zero_part(store, v, offset, len, stop);
+        from = stop + 1;
+    }
+}
+
+// Returns the first page from `from` on that does not become zero as a whole: it is pinned, or the range does not hold all
+// of it. The call looks for a pin once.
+fn cleared_until(pins: &PinTable, v: Koid, offset: u64, len: u64, from: PageNo) -> PageNo
+    requires { offset + len ≤ VMO_PAGES * PAGE }
+    ensures order { from ≤ result }
+    ensures end { (result ≡ from) ⊎ (result * PAGE ≤ offset + len) }
+    ensures cleared { (p : ℕ) → from ≤ p → p < result → is_cleared (is_pinned (pins_of pins.now) v.0) offset len p ≡ true }
+    ensures stop { is_cleared (is_pinned (pins_of pins.now) v.0) offset len result ≡ false }
+{
+    let whole = page_of(offset + len);
+    if from >= whole || from * PAGE < offset {
+        return from;
+    }
+    match pins.next_pinned(v, from) {
+        Some(pinned) if pinned < whole => pinned,
+        _ => whole,
     }
 }
 
 // The bytes of a page of zeros.
 static ZEROS: [u8; PAGE_BYTES] = [0; PAGE_BYTES];
 
-// Zeroes the part of a range that falls into one page. The range touches the page, and the page is held.
-fn zero_part<P: Pages>(store: &mut P, pins: &PinTable, v: Koid, offset: u64, len: u64, page: PageNo)
+// Zeroes the part of a range that falls into one page, if the page is held. The page does not become zero as a whole: it
+// is pinned, or the range does not hold all of it.
+fn zero_part<P: Pages>(store: &mut P, v: Koid, offset: u64, len: u64, page: PageNo)
     requires good { IsGood (P.content store.old) }
-    requires held { IsSome ((P.content store.old).page v.0 page) }
     requires range { offset + len ≤ pages_of (P.content store.old) v.0 * PAGE }
     requires first { offset / PAGE ≤ page }
     requires last { page * PAGE < offset + len }
-    requires room { 1 ≤ P.spare store.old }
-    requires free { (is_cleared (is_pinned (pins_of pins.now) v.0) offset len page ≡ true)
-        ⊎ ((sole (P.content store.old) v.0 page ≡ true) ⊎ (used (P.content store.old) < (P.content store.old).frames)) }
-    ensures zeroes { ZeroesPage (P.content store.old) v.0 (is_pinned (pins_of pins.now) v.0) offset len page
-        (P.content store.new) }
-    ensures spare { P.spare store.old ≤ P.spare store.new + 1 }
+    requires room { is_held (P.content store.old) v.0 page ≡ true → 1 ≤ P.spare store.old }
+    requires free { is_held (P.content store.old) v.0 page ≡ true →
+        (sole (P.content store.old) v.0 page ≡ true) ⊎ (used (P.content store.old) < (P.content store.old).frames) }
+    ensures zeroes { (pinned : ℕ → Bool) → is_cleared pinned offset len page ≡ false →
+        ZeroesPage (P.content store.old) v.0 pinned offset len page (P.content store.new) }
+    ensures spare { P.spare store.old ≤ P.spare store.new + (if is_held (P.content store.old) v.0 page then 1 else 0) }
 {
-    let part = part_in_page(offset, len, page);
-    if is_cleared_page(pins, v, page, part) {
-        store.zero(v, page);
-    } else {
-        fill_part(store, v, page, part, &ZEROS);
+    if !is_held_at(store, v, page) {
+        return;
     }
+    fill_part(
+        store,
+        v,
+        page,
+        part_in_page(offset, len, page),
+        &ZEROS,
+    );
 }

@@ -1,22 +1,7 @@
-use Rattle.std.proofs.Common.{rules}
-use Rattle.vmo_ops.proofs.ZeroLaws.{IsZeroing-start, IsZeroing-row, IsZeroing-frame, IsZeroing-step, IsZeroing-end}
+use Rattle.std.proofs.Common.{rules, refl, arith}
+use Rattle.pages.proofs.HeldLaws.{held-count}
+use Rattle.vmo_ops.proofs.ZeroLaws.{IsZeroing-start, IsZeroing-rows, IsZeroing-cleared, IsZeroing-row, IsZeroing-frame, IsZeroing-step, IsZeroing-end}
 use Rattle.vmo_ops.proofs.zeroing.zero_pages.Goals as goal
 
-pub loop-page-init : goal.loop-page-init
-loop-page-init g c = search (rules, IsZeroing-start)
-
-pub zero_part-requires-clause-room : goal.zero_part-requires-clause-room
-zero_part-requires-clause-room g c =
-    IsZeroing-row _ _ _ _ _ _ _ _ _ c.loop-page.invariant c.in-Some.page c.in-Some.ensures.some
-
-pub zero_part-requires-clause-free : goal.zero_part-requires-clause-free
-zero_part-requires-clause-free g c =
-    IsZeroing-frame _ _ _ _ _ _ _ _ _ c.loop-page.invariant c.in-Some.page c.in-Some.ensures.some
-
-pub loop-page-preserved : goal.loop-page-preserved
-loop-page-preserved g c =
-    IsZeroing-step _ _ _ _ _ _ _ _ _ c.loop-page.invariant c.in-Some.page c.in-Some.ensures.some _ _
-    c.zero_part.ensures.zeroes c.zero_part.ensures.spare
-
-pub returns : goal.returns
-returns g c = IsZeroing-end _ _ _ _ _ _ _ _ _ c.loop-page.invariant c.in_default.ensures.none
+pub loop-stop-init : goal.loop-stop-init
+loop-stop-init g c = search (rules, IsZeroing-start)
