@@ -248,11 +248,8 @@ fn next_shown_by_rows(
     None
 }
 
-/// The most pages of a range for which a search does not pay: it goes up to the root.
-const FEW_PAGES: u64 = 2;
-
-/// Returns a page from `from` on, up to `end`, before which no page of a VMO's node shows a frame. Only if no more than two
-/// pages are left, the page itself may show none. Otherwise it does, or is `end`.
+/// Returns the first page from `from` to below `end` of a VMO's node that shows a frame, or `end` if none does. The first two
+/// cost a look each, and only behind them the call searches, up to the root.
 pub(crate) fn next_shown_below(
     arena: &CowArena,
     lists: &PageLists,
@@ -271,10 +268,14 @@ pub(crate) fn next_shown_below(
     if from == end || shown_frame(arena, lists, jumps, leaf, from).is_some() {
         return from;
     }
-    if end - from <= FEW_PAGES {
-        return from + 1;
+    let next = from + 1;
+    if next == end || shown_frame(arena, lists, jumps, leaf, next).is_some() {
+        return next;
     }
-    match next_shown_by_rows(arena, lists, jumps, leaf, from + 1) {
+    if next + 1 == end {
+        return end;
+    }
+    match next_shown_by_rows(arena, lists, jumps, leaf, next + 1) {
         Some(page) if page < end => page,
         _ => end,
     }

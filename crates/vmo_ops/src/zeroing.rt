@@ -1,6 +1,6 @@
 //! Zeroing a range (`ZX_VMO_OP_ZERO`).
 
-ghost use Rattle.std.specs.Prelude.{◌≡◌, ℕ, ◌+◌, ◌*◌, ◌/◌, ◌<◌, ◌≤◌, Bool, not, ◌&&◌, ◌==◌, true, false, if◌then◌else◌, None, Some, IsSome, ◌⊎◌, IfNone, IfSome, OnOk, OnErr, MatchResult};
+ghost use Rattle.std.specs.Prelude.{◌≡◌, ℕ, ◌+◌, ◌-◌, ◌*◌, ◌/◌, ◌<◌, ◌≤◌, Bool, not, ◌&&◌, ◌==◌, true, false, if◌then◌else◌, None, Some, IsSome, ◌⊎◌, IfNone, IfSome, OnOk, OnErr, MatchResult};
 ghost use Rattle.vm_base.specs.declared.names.VmoName.{VmoName};
 ghost use Rattle.vm_model.specs.declared.command.Command.{Command};
 ghost use Rattle.vm_model.specs.declared.reply.Reply.{Reply};
@@ -8,9 +8,10 @@ ghost use Rattle.vm_model.specs.Contents.Content.{pages_of, is_held, sole, used,
 ghost use Rattle.vm_model.specs.Contents.Owning.{need};
 ghost use Rattle.vm_model.specs.Contents.Writing.{touched};
 ghost use Rattle.vm_model.specs.Naming.Pins.{is_pinned};
-ghost use Rattle.vm_model.specs.Contents.Zeroing.{is_cleared, owned_by_zero, ZeroesPage, Zeroes};
+ghost use Rattle.vm_model.specs.Contents.Zeroing.{zeroed, is_cleared, owned_by_zero, ZeroesPage, Zeroes};
 ghost use Rattle.vm_model.specs.Machine.Step.{reply_of};
 ghost use Rattle.pages.specs.Names.{IsInside};
+ghost use Rattle.pages.specs.Held.{held_from};
 ghost use Rattle.pin_table.specs.Table.{pins_of};
 ghost use Rattle.vmo_ops.specs.Targets.{with_pins, DoesWith, IsPlaced, IsRefusalIn};
 ghost use Rattle.vmo_ops.specs.Costs.{held_touched};
@@ -221,12 +222,25 @@ pub(crate) fn zero_pages<P: Pages>(store: &mut P, pins: &PinTable, v: Koid, offs
     let mut from = first;
     loop {
         let stop = cleared_until(pins, v, offset, len, from);
-        store.zero_pages(v, from, stop);
+        zero_row(store, v, from, stop);
         if stop >= end {
             return;
         }
         zero_part(store, v, offset, len, stop);
         from = stop + 1;
+    }
+}
+
+// Makes pages in a row zero, if there are any.
+fn zero_row<P: Pages>(store: &mut P, v: Koid, first: PageNo, end: PageNo)
+    requires vmo { IsSome ((P.content store.old).count v.0) }
+    requires range { (first ≤ end) × (end ≤ pages_of (P.content store.old) v.0) }
+    requires room { held_from (P.content store.old) v.0 first (end - first) ≤ P.spare store.old }
+    ensures zero { P.content store.new ≡ zeroed (P.content store.old) v.0 first end }
+    ensures spare { P.spare store.old ≤ P.spare store.new + held_from (P.content store.old) v.0 first (end - first) }
+{
+    if first < end {
+        store.zero_pages(v, first, end);
     }
 }
 
@@ -244,8 +258,8 @@ fn cleared_until(pins: &PinTable, v: Koid, offset: u64, len: u64, from: PageNo) 
         return from;
     }
     match pins.next_pinned(v, from) {
-        Some(pinned) if pinned < whole => pinned,
-        _ => whole,
+        Some(pinned) => pinned.min(whole),
+        None => whole,
     }
 }
 

@@ -4,10 +4,10 @@ use Rattle.pin_table.specs.Table.{pins_of}
 use Rattle.vmo_ops.proofs.ZeroLaws.{IsZeroing}
 use Rattle.vmo_ops.proofs.zeroing.zero_pages.Given as goal
 
-abbrev pub invariant-loop-stop : goal.invariant-loop-stop
-invariant-loop-stop g l =
+abbrev pub invariant-loop-v : goal.invariant-loop-v
+invariant-loop-v g l =
     IsZeroing l.v.0 (is_pinned (pins_of l.pins) l.v.0) l.offset l.len (g.P.Pages.content l.fn.store)
     (g.P.Pages.content l.store) l.from l.end (g.P.Pages.spare l.store)
 
-abbrev pub decreases-loop-stop : goal.decreases-loop-stop
-decreases-loop-stop g l = l.end - l.from
+abbrev pub decreases-loop-v : goal.decreases-loop-v
+decreases-loop-v g l = l.end - l.from

@@ -1,11 +1,11 @@
-use Rattle.std.proofs.Common.{arith, refl}
+use Rattle.std.proofs.Common.{arith, refl, sym, ◌∙◌}
 use Rattle.vm_base.specs.declared.limits.TheConstants.{PAGE}
 use Rattle.vmo_ops.proofs.PartLaws.{is_whole-part}
 use Rattle.vmo_ops.proofs.ZeroLaws.{ZeroesPage-part}
 use Rattle.vmo_ops.proofs.zeroing.zero_part.Goals as goal
 
-pub returns-else-is_cleared_page-clause-zeroes : goal.returns-else-is_cleared_page-clause-zeroes
-returns-else-is_cleared_page-clause-zeroes g c =
-    let part = c.part_in_page-part.ensures in
-    ZeroesPage-part _ _ _ _ c.args.offset c.args.len _ _ _ _ (grind (arith, is_whole-part)) c.requires.held part.at
+pub returns-clause-zeroes : goal.returns-clause-zeroes
+returns-clause-zeroes g c = λ pinned cut.
+    let part = c.part_in_page.ensures in
+    ZeroesPage-part _ _ _ _ c.args.offset c.args.len _ _ _ _ cut (sym c.is_held_at.ensures ∙ c.if-not-is_held_at.false) part.at
     part.from part.until (c.fill_part.ensures.writes PAGE 0 refl)
