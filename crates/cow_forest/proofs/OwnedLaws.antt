@@ -1,15 +1,12 @@
--- A page of a VMO is owned where a page of its node is, and becomes zero where that does.
-use Rattle.std.proofs.Common.{◌≡◌, ◌⊎◌, ℕ, ◌+◌, ◌<◌, ◌≤◌, true, List, [], Option, None, Some, refl, sym, ap, subst, ◌∙◌, inl, inr, arith}
+-- A page of a VMO is owned where a page of its node is.
+use Rattle.std.proofs.Common.{◌≡◌, ◌⊎◌, ℕ, ◌<◌, ◌≤◌, true, List, [], Option, None, Some, refl, sym, ap, subst, ◌∙◌, inl, inr, arith}
 use Rattle.std.specs.Prelude.{is_some, unwrap_or}
 use Rattle.std.proofs.lemmas.Bool.{cases_Bool, both_ways}
 use Rattle.balanced_tree.specs.Rows.{Rows}
-use Rattle.vm_base.specs.Entries.{without_key}
-use Rattle.vm_base.proofs.EntryLaws.{some_same, with_key-same, with_key-other, without_key-same, without_key-other}
+use Rattle.vm_base.proofs.EntryLaws.{some_same, with_key-same, with_key-other}
 use Rattle.vm_model.specs.Contents.Content.{Page, bytes_of, pages_of, used, shown, sole, hold}
 use Rattle.vm_model.specs.Contents.Owning.{Owns}
-use Rattle.vm_model.specs.Contents.Zeroing.{zeroed}
 use Rattle.vm_model.proofs.ContentLaws.{sole-zero, bytes_of-none, bytes_of-some}
-use Rattle.frame_pool.specs.declared.frame_pool.Backlink.{Backlink}
 use Rattle.frame_pool.specs.Pool.{Pool, taken_frames, is_taken, frame_bytes}
 use Rattle.frame_pool.proofs.PoolLaws.{takes_apart}
 use Rattle.page_list.specs.declared.row.Row.{Row}
@@ -17,18 +14,14 @@ use Rattle.cow_arena.specs.Nodes.{link_to}
 use Rattle.cow_arena.specs.Walk.{frame_shown}
 use Rattle.cow_arena.proofs.WalkLaws.{link_same}
 use Rattle.cow_arena.specs.declared.node.NodeId.{NodeId}
-use Rattle.cow_split.specs.Trees.{tree_of}
-use Rattle.cow_split.specs.Sight.{IsPage}
 use Rattle.cow_split.proofs.RowLaws.{frame-in_use}
 use Rattle.cow_split.specs.Exact.{all_in_sight}
 use Rattle.cow_fork.specs.Frames.{bytes_shown, IsSole, HasSole, HasFree}
-use Rattle.cow_fork.specs.Zeroing.{HasZeroed}
-use Rattle.cow_merge.specs.Ranges.{AreLinked}
 use Rattle.cow_forest.specs.Tables.{node_in}
 use Rattle.cow_forest.specs.Owning.{HasOwnRow, HasOwned}
 use Rattle.cow_forest.specs.Store.{Forest, tree, forest_content, page_with_frame, page_showing, IsStore}
 use Rattle.cow_forest.proofs.ContentLaws.{HasPage, page-of, page-at, in_use-taken, used-taken, sole-last}
-use Rattle.cow_forest.proofs.StoreLaws.{with_rows, store-kept, IsChangedAt, content-held, content-same, content-zeroed}
+use Rattle.cow_forest.proofs.StoreLaws.{with_rows, store-kept, IsChangedAt, content-held, content-same}
 
 -- the bytes of a frame go by the frames that are taken
 bytes-kept : (old new : Pool) (t : ℕ) → taken_frames new t ≡ taken_frames old t → frame_bytes new t ≡ frame_bytes old t
@@ -115,34 +108,3 @@ module _ (f : Forest) (s : IsStore f) (v p : ℕ) (less : p < pages_of (forest_c
       -- the row is that of the VMO's node
       pub owned-row : (j : ℕ) → 1 ≤ f.rows.spare → node_in f.nodes v ≡ link_to j → HasOwnRow f.arena rows j p tag
       owned-row j room there = subst (λ n. HasOwnRow f.arena rows n p tag) (link_same (sym is ∙ there)) (o.own room)
-
-    module _ (rows : Rows Row) (pool : Pool) (z : HasZeroed f.arena f.rows rows f.pool pool at.0 p) where
-      -- the rows that are left stood where they stand
-      linked-zeroed : AreLinked rows pool
-      linked-zeroed = record {
-        linked = λ l q row t at frame.
-            let had = z.stood l q row t at frame in
-            ap (λ (map : ℕ → Backlink). map t) z.links ∙ s.linked.linked l q had.row t had.at (sym had.frame ∙ frame);
-      }
-
-      pub store-zeroed : IsStore (with_rows f rows pool)
-      store-zeroed = store-kept f rows pool s z.exact linked-zeroed
-
-      -- the frames that other pages show keep their bytes
-      bytes-zeroed : (w q t : ℕ) → IsPage (tree f) w q → ((w ≡ at.0) × (q ≡ p) → ⊥) → frame_shown (tree f) w q ≡ Some t → frame_bytes pool t ≡ frame_bytes f.pool t
-      bytes-zeroed w q t page apart shows = elim (cases_Bool (sole (forest_content f) v p)) [
-        | inl alone ↦
-            let own = sole-node alone in
-            let still = frame-in_use (tree_of f.arena rows) all_in_sight (is_taken pool) z.exact w q t (z.others w q page apart ∙ shows) in
-            bytes-kept f.pool pool t (ap (λ (map : ℕ → Option (List ℕ)). map t) (z.given own.tag own.sole)
-            ∙ without_key-other (taken_frames f.pool) own.tag t (λ same.
-            let gone = ap (λ (map : ℕ → Option (List ℕ)). map t) (z.given own.tag own.sole) ∙ (ap (without_key (taken_frames f.pool) own.tag) same ∙ without_key-same (taken_frames f.pool) own.tag) in
-            let none = ap is_some gone in absurd (cc)))
-        | inr shared ↦
-            bytes-kept f.pool pool t (ap (λ (map : ℕ → Option (List ℕ)). map t)
-            (z.kept (λ u own. absurd (both_ways (sole (forest_content f) v p) shared (node-sole u own)))))
-      ]
-
-      pub content-zero : forest_content (with_rows f rows pool) ≡ zeroed (forest_content f) v p (p + 1)
-      content-zero = content-zeroed f rows pool v at.0 p s vmo-page.node
-          (record { exact = z.exact; linked = linked-zeroed; frames = z.frames; others = z.others; bytes = bytes-zeroed }) z.zero

@@ -1,8 +1,8 @@
 -- Pages of a range that become zero, one after another and from row to row.
-use Rattle.std.proofs.Common.{◌≡◌, ◌≢◌, ◌⊎◌, ℕ, ◌+◌, ◌-◌, ◌<◌, ◌≤◌, Bool, true, false, ◌&&◌, ◌||◌, ◌==◌, Option, None, Some, IsSome, refl, sym, ap, subst, ◌∙◌, inl, inr, arith}
+use Rattle.std.proofs.Common.{◌≡◌, ◌≢◌, ◌⊎◌, ℕ, ◌+◌, ◌-◌, ◌<◌, ◌≤◌, Bool, false, cond, ◌&&◌, ◌||◌, ◌==◌, Option, None, Some, IsSome, refl, sym, ap, subst, ◌∙◌, inl, inr, arith}
 use Rattle.std.specs.Prelude.{is_some, nat_le}
 use Rattle.std.proofs.lemmas.Bool.{cases_eq, cases_lt, and_parts, and_from, or_cases, leb-true, le-leb, false_from_ne_true}
-use Rattle.vm_base.proofs.SearchLaws.{eqb_same, eqb_apart, eqb_is, bit-true, bit-false, count_below_less, count_below_one_more, count_below_change, count_below_hit, count_below_same}
+use Rattle.vm_base.proofs.SearchLaws.{eqb_same, eqb_apart, eqb_is, bit-true, bit-false, count_below_less, count_below_one_more, count_below_change, count_below_hit}
 use Rattle.vm_base.proofs.EntryLaws.{some_same}
 use Rattle.balanced_tree.specs.Rows.{Rows}
 use Rattle.frame_pool.specs.Pool.{Pool, is_taken}
@@ -53,32 +53,22 @@ rows-less old new from end each =
 
 -- ---- the pages that show a frame
 
--- a page that became zero is one less
-shown-less : (old new : Tree) (v a n p : ℕ) → a ≤ p → p < a + n → ((q : ℕ) → q < a + n → q ≢ p → frame_shown new v q ≡ frame_shown old v q) →
-    frame_shown old v p ≢ None → frame_shown new v p ≡ None → shown_from new v a n + 1 ≡ shown_from old v a n
+cases_none : {A : Type 0} (o : Option A) → (o ≡ None) ⊎ IsSome o
+cases_none None = inl refl
+cases_none (Some a) = inr refl
+
+-- a page that became zero is one less, if it showed a frame
+pub shown-less : (old new : Tree) (v a n p : ℕ) → a ≤ p → p < a + n → ((q : ℕ) → q < a + n → q ≢ p → frame_shown new v q ≡ frame_shown old v q) →
+    frame_shown new v p ≡ None → shown_from new v a n + cond (is_some (frame_shown old v p)) 1 0 ≡ shown_from old v a n
 unfolding shown_from
-shown-less old new v a n p low less same some none =
+shown-less old new v a n p low less same none =
     let before : ℕ → Bool = λ k. is_some (frame_shown old v (a + k)) in
     let after : ℕ → Bool = λ k. is_some (frame_shown new v (a + k)) in
     let place : a + (p - a) ≡ p = omega arith in
-    let was : before (p - a) ≡ true = ap (λ q. is_some (frame_shown old v q)) place ∙ some-from (frame_shown old v p) some in
+    let was = ap (λ q. cond {A = ℕ} (is_some (frame_shown old v q)) 1 0) place in
     let is : after (p - a) ≡ false = ap (λ q. is_some (frame_shown new v q)) place ∙ ap is_some none in
     let change = count_below_change n (p - a) before after (omega arith) (λ j below apart. ap is_some (same (a + j) (omega arith) (λ e. apart (omega arith)))) in
-    omega (arith, change, bit-true (before (p - a)) was, bit-false (after (p - a)) is)
-
--- a page that became zero is one less, or was zero
-shown-change : (old new : Tree) (v a n p : ℕ) → a ≤ p → p < a + n → ((q : ℕ) → q < a + n → q ≢ p → frame_shown new v q ≡ frame_shown old v q) →
-    frame_shown new v p ≡ None → (shown_from new v a n + 1 ≡ shown_from old v a n) ⊎ ((frame_shown old v p ≡ None) × (shown_from new v a n ≡ shown_from old v a n))
-unfolding shown_from
-shown-change old new v a n p low less same none = go (frame_shown old v p) refl
-  where
-    go : (o : Option ℕ) → frame_shown old v p ≡ o →
-        (shown_from new v a n + 1 ≡ shown_from old v a n) ⊎ ((frame_shown old v p ≡ None) × (shown_from new v a n ≡ shown_from old v a n))
-    go (Some t) is = inl (shown-less old new v a n p low less same (λ zero. absurd (cc)) none)
-    go None is = inr (is, count_below_same n (λ k. is_some (frame_shown new v (a + k))) (λ k. is_some (frame_shown old v (a + k))) (λ k small. elim (cases_eq (a + k) p) [
-      | inl here ↦ ap (λ q. is_some (frame_shown new v q)) here ∙ (ap is_some (none ∙ sym is) ∙ sym (ap (λ q. is_some (frame_shown old v q)) here))
-      | inr apart ↦ ap is_some (same (a + k) (omega arith) apart)
-    ]))
+    omega (arith, change, was, bit-false (after (p - a)) is)
 
 -- a page that shows a frame is counted
 shown-some : (t : Tree) (v first n p : ℕ) → first ≤ p → p < first + n → frame_shown t v p ≢ None → 0 < shown_from t v first n
@@ -137,10 +127,11 @@ module _ (arena : Arena) where
           visible = here.visible;
           below = let same : here.node ≡ node = some_same (sym here.visible.at ∙ at) in subst (λ (n : Node). q < n.count) (sym same) (omega arith);
         } in
-        let others = λ (q : ℕ) (small : q < a + n) (apart : q ≢ p). z.others v q (page q small) (λ same. apart same.1) in
-        elim (shown-change (tree_of arena old) (tree_of arena new) v a n p low (omega arith) others z.zero) [
-          | inl one ↦ omega (arith, one, z.spare)
-          | inr none ↦ omega (arith, none.1, z.room none.0)
+        let less = shown-less (tree_of arena old) (tree_of arena new) v a n p low (omega arith)
+        (λ q small apart. z.others v q (page q small) (λ same. apart same.1)) z.zero in
+        elim (cases_none (frame_shown (tree_of arena old) v p)) [
+          | inl none ↦ omega (arith, less, z.room none, bit-false (is_some (frame_shown (tree_of arena old) v p)) (ap is_some none))
+          | inr some ↦ omega (arith, less, z.spare, bit-true (is_some (frame_shown (tree_of arena old) v p)) some)
         ];
   }
 
@@ -311,50 +302,19 @@ sweep-start arena old before v first list here to begun exact = record {
 
 -- ---- one page after another
 
--- the pages of v from `first` to below `from` are zero now, and all others show what they showed
-pub record IsInTurn (arena : Arena) (old now : Rows Row) (before after : Pool) (v first end from : ℕ) : Type 0 where
-  pub order : first ≤ from
-  pub bound : from ≤ end
-  pub some : HasZeroedSome arena old now before after v first end
-  pub zero : AreZero (tree_of arena now) v first from
-
-module _ (arena : Arena) (old : Rows Row) (before : Pool) (v first end : ℕ) (ready : IsReadyToZero arena old before v first end) where
-  pub turn-start : (from : ℕ) → (first ≤ from) × (from ≤ end) → ShowsNoneIn (tree_of arena old) v first from → IsInTurn arena old old before before v first end from
-  turn-start from range none = record {
-    order = range.0;
-    bound = range.1;
-    some = zeroed-none arena old before v first end ready.exact;
-    zero = none;
-  }
-
-  module _ (now : Rows Row) (after : Pool) (from : ℕ) (is : IsInTurn arena old now before after v first end from) (less : from < end) where
-    turn-ready : IsReadyToZero arena now after v first end
-    turn-ready = ready-on arena old before v first end ready now after is.some
-
-    pub turn-page : IsPage (tree_of arena now) v from
-    turn-page = ready-page arena now after v first end turn-ready from less
-
-    pub turn-room : frame_shown (tree_of arena now) v from ≢ None → 1 ≤ now.spare
-    turn-room = ready-room arena now after v first end turn-ready from is.order less
-
-    pub turn-on : (new : Rows Row) (last : Pool) (next : ℕ) → (from < next) × (next ≤ end) → HasZeroedSome arena now new after last v from (from + 1) →
-        AreZero (tree_of arena new) v from next → IsInTurn arena old new before last v first end next
-    turn-on new last next range z zero = record {
-      order = let low = is.order in omega (arith, range);
-      bound = range.1;
-      some = zeroed-then arena old now new before after last v first end from (from + 1) first end is.some z (omega arith) (omega arith) is.order (omega (arith, less));
-      zero = λ p low high. elim (cases_lt p from) [
-        | inr past ↦ zero p past high
-        | inl passed ↦ none-from (frame_shown (tree_of arena new) v p) (λ t shows.
-            let had = z.part v p t (ready-page arena now after v first end turn-ready p (omega (arith, less))) shows in
-            let none = is.zero p low passed in
-            absurd (cc))
-      ];
-    }
-
 -- a page is zero, and those behind it
 pub zero-run : (t : Tree) (v p next : ℕ) → frame_shown t v p ≡ None → ShowsNoneIn t v (p + 1) next → AreZero t v p next
-zero-run t v p next zero none q low less = elim (cases_eq q p) [
-  | inl here ↦ ap (frame_shown t v) here ∙ zero
-  | inr further ↦ none q (omega arith) less
+zero-run t v p next zero none q low less = elim (cases_eq q p) [ inl here ↦ ap (frame_shown t v) here ∙ zero | inr further ↦ none q (omega arith) less ]
+
+-- pages that were zero stay so, and those behind them are zero too
+pub zero-on : (arena : Arena) (old new : Rows Row) (before after : Pool) (v first from next a b : ℕ) → IsPage (tree_of arena old) v from →
+    HasZeroedSome arena old new before after v a b → AreZero (tree_of arena old) v first from → AreZero (tree_of arena new) v from next →
+    AreZero (tree_of arena new) v first next
+zero-on arena old new before after v first from next a b page z zero behind p low high = elim (cases_lt p from) [
+  | inr past ↦ behind p past high
+  | inl passed ↦ none-from (frame_shown (tree_of arena new) v p) (λ t shows.
+      let less = page.below in
+      let had = z.part v p t (record { node = page.node; visible = page.visible; below = omega (arith, less) }) shows in
+      let none = zero p low passed in
+      absurd (cc))
 ]

@@ -1,11 +1,9 @@
 -- Other rows and frames under the same nodes: the forest stays a store, and its content changes in one page at most.
-use Rattle.std.proofs.Common.{◌≡◌, ◌≢◌, ℕ, ◌+◌, Option, None, Some, refl, sym, ap, subst, ◌∙◌, inl, inr, arith}
+use Rattle.std.proofs.Common.{◌≡◌, ℕ, Option, None, Some, refl, sym, ap, subst, ◌∙◌, inl, inr}
 use Rattle.std.proofs.lemmas.Bool.{cases_lt}
 use Rattle.balanced_tree.specs.Rows.{Rows}
 use Rattle.vm_model.specs.Contents.Content.{Content, hold}
-use Rattle.vm_model.specs.Contents.Zeroing.{zeroed}
 use Rattle.vm_model.proofs.ContentLaws.{same_page, page-hold_here, page-hold_other, same_content}
-use Rattle.vm_model.proofs.ZeroingLaws.{page-zeroed_in, page-zeroed_out}
 use Rattle.frame_pool.specs.Pool.{Pool, frame_bytes, is_taken}
 use Rattle.page_list.specs.declared.row.Row.{Row}
 use Rattle.cow_arena.specs.declared.node.NodeId.{NodeId}
@@ -115,16 +113,6 @@ module _ (f : Forest) (rows : Rows Row) (pool : Pool) (v k p : ℕ) (s : IsStore
   unfolding hold
   content-held t shown = content-is (hold (forest_content f) v p (page_with_frame pool t)) refl refl (λ w. refl)
       (page-hold_here (forest_content f) v p (page_with_frame pool t) ∙ sym (ap (page_showing pool) shown)) (page-hold_other (forest_content f) v p (page_with_frame pool t))
-
-  -- the page is zero now
-  pub content-zeroed : frame_shown (tree_of f.arena rows) k p ≡ None → forest_content (with_rows f rows pool) ≡ zeroed (forest_content f) v p (p + 1)
-  unfolding zeroed
-  content-zeroed zero = content-is (zeroed (forest_content f) v p (p + 1)) refl refl (λ w. refl)
-      (page-zeroed_in (forest_content f) v p (p + 1) v p refl (omega arith) (omega arith) ∙ sym (ap (page_showing pool) zero))
-      (λ w q apart. page-zeroed_out (forest_content f) v p (p + 1) w q (λ same. elim (cases_lt q p) [
-        | inl before ↦ inl before
-        | inr past ↦ let away : q ≢ p = apart same in inr (omega arith)
-      ]))
 
   -- the page shows what it showed
   pub content-same : frame_shown (tree_of f.arena rows) k p ≡ frame_shown (tree f) k p →

@@ -22,6 +22,9 @@ use Rattle.vm_model.proofs.ContentLaws.{same_content}
 use Rattle.cow_forest.specs.Tables.{node_in}
 use Rattle.cow_forest.specs.Store.{Forest, tree, forest_content, count_from, page_showing, HasNode, IsStore}
 use Rattle.cow_forest.specs.Ranges.{shown_from, IsReadyToZero, HasZeroedSome, AreZero}
+use Rattle.cow_forest.specs.declared.forest.CowForest.TheInside.{Inside}
+use Rattle.cow_forest.specs.inside.Fields.{forest_of, AreStore}
+use Rattle.cow_forest.proofs.JumpKeptLaws.{jumps-places}
 use Rattle.cow_forest.proofs.ContentLaws.{node-visible, one-vmo, page-of, pages-of}
 use Rattle.cow_forest.proofs.StoreLaws.{with_rows, node-kept, store-kept, page-same}
 
@@ -109,3 +112,15 @@ module _ (f : Forest) (s : IsStore f) (v k : ℕ) (h : HasNode f v k) where
     spare-ranged n end_is range =
         let kept = z.spare h.node h.is.at first n (omega arith) (omega arith) (omega (arith, range, pages-of f s v k h)) in
         omega (arith, kept, held-shown first n)
+
+-- the fields hold what they must where pages of a range became zero
+pub are-ranged : (a : Inside) (are : AreStore a) (v k : ℕ) → HasNode (forest_of a) v k → (rows : Rows Row) (pool : Pool) (first end : ℕ) →
+    HasZeroedSome a.arena a.lists rows a.frames pool k first end → AreStore (record a { lists = rows; frames = pool })
+are-ranged a are v k h rows pool first end z = record {
+  store = store-ranged (forest_of a) are.store v k h rows pool first end z;
+  jumps = jumps-places (forest_of a) are.store rows v k h (λ q. (first ≤ q) × (q < end)) (λ node at l q some. elim (z.places node at l q some) [
+    | inl had ↦ inl had
+    | inr here ↦ inr (here.0, (here.1, here.2))
+  ]) a.next a.jumps are.jumps;
+  founders = are.founders;
+}

@@ -24,7 +24,7 @@ use crate::founders::{FounderTable, Founders};
 use crate::looking::{look_at, look_at_counted, next_shown, shown_frame, shows};
 use crate::node_table::NodeTable;
 use crate::owning::own_page;
-use crate::ranges::{zero_in_turn, zero_pages};
+use crate::ranges::{PageRun, zero_in_turn, zero_pages};
 use crate::tables::{disown, leave_other, make_room, renew_merged};
 use crate::viewing::{elder_for, least_koid_of, lesser_koid_of, viewer_count_of};
 use cow_arena::{CowArena, NodeId};
@@ -367,8 +367,7 @@ impl PageStore for CowForest {
             &mut self.frames,
             &self.jumps,
             node,
-            first,
-            end,
+            PageRun { from: first, end },
         );
     }
 

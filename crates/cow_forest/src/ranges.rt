@@ -65,75 +65,84 @@ pub(crate) fn zero_pages<L: Ledger>(
     }
 }
 
-/// Makes the pages of a VMO's node from `first` to below `end` zero, one after another. Behind a page that showed no frame it
-/// goes on at the next one that does, so held pages in a row cost no search.
+/// Pages of a VMO's node, from `from` to below `end`.
+#[derive(Clone, Copy)]
+pub(crate) struct PageRun {
+    pub from: PageNo,
+    pub end: PageNo,
+}
+
+/// Makes pages of a VMO's node zero, one after another. Behind a page that showed no frame it goes on at the next one that
+/// does, so held pages in a row cost no search.
 pub(crate) fn zero_in_turn(
     arena: &CowArena,
     lists: &mut PageLists,
     frames: &mut FramePool,
     jumps: &JumpTable,
     leaf: NodeId,
-    first: PageNo,
-    end: PageNo,
+    pages: PageRun,
 )
-    requires ready { IsReadyToZero arena.now lists.old frames.old leaf.0 first end }
+    requires ready { IsReadyToZero arena.now lists.old frames.old leaf.0 pages.from pages.end }
     requires jumps { (next : ℕ) × AreJumps (tree_of arena.now lists.old) next jumps.now }
-    ensures some { HasZeroedSome arena.now lists.old lists.new frames.old frames.new leaf.0 first end }
-    ensures zero { AreZero (tree_of arena.now lists.new) leaf.0 first end }
+    ensures some { HasZeroedSome arena.now lists.old lists.new frames.old frames.new leaf.0 pages.from pages.end }
+    ensures zero { AreZero (tree_of arena.now lists.new) leaf.0 pages.from pages.end }
 {
-    let mut from = first_to_zero(arena, lists, jumps, leaf, first, end);
-    while from < end {
-        from = zero_next(arena, lists, frames, jumps, leaf, from, end);
+    let mut from = first_to_zero(arena, lists, jumps, leaf, pages);
+    while from < pages.end {
+        let rest = PageRun {
+            from,
+            end: pages.end,
+        };
+        from = zero_next(arena, lists, frames, jumps, leaf, rest);
     }
 }
 
-/// Returns a page from `first` on, up to `end`, before which all are zero. A root has no row that says zero, and there no page
-/// is looked at.
+/// Returns a page from the first on, up to the end, before which all are zero. A root has no row that says zero, and there no
+/// page is looked at.
 fn first_to_zero(
     arena: &CowArena,
     lists: &PageLists,
     jumps: &JumpTable,
     leaf: NodeId,
-    first: PageNo,
-    end: PageNo,
+    pages: PageRun,
 ) -> PageNo
     requires exact { (in_use : ℕ → Bool) × IsExact (tree_of arena.now lists.now) all_in_sight in_use }
     requires jumps { (next : ℕ) × AreJumps (tree_of arena.now lists.now) next jumps.now }
     requires leaf { IsSomeAnd (nodes_of arena.now leaf.0) (λ node. IsSome node.koid) }
-    requires order { first ≤ end }
-    ensures range { (first ≤ result) × (result ≤ end) }
-    ensures none { ShowsNoneIn (tree_of arena.now lists.now) leaf.0 first result }
+    requires order { pages.from ≤ pages.end }
+    ensures range { (pages.from ≤ result) × (result ≤ pages.end) }
+    ensures none { ShowsNoneIn (tree_of arena.now lists.now) leaf.0 pages.from result }
 {
     if arena.look(leaf).parent.is_none() {
-        return first;
+        return pages.from;
     }
-    next_shown_below(arena, lists, jumps, leaf, first, end)
+    next_shown_below(arena, lists, jumps, leaf, pages.from, pages.end)
 }
 
-/// Makes a page of a VMO's node zero, and returns a page behind it, up to `end`, before which all are zero. If the page showed
-/// no frame, the next page that does is searched for.
+/// Makes the first of some pages of a VMO's node zero, and returns a page behind it, up to the end, before which all are zero.
+/// If the page showed no frame, the next page that does is searched for.
 fn zero_next(
     arena: &CowArena,
     lists: &mut PageLists,
     frames: &mut FramePool,
     jumps: &JumpTable,
     leaf: NodeId,
-    page: PageNo,
-    end: PageNo,
+    pages: PageRun,
 ) -> PageNo
     requires exact { IsExact (tree_of arena.now lists.old) all_in_sight (is_taken frames.old) }
-    requires page { IsPage (tree_of arena.now lists.old) leaf.0 page }
-    requires below { page < end }
-    requires room { frame_shown (tree_of arena.now lists.old) leaf.0 page ≢ None → 1 ≤ lists.old.spare }
+    requires page { IsPage (tree_of arena.now lists.old) leaf.0 pages.from }
+    requires below { pages.from < pages.end }
+    requires room { frame_shown (tree_of arena.now lists.old) leaf.0 pages.from ≢ None → 1 ≤ lists.old.spare }
     requires jumps { (next : ℕ) × AreJumps (tree_of arena.now lists.old) next jumps.now }
-    ensures range { (page < result) × (result ≤ end) }
-    ensures some { HasZeroedSome arena.now lists.old lists.new frames.old frames.new leaf.0 page (page + 1) }
-    ensures zero { AreZero (tree_of arena.now lists.new) leaf.0 page result }
+    ensures range { (pages.from < result) × (result ≤ pages.end) }
+    ensures some { HasZeroedSome arena.now lists.old lists.new frames.old frames.new leaf.0 pages.from (pages.from + 1) }
+    ensures zero { AreZero (tree_of arena.now lists.new) leaf.0 pages.from result }
 {
-    if zero_by_jumps(arena, lists, frames, jumps, leaf, page) {
-        return page + 1;
+    let behind = pages.from + 1;
+    if zero_by_jumps(arena, lists, frames, jumps, leaf, pages.from) {
+        return behind;
     }
-    next_shown_below(arena, lists, jumps, leaf, page + 1, end)
+    next_shown_below(arena, lists, jumps, leaf, behind, pages.end)
 }
 
 /// Makes those pages of a VMO's node zero that come to the rows of a list on its pages from `here` to below `to`: the page that

@@ -21,6 +21,8 @@ use Rattle.vm_model.proofs.PinLaws.{any_pinned_at, none_pinned}
 use Rattle.vm_model.proofs.ZeroingLaws.{page-zeroed_out}
 use Rattle.vm_model.proofs.ZeroesLaws.{ZeroedPage, ZeroedPage-from_ZeroesPage}
 use Rattle.vmo_ops.proofs.ModelLaws.{count_from-next, count_from-split, zeroed-empty, zeroed-more, Zeroes-none, need-zero}
+use Rattle.pages.specs.Held.{held_from}
+use Rattle.pages.proofs.HeldLaws.{held-count}
 use Rattle.vmo_ops.specs.Costs.{held_touched}
 use Rattle.vm_model.specs.Contents.Writing.{part_at}
 use Rattle.vmo_ops.proofs.PartLaws.{part_bytes-replicate}
@@ -102,6 +104,12 @@ wants_held s name offset len target at named place some =
     (held_touched_any s.content target.koid.0 at len some) in
     subst (λ (t : Target). list_any (is_held s.content t.koid.0) (touched (t.first * PAGE + offset) len) ≡ true)
     (sym (target_of-at s name target named)) here
+
+-- up to there the pages lie in the range's, which end at `end`
+stop-bound : (offset len first end from stop : ℕ) → first ≡ offset / PAGE → first ≤ end → len ≤ end * PAGE - offset → from ≤ end
+    → (stop ≡ from) ⊎ (stop * PAGE ≤ offset + len) → stop ≤ end
+stop-bound offset len first end from stop is order all low (inl same) = omega (arith, same, low)
+stop-bound offset len first end from stop is order all low (inr whole) = omega (arith, is, order, all, whole)
 
 -- ---- zeroing page by page
 
@@ -206,20 +214,26 @@ module _ (v : ℕ) (pinned : ℕ → Bool) (offset len : ℕ) (old : Content) wh
       (IsZeroing-run n next mid (from + 1) end (spare - cond (is_held now v from) 1 0) left step (omega arith)
       (λ p low less. cleared p (omega arith) (omega arith)) more (omega (arith, rest, cost)))
 
-  module _ (now : Content) (from stop end spare : ℕ) (way : IsZeroing v pinned offset len old now from end spare)
-      (order : from ≤ stop) (bound : stop ≤ end) where
-    -- there are rows for them
-    pub IsZeroing-rows : count_from (is_held now v) from (stop - from) ≤ spare
-    IsZeroing-rows = omega (arith, way.rows, count_from-split (is_held now v) from stop end order bound)
+  -- pages in a row up to `stop`
+  module _ (now : Content) (first from stop end spare : ℕ) (is : first ≡ offset / PAGE) (order : first ≤ end) (all : len ≤ end * PAGE - offset)
+      (way : IsZeroing v pinned offset len old now from end spare) (low : from ≤ stop) (high : (stop ≡ from) ⊎ (stop * PAGE ≤ offset + len)) where
+    bound : stop ≤ end
+    bound = stop-bound offset len first end from stop is order all way.way.bound high
 
-    pub IsZeroing-cleared : (mid : Content) (left : ℕ) → ((p : ℕ) → from ≤ p → p < stop → is_cleared pinned offset len p ≡ true)
-        → mid ≡ zeroed now v from stop → spare ≤ left + count_from (is_held now v) from (stop - from)
+    -- there are rows for them
+    pub IsZeroing-rows : held_from now v from (stop - from) ≤ spare
+    IsZeroing-rows = omega (arith, way.rows, count_from-split (is_held now v) from stop end low bound, held-count now v from (stop - from))
+
+    -- they become zero
+    pub IsZeroing-turn : (mid : Content) (left : ℕ) → ((p : ℕ) → from ≤ p → p < stop → is_cleared pinned offset len p ≡ true)
+        → mid ≡ zeroed now v from stop → spare ≤ left + held_from now v from (stop - from)
         → IsZeroing v pinned offset len old mid stop end left
-    IsZeroing-cleared mid left cleared is cost =
+    IsZeroing-turn mid left cleared made cost =
         let place : from + (stop - from) ≡ stop = omega arith in
+        let few : from + (stop - from) ≤ end = omega (arith, bound) in
         subst (λ (p : ℕ). IsZeroing v pinned offset len old mid p end left) place
-        (IsZeroing-run (stop - from) now mid from end spare left way (omega arith) (λ p low less. cleared p low (omega arith))
-        (is ∙ ap (zeroed now v from) (sym place)) cost)
+        (IsZeroing-run (stop - from) now mid from end spare left way few (λ p above less. cleared p above (omega arith))
+        (made ∙ ap (zeroed now v from) (sym place)) (omega (arith, cost, held-count now v from (stop - from))))
 
 -- ---- pages that become zero as wholes
 
@@ -235,9 +249,3 @@ is_cleared-pinned = grind (arith, cases_Bool)
 pub is_cleared-whole : (pinned : ℕ → Bool) (offset len p : ℕ) → offset ≤ PAGE * p → PAGE * (p + 1) ≤ offset + len → pinned p ≡ false
     → is_cleared pinned offset len p ≡ true
 is_cleared-whole = grind (arith, nat_tests)
-
--- up to there the pages lie in the range's, which end at `end`
-pub stop-bound : (offset len first end from stop : ℕ) → first ≡ offset / PAGE → first ≤ end → len ≤ end * PAGE - offset → from ≤ end
-    → (stop ≡ from) ⊎ (stop * PAGE ≤ offset + len) → stop ≤ end
-stop-bound offset len first end from stop is order all low (inl same) = omega (arith, same, low)
-stop-bound offset len first end from stop is order all low (inr whole) = omega (arith, is, order, all, whole)

@@ -1,4 +1,4 @@
-use Rattle.std.proofs.Common.{◌+◌, ◌≤◌, ◌<◌, inl, inr, refl, sym, subst, ◌∙◌, arith}
+use Rattle.std.proofs.Common.{◌+◌, ◌≤◌, refl, sym, subst, ◌∙◌, arith}
 use Rattle.cow_arena.specs.Nodes.{nodes_of}
 use Rattle.cow_arena.proofs.WalkLaws.{link_same}
 use Rattle.cow_split.specs.Cost.{depth}
@@ -6,8 +6,7 @@ use Rattle.cow_forest.specs.inside.Fields.{forest_of}
 use Rattle.cow_forest.specs.Ranges.{rows_reached}
 use Rattle.cow_forest.specs.Store.{tree}
 use Rattle.cow_forest.proofs.ContentLaws.{vmo-found}
-use Rattle.cow_forest.proofs.JumpKeptLaws.{jumps-places}
-use Rattle.cow_forest.proofs.ZeroedLaws.{range-fits, range-ready, store-ranged, content-ranged, spare-ranged}
+use Rattle.cow_forest.proofs.ZeroedLaws.{range-fits, range-ready, are-ranged, content-ranged, spare-ranged}
 use Rattle.cow_forest.proofs.forest.CowForest.zero_range.Goals as goal
 
 pub get-node-requires : goal.get-node-requires
@@ -28,16 +27,7 @@ zero_pages-requires-clause-ready g c =
 pub invariant_of-self : goal.invariant_of-self
 invariant_of-self g c =
     let h = c.self.invariant.store.named c.args.v.0 c.get-node.result c.get-node.ensures in
-    record {
-      store = store-ranged (forest_of c.self.inside) c.self.invariant.store c.args.v.0 c.get-node.result.0 h _ _ _ _ c.zero_pages.ensures.some;
-      jumps = jumps-places (forest_of c.self.inside) c.self.invariant.store c.zero_pages.new.lists c.args.v.0 c.get-node.result.0 h
-          (λ q. (c.args.first ≤ q) × (q < c.args.first + c.args.count))
-          (λ node at l q some. elim (c.zero_pages.ensures.some.places node at l q some) [
-            | inl had ↦ inl had
-            | inr here ↦ inr (here.0, (here.1, here.2))
-          ]) c.self.inside.next c.self.inside.jumps c.self.invariant.jumps;
-      founders = c.self.invariant.founders;
-    }
+    are-ranged c.self.inside c.self.invariant c.args.v.0 c.get-node.result.0 h _ _ _ _ c.zero_pages.ensures.some
 
 pub returns-clause-content : goal.returns-clause-content
 returns-clause-content g c =

@@ -1,9 +1,8 @@
-use Rattle.std.proofs.Common.{◌≡◌, ◌+◌, ◌-◌, ◌<◌, ◌≤◌, subst, inl, inr, arith}
+use Rattle.std.proofs.Common.{◌≡◌, ◌+◌, ◌-◌, subst, arith}
 use Rattle.cow_forest.specs.inside.Fields.{forest_of}
 use Rattle.cow_forest.specs.Ranges.{IsReadyToZero}
 use Rattle.cow_forest.proofs.ContentLaws.{vmo-found}
-use Rattle.cow_forest.proofs.JumpKeptLaws.{jumps-places}
-use Rattle.cow_forest.proofs.ZeroedLaws.{range-ready, store-ranged, content-ranged, spare-ranged}
+use Rattle.cow_forest.proofs.ZeroedLaws.{range-ready, are-ranged, content-ranged, spare-ranged}
 use Rattle.cow_forest.proofs.forest.CowForestPageStore.zero_pages.Goals as goal
 
 pub get-node-requires : goal.get-node-requires
@@ -21,16 +20,7 @@ zero_in_turn-requires-clause-ready c =
 pub invariant_of-self : goal.invariant_of-self
 invariant_of-self c =
     let h = c.self.invariant.store.named c.args.v.0 c.get-node.result c.get-node.ensures in
-    record {
-      store = store-ranged (forest_of c.self.inside) c.self.invariant.store c.args.v.0 c.get-node.result.0 h _ _ _ _ c.zero_in_turn.ensures.some;
-      jumps = jumps-places (forest_of c.self.inside) c.self.invariant.store c.zero_in_turn.new.lists c.args.v.0 c.get-node.result.0 h
-          (λ q. (c.args.first ≤ q) × (q < c.args.end))
-          (λ node at l q some. elim (c.zero_in_turn.ensures.some.places node at l q some) [
-            | inl had ↦ inl had
-            | inr here ↦ inr (here.0, (here.1, here.2))
-          ]) c.self.inside.next c.self.inside.jumps c.self.invariant.jumps;
-      founders = c.self.invariant.founders;
-    }
+    are-ranged c.self.inside c.self.invariant c.args.v.0 c.get-node.result.0 h _ _ _ _ c.zero_in_turn.ensures.some
 
 pub returns-clause-zero : goal.returns-clause-zero
 returns-clause-zero c =
