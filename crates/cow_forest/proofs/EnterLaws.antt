@@ -24,6 +24,10 @@ use Rattle.vm_model.proofs.ContentLaws.{same_content}
 use Rattle.vm_model.proofs.CountLaws.{vmos_of-same, vmos_of-created}
 use Rattle.cow_forest.specs.Tables.{NodeEntries, node_in}
 use Rattle.cow_forest.specs.Store.{Forest, tree, forest_content, count_from, pages_in, frame_from, page_showing, HasNode, IsNodeOf, IsStore}
+use Rattle.cow_jump.proofs.JumpRowLaws.{jumps-alike}
+use Rattle.cow_forest.specs.declared.forest.CowForest.TheInside.{Inside}
+use Rattle.cow_forest.specs.inside.Fields.{forest_of, AreStore}
+use Rattle.cow_forest.specs.inside.Founders.{AreFounders}
 use Rattle.cow_forest.proofs.ContentLaws.{node-visible, frame-past}
 
 -- there are no more VMOs than koids
@@ -64,7 +68,7 @@ module _ (f : Forest) (arena : Arena) (nodes owners : NodeEntries) (a : IsAlike 
   has-alike : (v k : ℕ) → HasNode f v k → HasNode alike v k
   has-alike v k h = record { node = h.node; is = subst (λ (n : Nodes). IsNodeOf n v k h.node) (sym a.arena_nodes) h.is }
 
-  pub store-alike : IsStore f → IsStore alike
+  store-alike : IsStore f → IsStore alike
   store-alike s = record {
     exact = subst (λ (t : Tree). IsExact t all_in_sight (is_taken f.pool)) (sym tree-alike) s.exact;
     linked = s.linked;
@@ -78,6 +82,15 @@ module _ (f : Forest) (arena : Arena) (nodes owners : NodeEntries) (a : IsAlike 
     vmos = s.vmos ∙ sym (ap vmos_of content-alike);
     visible = a.visible ∙ s.visible;
   }
+
+-- the fields hold what they must where they say the same
+pub are-alike : (a : Inside) (are : AreStore a) (arena : Arena) (nodes owners : NodeEntries) → IsAlike (forest_of a) arena nodes owners →
+    AreStore (record a { arena = arena; nodes = nodes; owners = owners })
+are-alike a are arena nodes owners alike = record {
+  store = store-alike (forest_of a) arena nodes owners alike are.store;
+  jumps = jumps-alike _ _ a.next a.jumps (sym (tree-alike (forest_of a) arena nodes owners alike)) are.jumps;
+  founders = subst (λ (n : Nodes). AreFounders n a.next a.founders) (sym alike.arena_nodes) are.founders;
+}
 
 -- ---- a VMO comes
 

@@ -34,11 +34,8 @@ use Rattle.cow_jump.specs.declared.jumps.JumpTable.{JumpTable}
 use Rattle.cow_jump.proofs.JumpRowLaws.{jumps-alike, jump-bare, jumps-bare, taken-retired, less-retired}
 use Rattle.cow_jump.specs.Jumps.{jump_in, serial_in, IsCurrentJump, IsJump, AreJumps, AreMovedUp, ArePairRetired}
 use Rattle.cow_forest.specs.Store.{Forest, tree, HasNode, IsStore}
-use Rattle.cow_forest.specs.Ranges.{IsReadyToZero, HasZeroedSome}
+use Rattle.cow_forest.specs.Ranges.{HasZeroedSome}
 use Rattle.cow_forest.proofs.ContentLaws.{node-visible}
-
-pub tree-alike : (old new : Arena) (rows : Rows Row) → nodes_of new ≡ nodes_of old → new.lists ≡ old.lists → tree_of old rows ≡ tree_of new rows
-tree-alike old new rows nodes lists = λ i. record (tree_of old rows) { nodes = sym nodes i; lists = sym lists i }
 
 -- rows with room for more
 pub jumps-roomy : (arena : Arena) (old new : Rows Row) → new.rows ≡ old.rows → (next : ℕ) (table : JumpTable) → AreJumps (tree_of arena old) next table →
@@ -67,22 +64,14 @@ places-bare old new list Is places = record {
   ];
 }
 
--- pages of a VMO's node were made zero, by which no place but places of its list gets a row
-pub jumps-places : (f : Forest) (s : IsStore f) (rows : Rows Row) (v k : ℕ) (h : HasNode f v k) (Is : ℕ → Type 0) →
-    ((node : Node) → nodes_of f.arena k ≡ Some node → (l q : ℕ) → IsSome (slots_of rows l q) →
-    IsSome (slots_of f.rows l q) ⊎ ((l ≡ node.list.0) × Is q)) → (next : ℕ) (table : JumpTable) →
-    AreJumps (tree f) next table → AreJumps (tree_of f.arena rows) next table
-jumps-places f s rows v k h Is places =
-    jumps-rows f s rows v k h (λ node at. places-bare (slots_of f.rows) (slots_of rows) node.list.0 Is (places node at))
-
--- some pages of a range were made zero
-pub jumps-zeroed : (arena : Arena) (old new : Rows Row) (before after : Pool) (v first end a b : ℕ) → IsReadyToZero arena old before v first end →
-    HasZeroedSome arena old new before after v a b → (table : JumpTable) → ((next : ℕ) × AreJumps (tree_of arena old) next table) →
-    ((next : ℕ) × AreJumps (tree_of arena new) next table)
-jumps-zeroed arena old new before after v first end a b ready zeroed table are = (
+-- some pages of a VMO's node were made zero, by which no place but places of its list gets a row
+pub jumps-zeroed : (arena : Arena) (old new : Rows Row) (before after : Pool) (v a b : ℕ) → IsForest (nodes_of arena) arena.lists →
+    (node : Node) → IsVisible (nodes_of arena) v node → HasZeroedSome arena old new before after v a b → (table : JumpTable) →
+    ((next : ℕ) × AreJumps (tree_of arena old) next table) → ((next : ℕ) × AreJumps (tree_of arena new) next table)
+jumps-zeroed arena old new before after v a b forest node visible zeroed table are = (
   are.0,
-  jumps-bare (tree_of arena old) ready.exact.forest (slots_of new) v ready.node ready.visible
-      (places-bare (slots_of old) (slots_of new) ready.node.list.0 (λ q. (a ≤ q) × (q < b)) (λ l q some. elim (zeroed.places ready.node ready.visible.at l q some) [
+  jumps-bare (tree_of arena old) forest (slots_of new) v node visible
+      (places-bare (slots_of old) (slots_of new) node.list.0 (λ q. (a ≤ q) × (q < b)) (λ l q some. elim (zeroed.places node visible.at l q some) [
         | inl had ↦ inl had
         | inr here ↦ inr (here.0, (here.1, here.2))
       ])) are.0 table are.1,

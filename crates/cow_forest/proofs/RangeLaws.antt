@@ -1,9 +1,9 @@
 -- Pages of a range that become zero, one after another and from row to row.
 use Rattle.std.proofs.Common.{◌≡◌, ◌≢◌, ◌⊎◌, ℕ, ◌+◌, ◌-◌, ◌<◌, ◌≤◌, Bool, false, cond, ◌&&◌, ◌||◌, ◌==◌, Option, None, Some, IsSome, refl, sym, ap, subst, ◌∙◌, inl, inr, arith}
 use Rattle.std.specs.Prelude.{is_some, nat_le}
-use Rattle.std.proofs.lemmas.Bool.{cases_eq, cases_lt, and_parts, and_from, or_cases, leb-true, le-leb, false_from_ne_true}
+use Rattle.std.proofs.lemmas.Bool.{cases_Bool, cases_eq, cases_lt, and_parts, and_from, or_cases, leb-true, le-leb, false_from_ne_true}
 use Rattle.vm_base.proofs.SearchLaws.{eqb_same, eqb_apart, eqb_is, bit-true, bit-false, count_below_less, count_below_one_more, count_below_change, count_below_hit}
-use Rattle.vm_base.proofs.EntryLaws.{some_same}
+use Rattle.vm_base.proofs.EntryLaws.{some_same, none_is}
 use Rattle.balanced_tree.specs.Rows.{Rows}
 use Rattle.frame_pool.specs.Pool.{Pool, is_taken}
 use Rattle.page_list.specs.declared.row.Row.{Row}
@@ -52,10 +52,6 @@ rows-less old new from end each =
     and_from (nat_le from j) (is_some (old j)) both.0 (each j (leb-true from j both.0) both.1))
 
 -- ---- the pages that show a frame
-
-cases_none : {A : Type 0} (o : Option A) → (o ≡ None) ⊎ IsSome o
-cases_none None = inl refl
-cases_none (Some a) = inr refl
 
 -- a page that became zero is one less, if it showed a frame
 pub shown-less : (old new : Tree) (v a n p : ℕ) → a ≤ p → p < a + n → ((q : ℕ) → q < a + n → q ≢ p → frame_shown new v q ≡ frame_shown old v q) →
@@ -129,9 +125,9 @@ module _ (arena : Arena) where
         } in
         let less = shown-less (tree_of arena old) (tree_of arena new) v a n p low (omega arith)
         (λ q small apart. z.others v q (page q small) (λ same. apart same.1)) z.zero in
-        elim (cases_none (frame_shown (tree_of arena old) v p)) [
-          | inl none ↦ omega (arith, less, z.room none, bit-false (is_some (frame_shown (tree_of arena old) v p)) (ap is_some none))
-          | inr some ↦ omega (arith, less, z.spare, bit-true (is_some (frame_shown (tree_of arena old) v p)) some)
+        elim (cases_Bool (is_some (frame_shown (tree_of arena old) v p))) [
+          | inl some ↦ omega (arith, less, z.spare, bit-true (is_some (frame_shown (tree_of arena old) v p)) some)
+          | inr none ↦ omega (arith, less, z.room (none_is (frame_shown (tree_of arena old) v p) none), bit-false (is_some (frame_shown (tree_of arena old) v p)) none)
         ];
   }
 
@@ -299,8 +295,6 @@ sweep-start arena old before v first list here to begun exact = record {
   passed = λ d tag shown row less shows at frame. absurd (omega arith);
   cost = omega arith;
 }
-
--- ---- one page after another
 
 -- a page is zero, and those behind it
 pub zero-run : (t : Tree) (v p next : ℕ) → frame_shown t v p ≡ None → ShowsNoneIn t v (p + 1) next → AreZero t v p next

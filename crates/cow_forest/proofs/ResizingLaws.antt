@@ -42,7 +42,7 @@ use Rattle.cow_forest.proofs.StoreLaws.{showing-same}
 -- ---- frames that were given back
 
 -- a frame that is taken still has its bytes
-bytes-given : (before after : Pool) → GivesBack before after → (t : ℕ) → is_taken after t ≡ true → frame_bytes after t ≡ frame_bytes before t
+pub bytes-given : (before after : Pool) → GivesBack before after → (t : ℕ) → is_taken after t ≡ true → frame_bytes after t ≡ frame_bytes before t
 bytes-given before after gives t taken = elim (gives.kept t) [
   | inl same ↦ ap (λ o. unwrap_or o []) same
   | inr gone ↦ absurd (let none = ap is_some gone in cc)

@@ -15,7 +15,7 @@ use Rattle.vm_base.proofs.EntryLaws.{some_same}
 use Rattle.vm_model.specs.Contents.Content.{Page, views}
 use Rattle.vm_model.specs.Contents.Sharing.{viewers, IsLeastViewer}
 use Rattle.frame_pool.specs.declared.frame_pool.Backlink.{Backlink}
-use Rattle.frame_pool.specs.Pool.{taken_frames, links_of}
+use Rattle.frame_pool.specs.Pool.{links_of}
 use Rattle.page_list.specs.declared.row.Slot.{Slot}
 use Rattle.page_list.specs.declared.row.Slot.TheVariants as slot
 use Rattle.cow_arena.specs.declared.node.Node.{Node}
@@ -38,10 +38,12 @@ use Rattle.cow_split.proofs.RowLaws.{frame-shown}
 use Rattle.cow_split.proofs.SearchLaws.{contains-none, contains-one, contains-first}
 use Rattle.cow_split.proofs.ViewersLaws.{distinct-append, distinct-one, viewer-visible, viewer-sees, viewer-side, viewers-distinct}
 use Rattle.cow_fork.proofs.HolderLaws.{held-shown}
+use Rattle.page_store.specs.Pages.{IsShown}
 use Rattle.cow_forest.specs.inside.Viewing.{ShowsFrame, AreViewers, IsViewerCount, IsLeastKoidOf, HasLesserOf, HasFrameRow}
 use Rattle.cow_forest.specs.Tables.{node_in}
 use Rattle.cow_forest.specs.Store.{Forest, tree, forest_content, page_showing, HasNode, IsStore}
 use Rattle.cow_forest.proofs.ContentLaws.{ShownBy, frame-showing, page-of, one-node, vmo-shows, shown-views, views-shown, vmo-below}
+use Rattle.cow_forest.proofs.FrameLaws.{shown-taken}
 use Rattle.cow_forest.proofs.CountLaws.{AreNumbered, count_below_numbered}
 
 -- ---- the least koid
@@ -410,11 +412,11 @@ module _ (f : Forest) (s : IsStore f) (tag : ℕ) (list : List ℕ) (are : AreVi
       ((found.below, subst (λ v. views (forest_content f) tag v ≡ true) number (shown-views f s it.0 found.v shows.p tag it.1)), tt)
 
 module _ (f : Forest) (s : IsStore f) where
-  -- a frame that is taken stands in a row, to which its backlink leads: its list is that of a node
-  owned-row : (tag : ℕ) (link : Backlink) → IsSome (taken_frames f.pool tag) → link ≡ links_of f.pool tag →
+  -- a frame that is shown stands in a row, to which its backlink leads: its list is that of a node
+  owned-row : (tag : ℕ) (link : Backlink) → IsShown (forest_content f) tag → link ≡ links_of f.pool tag →
       (k : ℕ) × (node_in f.owners link.list ≡ link_to k) × HasFrameRow (tree f) k link.page tag
-  owned-row tag link taken is =
-      let it = s.exact.stands tag taken in
+  owned-row tag link shown is =
+      let it = s.exact.stands tag (shown-taken f s tag shown) in
       let owner = s.exact.listed.listed it.l it.q it.row it.at in
       let place = is ∙ s.linked.linked it.l it.q it.row tag it.at it.frame in
       let list : link.list ≡ owner.node.list.0 = ap (λ (b : Backlink). b.list) place ∙ sym owner.named in
@@ -432,13 +434,13 @@ module _ (f : Forest) (s : IsStore f) where
         },
       )
 
-  pub link-owned : (tag : ℕ) (link : Backlink) → IsSome (taken_frames f.pool tag) → link ≡ links_of f.pool tag → IsSome (node_in f.owners link.list)
-  link-owned tag link taken is = ap is_some (owned-row tag link taken is).1
+  pub link-owned : (tag : ℕ) (link : Backlink) → IsShown (forest_content f) tag → link ≡ links_of f.pool tag → IsSome (node_in f.owners link.list)
+  link-owned tag link shown is = ap is_some (owned-row tag link shown is).1
 
-  pub link-row : (tag : ℕ) (link : Backlink) (node : NodeId) → IsSome (taken_frames f.pool tag) → link ≡ links_of f.pool tag →
+  pub link-row : (tag : ℕ) (link : Backlink) (node : NodeId) → IsShown (forest_content f) tag → link ≡ links_of f.pool tag →
       node_in f.owners link.list ≡ Some node → HasFrameRow (tree f) node.0 link.page tag
-  link-row tag link node taken is owner =
-      let it = owned-row tag link taken is in subst (λ k. HasFrameRow (tree f) k link.page tag) (link_same (sym it.1 ∙ owner)) it.2
+  link-row tag link node shown is owner =
+      let it = owned-row tag link shown is in subst (λ k. HasFrameRow (tree f) k link.page tag) (link_same (sym it.1 ∙ owner)) it.2
 
   -- so many VMOs view the frame of a page that is held
   pub viewers-counted : (v k p count : ℕ) → HasNode f v k → ((tag : ℕ) → frame_shown (tree f) k p ≡ Some tag → IsViewerCount (tree f) tag count) →

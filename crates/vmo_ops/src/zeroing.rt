@@ -283,11 +283,5 @@ fn zero_part<P: Pages>(store: &mut P, v: Koid, offset: u64, len: u64, page: Page
     if !is_held_at(store, v, page) {
         return;
     }
-    fill_part(
-        store,
-        v,
-        page,
-        part_in_page(offset, len, page),
-        &ZEROS,
-    );
+    fill_part(store, v, page, part_in_page(offset, len, page), &ZEROS);
 }

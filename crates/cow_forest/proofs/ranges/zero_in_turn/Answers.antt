@@ -17,7 +17,7 @@ zero_next-from-requires-clause-room c =
     ready-room _ _ _ _ _ _ (ready-on _ _ _ _ _ _ c.requires.ready _ _ c.loop-from.invariant.some) _ c.loop-from.invariant.low c.loop-from-test.true
 
 pub zero_next-from-requires-clause-jumps : goal.zero_next-from-requires-clause-jumps
-zero_next-from-requires-clause-jumps c = jumps-zeroed _ _ _ _ _ _ _ _ _ _ c.requires.ready c.loop-from.invariant.some _ c.requires.jumps
+zero_next-from-requires-clause-jumps c = jumps-zeroed _ _ _ _ _ _ _ _ c.requires.ready.exact.forest _ c.requires.ready.visible c.loop-from.invariant.some _ c.requires.jumps
 
 pub loop-from-preserved : goal.loop-from-preserved
 loop-from-preserved c =

@@ -14,32 +14,23 @@ get-node-requires g c = vmo-found (forest_of c.self.inside) c.self.invariant.sto
 
 pub overflow_add-end : goal.overflow_add-end
 overflow_add-end g c =
-    let h = c.self.invariant.store.named c.args.v.0 c.get-node.result c.get-node.ensures in
-    let fits = range-fits (forest_of c.self.inside) c.self.invariant.store c.args.v.0 c.get-node.result.0 h c.args.first c.args.count (rw (← c.self.view_is) at c.requires.range) in
-    omega arith
+    omega (arith, range-fits _ c.self.invariant.store c.args.v.0 _ c.get-node.ensures c.args.first c.args.count (rw (← c.self.view_is) at c.requires.range))
 
 pub zero_pages-requires-clause-ready : goal.zero_pages-requires-clause-ready
 zero_pages-requires-clause-ready g c =
-    let h = c.self.invariant.store.named c.args.v.0 c.get-node.result c.get-node.ensures in
-    range-ready (forest_of c.self.inside) c.self.invariant.store c.args.v.0 c.get-node.result.0 h c.args.first c.args.count
+    range-ready _ c.self.invariant.store c.args.v.0 _ c.get-node.ensures c.args.first c.args.count
     (rw (← c.self.view_is) at c.requires.range) (rw (← c.self.view_is) at c.requires.room)
 
 pub invariant_of-self : goal.invariant_of-self
-invariant_of-self g c =
-    let h = c.self.invariant.store.named c.args.v.0 c.get-node.result c.get-node.ensures in
-    are-ranged c.self.inside c.self.invariant c.args.v.0 c.get-node.result.0 h _ _ _ _ c.zero_pages.ensures.some
+invariant_of-self g c = are-ranged c.self.inside c.self.invariant c.args.v.0 _ c.get-node.ensures _ _ _ _ c.zero_pages.ensures.some
 
 pub returns-clause-content : goal.returns-clause-content
 returns-clause-content g c =
-    let h = c.self.invariant.store.named c.args.v.0 c.get-node.result c.get-node.ensures in
-    rw (← c.self.view_is) (content-ranged (forest_of c.self.inside) c.self.invariant.store c.args.v.0 c.get-node.result.0 h _ _ _ _ c.zero_pages.ensures.some
-    c.zero_pages.ensures.zero)
+    rw (← c.self.view_is) (content-ranged _ c.self.invariant.store c.args.v.0 _ c.get-node.ensures _ _ _ _ c.zero_pages.ensures.some c.zero_pages.ensures.zero)
 
 pub returns-clause-spare : goal.returns-clause-spare
 returns-clause-spare g c =
-    let h = c.self.invariant.store.named c.args.v.0 c.get-node.result c.get-node.ensures in
-    rw (← c.self.view_is) (spare-ranged (forest_of c.self.inside) c.self.invariant.store c.args.v.0 c.get-node.result.0 h _ _ _ _ c.zero_pages.ensures.some
-    c.args.count refl (rw (← c.self.view_is) at c.requires.range))
+    rw (← c.self.view_is) (spare-ranged _ c.self.invariant.store c.args.v.0 _ c.get-node.ensures _ _ _ _ c.zero_pages.ensures.some c.args.count refl (rw (← c.self.view_is) at c.requires.range))
 
 pub returns-clause-cost : goal.returns-clause-cost
 returns-clause-cost g c = rw (← c.self.view_is) (λ k is.

@@ -1,43 +1,31 @@
-use Rattle.std.proofs.Common.{ℕ, refl, sym, ap, subst, ◌∙◌, arith}
+use Rattle.std.proofs.Common.{ℕ, refl, ap, ◌∙◌, arith}
 use Rattle.std.specs.Prelude.{Option, is_some}
 use Rattle.vm_base.specs.Entries.{with_key}
 use Rattle.vm_base.proofs.EntryLaws.{with_key-same}
 use Rattle.cow_arena.specs.declared.node.NodeId.{NodeId}
 use Rattle.cow_arena.specs.Nodes.{Nodes, nodes_of}
 use Rattle.cow_forest.specs.inside.Fields.{forest_of}
-use Rattle.cow_forest.proofs.EnterLaws.{store-alike, vmos_le}
+use Rattle.cow_forest.proofs.EnterLaws.{are-alike, vmos_le}
 use Rattle.cow_forest.proofs.MakingLaws.{HasRoot, store-made, content-made}
-use Rattle.cow_jump.proofs.JumpRowLaws.{jumps-alike}
-use Rattle.cow_forest.proofs.JumpKeptLaws.{tree-alike, jumps-root}
-use Rattle.cow_forest.specs.inside.Founders.{AreFounders}
+use Rattle.cow_forest.proofs.JumpKeptLaws.{jumps-root}
 use Rattle.cow_forest.proofs.FounderLaws.{founders-root}
 use Rattle.cow_forest.proofs.forest.CowForestPageStore.create.Goals as goal
 
 -- nothing came where there was no room
 pub invariant_of-self : goal.invariant_of-self
-invariant_of-self c = record {
-  store = store-alike (forest_of c.self.inside) _ _ _
-      (record { arena_nodes = refl; lists = refl; visible = refl; nodes_in = c.make_room.ensures.nodes; owners_in = c.make_room.ensures.owners })
-      c.self.invariant.store;
-  jumps = c.self.invariant.jumps;
-  founders = c.self.invariant.founders;
-}
+invariant_of-self c =
+    are-alike c.self.inside c.self.invariant c.self.inside.arena _ _
+    (record { arena_nodes = refl; lists = refl; visible = refl; nodes_in = c.make_room.ensures.nodes; owners_in = c.make_room.ensures.owners })
 
 pub invariant_of-self-in_err-node : goal.invariant_of-self-in_err-node
-invariant_of-self-in_err-node c = record {
-  store = store-alike (forest_of c.self.inside) _ _ _
-      (record {
-        arena_nodes = c.in_err-node.ensures.err;
-        lists = c.in_err-node.ensures.err_lists;
-        visible = c.in_err-node.ensures.err_visible;
-        nodes_in = c.make_room.ensures.nodes;
-        owners_in = c.make_room.ensures.owners;
-      })
-      c.self.invariant.store;
-  jumps = jumps-alike _ _ c.self.inside.next c.self.inside.jumps
-      (tree-alike c.self.inside.arena c.add_root.new.self c.self.inside.lists c.in_err-node.ensures.err c.in_err-node.ensures.err_lists) c.self.invariant.jumps;
-  founders = subst (λ (n : Nodes). AreFounders n c.self.inside.next c.self.inside.founders) (sym c.in_err-node.ensures.err) c.self.invariant.founders;
-}
+invariant_of-self-in_err-node c =
+    are-alike c.self.inside c.self.invariant c.add_root.new.self _ _ (record {
+      arena_nodes = c.in_err-node.ensures.err;
+      lists = c.in_err-node.ensures.err_lists;
+      visible = c.in_err-node.ensures.err_visible;
+      nodes_in = c.make_room.ensures.nodes;
+      owners_in = c.make_room.ensures.owners;
+    })
 
 pub node-requires : goal.node-requires
 node-requires c = ap is_some (ap (λ (nodes : Nodes). nodes c.in_ok-node.node.0) c.in_ok-node.ensures.nodes ∙ with_key-same (nodes_of c.self.inside.arena) c.in_ok-node.node.0 _)

@@ -7,23 +7,12 @@ pub backlink-link-requires : goal.backlink-link-requires
 backlink-link-requires c = shown-taken (forest_of c.self.inside) c.self.invariant.store c.args.tag.0 (rw (← c.self.view_is) at c.requires)
 
 pub get-node-requires : goal.get-node-requires
-get-node-requires c =
-    let f = forest_of c.self.inside in
-    let s = c.self.invariant.store in
-    link-owned f s c.args.tag.0 c.backlink-link.result (shown-taken f s c.args.tag.0 (rw (← c.self.view_is) at c.requires)) c.backlink-link.ensures
+get-node-requires c = link-owned _ c.self.invariant.store c.args.tag.0 c.backlink-link.result (rw (← c.self.view_is) at c.requires) c.backlink-link.ensures
 
 pub least_koid_of-requires-clause-row : goal.least_koid_of-requires-clause-row
-least_koid_of-requires-clause-row c =
-    let f = forest_of c.self.inside in
-    let s = c.self.invariant.store in
-    let taken = shown-taken f s c.args.tag.0 (rw (← c.self.view_is) at c.requires) in
-    (c.args.tag.0, link-row f s c.args.tag.0 c.backlink-link.result c.get-node.result taken c.backlink-link.ensures c.get-node.ensures)
+least_koid_of-requires-clause-row c = (c.args.tag.0, link-row _ c.self.invariant.store c.args.tag.0 c.backlink-link.result c.get-node.result (rw (← c.self.view_is) at c.requires) c.backlink-link.ensures c.get-node.ensures)
 
 pub returns : goal.returns
 returns c =
-    let f = forest_of c.self.inside in
-    let s = c.self.invariant.store in
-    let taken = shown-taken f s c.args.tag.0 (rw (← c.self.view_is) at c.requires) in
-    let row = link-row f s c.args.tag.0 c.backlink-link.result c.get-node.result taken c.backlink-link.ensures c.get-node.ensures in
-    let it = c.least_koid_of.ensures c.args.tag.0 row in
-    rw (← c.self.view_is) (least-viewer f s c.args.tag.0 it.list it.viewers c.least_koid_of.result it.least)
+    let it = c.least_koid_of.ensures c.args.tag.0 (link-row _ c.self.invariant.store c.args.tag.0 c.backlink-link.result c.get-node.result (rw (← c.self.view_is) at c.requires) c.backlink-link.ensures c.get-node.ensures) in
+    rw (← c.self.view_is) (least-viewer _ c.self.invariant.store c.args.tag.0 it.list it.viewers c.least_koid_of.result it.least)

@@ -12,53 +12,31 @@ pub backlink-link-requires : goal.backlink-link-requires
 backlink-link-requires c = shown-taken (forest_of c.self.inside) c.self.invariant.store c.args.tag.0 (rw (← c.self.view_is) at c.requires)
 
 pub get-node-requires : goal.get-node-requires
-get-node-requires c =
-    let f = forest_of c.self.inside in
-    let s = c.self.invariant.store in
-    link-owned f s c.args.tag.0 c.backlink-link.result (shown-taken f s c.args.tag.0 (rw (← c.self.view_is) at c.requires)) c.backlink-link.ensures
+get-node-requires c = link-owned _ c.self.invariant.store c.args.tag.0 c.backlink-link.result (rw (← c.self.view_is) at c.requires) c.backlink-link.ensures
 
 pub elder_for-requires : goal.elder_for-requires
-elder_for-requires c =
-    let f = forest_of c.self.inside in
-    let s = c.self.invariant.store in
-    let taken = shown-taken f s c.args.tag.0 (rw (← c.self.view_is) at c.requires) in
-    ap is_some (link-row f s c.args.tag.0 c.backlink-link.result c.get-node.result taken c.backlink-link.ensures c.get-node.ensures).row.at
+elder_for-requires c = ap is_some (link-row _ c.self.invariant.store c.args.tag.0 c.backlink-link.result c.get-node.result (rw (← c.self.view_is) at c.requires) c.backlink-link.ensures c.get-node.ensures).row.at
 
 pub lesser_koid_of-requires-clause-row : goal.lesser_koid_of-requires-clause-row
-lesser_koid_of-requires-clause-row c =
-    let f = forest_of c.self.inside in
-    let s = c.self.invariant.store in
-    let taken = shown-taken f s c.args.tag.0 (rw (← c.self.view_is) at c.requires) in
-    (c.args.tag.0, link-row f s c.args.tag.0 c.backlink-link.result c.get-node.result taken c.backlink-link.ensures c.get-node.ensures)
+lesser_koid_of-requires-clause-row c = (c.args.tag.0, link-row _ c.self.invariant.store c.args.tag.0 c.backlink-link.result c.get-node.result (rw (← c.self.view_is) at c.requires) c.backlink-link.ensures c.get-node.ensures)
 
 pub returns-in_default-clause-some : goal.returns-in_default-clause-some
 returns-in_default-clause-some c =
-    let f = forest_of c.self.inside in
-    let s = c.self.invariant.store in
-    let taken = shown-taken f s c.args.tag.0 (rw (← c.self.view_is) at c.requires) in
-    let row = link-row f s c.args.tag.0 c.backlink-link.result c.get-node.result taken c.backlink-link.ensures c.get-node.ensures in
-    let it = c.lesser_koid_of.ensures c.args.tag.0 row in
-    rw (← c.self.view_is) (lesser-viewer f s c.args.tag.0 it.list it.viewers c.args.v c.lesser_koid_of.result it.answer_is).0
+    let it = c.lesser_koid_of.ensures c.args.tag.0 (link-row _ c.self.invariant.store c.args.tag.0 c.backlink-link.result c.get-node.result (rw (← c.self.view_is) at c.requires) c.backlink-link.ensures c.get-node.ensures) in
+    rw (← c.self.view_is) (lesser-viewer _ c.self.invariant.store c.args.tag.0 it.list it.viewers c.args.v c.lesser_koid_of.result it.answer_is).0
 
 pub returns-in_default-clause-none : goal.returns-in_default-clause-none
 returns-in_default-clause-none c =
-    let f = forest_of c.self.inside in
-    let s = c.self.invariant.store in
-    let taken = shown-taken f s c.args.tag.0 (rw (← c.self.view_is) at c.requires) in
-    let row = link-row f s c.args.tag.0 c.backlink-link.result c.get-node.result taken c.backlink-link.ensures c.get-node.ensures in
-    let it = c.lesser_koid_of.ensures c.args.tag.0 row in
-    rw (← c.self.view_is) (lesser-viewer f s c.args.tag.0 it.list it.viewers c.args.v c.lesser_koid_of.result it.answer_is).1
+    let it = c.lesser_koid_of.ensures c.args.tag.0 (link-row _ c.self.invariant.store c.args.tag.0 c.backlink-link.result c.get-node.result (rw (← c.self.view_is) at c.requires) c.backlink-link.ensures c.get-node.ensures) in
+    rw (← c.self.view_is) (lesser-viewer _ c.self.invariant.store c.args.tag.0 it.list it.viewers c.args.v c.lesser_koid_of.result it.answer_is).1
 
 -- ---- the elder founder alone may have a lesser koid
 
 pub returns-then-v-elder-clause-none : goal.returns-then-v-elder-clause-none
 returns-then-v-elder-clause-none c =
-    let f = forest_of c.self.inside in
-    let s = c.self.invariant.store in
-    let taken = shown-taken f s c.args.tag.0 (rw (← c.self.view_is) at c.requires) in
-    let row = link-row f s c.args.tag.0 c.backlink-link.result c.get-node.result taken c.backlink-link.ensures c.get-node.ensures in
+    let row = link-row _ c.self.invariant.store c.args.tag.0 c.backlink-link.result c.get-node.result (rw (← c.self.view_is) at c.requires) c.backlink-link.ensures c.get-node.ensures in
     rw (← c.self.view_is)
-    (elder-late f s c.self.inside.founders c.self.invariant.founders c.get-node.result.0 c.backlink-link.result.page c.args.tag.0 row c.args.v c.in-Some.elder
+    (elder-late _ c.self.invariant.store c.self.inside.founders c.self.invariant.founders c.get-node.result.0 c.backlink-link.result.page c.args.tag.0 row c.args.v c.in-Some.elder
     c.in-Some.ensures (omega (arith, c.if-v-elder.true)))
 
 pub shows-requires-clause-node : goal.shows-requires-clause-node
@@ -66,19 +44,14 @@ shows-requires-clause-node c = node-found (forest_of c.self.inside) c.self.invar
 
 pub returns-then-shows-clause-some : goal.returns-then-shows-clause-some
 returns-then-shows-clause-some c =
-    let f = forest_of c.self.inside in
-    let s = c.self.invariant.store in
-    let shown = ap (λ o. frame_from (tree f) o c.backlink-link.result.page) c.look-leaf.ensures ∙ c.shows.ensures.0 c.if-shows.true in
-    rw (← c.self.view_is) (omega (arith, c.if-v-elder.false), frame-views f s c.in-Some.elder.0 c.backlink-link.result.page c.args.tag.0 shown)
+    let shown = ap (λ o. frame_from (tree (forest_of c.self.inside)) o c.backlink-link.result.page) c.look-leaf.ensures ∙ c.shows.ensures.0 c.if-shows.true in
+    rw (← c.self.view_is) (omega (arith, c.if-v-elder.false), frame-views _ c.self.invariant.store c.in-Some.elder.0 c.backlink-link.result.page c.args.tag.0 shown)
 
 pub returns-else-shows-clause-none : goal.returns-else-shows-clause-none
 returns-else-shows-clause-none c =
-    let f = forest_of c.self.inside in
-    let s = c.self.invariant.store in
-    let taken = shown-taken f s c.args.tag.0 (rw (← c.self.view_is) at c.requires) in
-    let row = link-row f s c.args.tag.0 c.backlink-link.result c.get-node.result taken c.backlink-link.ensures c.get-node.ensures in
+    let row = link-row _ c.self.invariant.store c.args.tag.0 c.backlink-link.result c.get-node.result (rw (← c.self.view_is) at c.requires) c.backlink-link.ensures c.get-node.ensures in
     rw (← c.self.view_is)
-    (elder-parted f s c.self.inside.founders c.self.invariant.founders c.get-node.result.0 c.backlink-link.result.page c.args.tag.0 row c.args.v c.in-Some.elder
+    (elder-parted _ c.self.invariant.store c.self.inside.founders c.self.invariant.founders c.get-node.result.0 c.backlink-link.result.page c.args.tag.0 row c.args.v c.in-Some.elder
     c.in-Some.ensures
-    (λ shown. absurd (let is = c.shows.ensures.1 (ap (λ o. frame_from (tree f) o c.backlink-link.result.page) (sym c.look-leaf.ensures) ∙ shown) in
+    (λ shown. absurd (let is = c.shows.ensures.1 (ap (λ o. frame_from (tree (forest_of c.self.inside)) o c.backlink-link.result.page) (sym c.look-leaf.ensures) ∙ shown) in
     let no = c.if-shows.false in cc)))

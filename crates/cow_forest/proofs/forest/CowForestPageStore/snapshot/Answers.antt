@@ -1,9 +1,9 @@
-use Rattle.std.proofs.Common.{ℕ, ◌+◌, Option, refl, sym, ap, subst, ◌∙◌, arith}
+use Rattle.std.proofs.Common.{ℕ, ◌+◌, Option, refl, sym, ap, ◌∙◌, arith}
 use Rattle.std.specs.Prelude.{is_some}
 use Rattle.vm_base.specs.Entries.{with_key}
 use Rattle.cow_arena.specs.declared.node.NodeId.{NodeId}
 use Rattle.frame_pool.specs.Pool.{is_taken}
-use Rattle.cow_arena.specs.Nodes.{Nodes, nodes_of}
+use Rattle.cow_arena.specs.Nodes.{nodes_of}
 use Rattle.cow_arena.proofs.ForestLaws.{held_apart}
 use Rattle.cow_split.specs.Trees.{tree_of}
 use Rattle.cow_forest.specs.inside.Fields.{forest_of}
@@ -11,39 +11,27 @@ use Rattle.cow_forest.specs.Store.{tree}
 use Rattle.cow_jump.specs.Jumps.{AreJumps}
 use Rattle.cow_jump.proofs.JumpLaws.{same-jumps}
 use Rattle.cow_forest.proofs.ContentLaws.{pages-of}
-use Rattle.cow_forest.proofs.EnterLaws.{found-node, store-alike, vmos_le}
+use Rattle.cow_forest.proofs.EnterLaws.{found-node, are-alike, vmos_le}
 use Rattle.cow_forest.proofs.SnapshotLaws.{hidden-held, leaf-held, HasPair, store-shared, content-shared}
-use Rattle.cow_jump.proofs.JumpRowLaws.{jumps-alike}
-use Rattle.cow_forest.proofs.JumpKeptLaws.{tree-alike, jumps-shared}
-use Rattle.cow_forest.specs.inside.Founders.{AreFounders}
+use Rattle.cow_forest.proofs.JumpKeptLaws.{jumps-shared}
 use Rattle.cow_forest.proofs.FounderLaws.{founders-shared}
 use Rattle.cow_forest.proofs.forest.CowForestPageStore.snapshot.Goals as goal
 
 -- nothing came where there was no room
 pub invariant_of-self : goal.invariant_of-self
-invariant_of-self c = record {
-  store = store-alike (forest_of c.self.inside) _ _ _
-      (record { arena_nodes = refl; lists = refl; visible = refl; nodes_in = c.make_room.ensures.nodes; owners_in = c.make_room.ensures.owners })
-      c.self.invariant.store;
-  jumps = c.self.invariant.jumps;
-  founders = c.self.invariant.founders;
-}
+invariant_of-self c =
+    are-alike c.self.inside c.self.invariant c.self.inside.arena _ _
+    (record { arena_nodes = refl; lists = refl; visible = refl; nodes_in = c.make_room.ensures.nodes; owners_in = c.make_room.ensures.owners })
 
 pub invariant_of-self-in_err-pair : goal.invariant_of-self-in_err-pair
-invariant_of-self-in_err-pair c = rw c.in_err-pair.ensures.err_rows (record {
-  store = store-alike (forest_of c.self.inside) _ _ _
-      (record {
-        arena_nodes = c.in_err-pair.ensures.err;
-        lists = c.in_err-pair.ensures.err_lists;
-        visible = c.in_err-pair.ensures.err_visible;
-        nodes_in = c.make_room.ensures.nodes;
-        owners_in = c.make_room.ensures.owners;
-      })
-      c.self.invariant.store;
-  jumps = jumps-alike _ _ c.self.inside.next c.self.inside.jumps
-      (tree-alike c.self.inside.arena c.share.new.arena c.self.inside.lists c.in_err-pair.ensures.err c.in_err-pair.ensures.err_lists) c.self.invariant.jumps;
-  founders = subst (λ (n : Nodes). AreFounders n c.self.inside.next c.self.inside.founders) (sym c.in_err-pair.ensures.err) c.self.invariant.founders;
-})
+invariant_of-self-in_err-pair c =
+    rw c.in_err-pair.ensures.err_rows (are-alike c.self.inside c.self.invariant c.share.new.arena _ _ (record {
+      arena_nodes = c.in_err-pair.ensures.err;
+      lists = c.in_err-pair.ensures.err_lists;
+      visible = c.in_err-pair.ensures.err_visible;
+      nodes_in = c.make_room.ensures.nodes;
+      owners_in = c.make_room.ensures.owners;
+    }))
 
 pub share-requires-clause-leaf : goal.share-requires-clause-leaf
 share-requires-clause-leaf c =

@@ -10,8 +10,7 @@ pub get-node-requires : goal.get-node-requires
 get-node-requires c = page-found (forest_of c.self.inside) c.self.invariant.store c.args.v.0 c.args.page (rw (← c.self.view_is) at c.requires.page)
 
 pub zero_by_jumps-requires-clause-page : goal.zero_by_jumps-requires-clause-page
-zero_by_jumps-requires-clause-page c =
-    (page-at (forest_of c.self.inside) c.self.invariant.store c.args.v.0 c.args.page _ (rw (← c.self.view_is) at c.requires.page) c.get-node.ensures).page
+zero_by_jumps-requires-clause-page c = (page-at (forest_of c.self.inside) c.self.invariant.store c.args.v.0 c.args.page _ (rw (← c.self.view_is) at c.requires.page) c.get-node.ensures).page
 
 -- the page is a range of one
 some : (c : goal.After-zero_by_jumps) →
@@ -22,12 +21,8 @@ some c =
     c.zero_by_jumps.ensures.zeroed
 
 pub invariant_of-self : goal.invariant_of-self
-invariant_of-self c =
-    let h = c.self.invariant.store.named c.args.v.0 c.get-node.result c.get-node.ensures in
-    are-ranged c.self.inside c.self.invariant c.args.v.0 c.get-node.result.0 h _ _ _ _ (some c)
+invariant_of-self c = are-ranged c.self.inside c.self.invariant c.args.v.0 _ c.get-node.ensures _ _ _ _ (some c)
 
 pub returns-clause-zero : goal.returns-clause-zero
 returns-clause-zero c =
-    let h = c.self.invariant.store.named c.args.v.0 c.get-node.result c.get-node.ensures in
-    rw (← c.self.view_is) (content-ranged (forest_of c.self.inside) c.self.invariant.store c.args.v.0 c.get-node.result.0 h _ _ _ _ (some c)
-    (zero-run _ _ _ _ c.zero_by_jumps.ensures.zeroed.zero (λ q low less. absurd (omega arith))))
+    rw (← c.self.view_is) (content-ranged _ c.self.invariant.store c.args.v.0 _ c.get-node.ensures _ _ _ _ (some c) (zero-run _ _ _ _ c.zero_by_jumps.ensures.zeroed.zero (λ q low less. absurd (omega arith))))
