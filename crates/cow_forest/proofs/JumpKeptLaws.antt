@@ -66,16 +66,14 @@ places-bare old new list Is places = record {
 
 -- some pages of a VMO's node were made zero, by which no place but places of its list gets a row
 pub jumps-zeroed : (arena : Arena) (old new : Rows Row) (before after : Pool) (v a b : ℕ) → IsForest (nodes_of arena) arena.lists →
-    (node : Node) → IsVisible (nodes_of arena) v node → HasZeroedSome arena old new before after v a b → (table : JumpTable) →
-    ((next : ℕ) × AreJumps (tree_of arena old) next table) → ((next : ℕ) × AreJumps (tree_of arena new) next table)
-jumps-zeroed arena old new before after v a b forest node visible zeroed table are = (
-  are.0,
-  jumps-bare (tree_of arena old) forest (slots_of new) v node visible
-      (places-bare (slots_of old) (slots_of new) node.list.0 (λ q. (a ≤ q) × (q < b)) (λ l q some. elim (zeroed.places node visible.at l q some) [
-        | inl had ↦ inl had
-        | inr here ↦ inr (here.0, (here.1, here.2))
-      ])) are.0 table are.1,
-)
+    (node : Node) → IsVisible (nodes_of arena) v node → HasZeroedSome arena old new before after v a b → (next : ℕ) (table : JumpTable) →
+    AreJumps (tree_of arena old) next table → AreJumps (tree_of arena new) next table
+jumps-zeroed arena old new before after v a b forest node visible zeroed =
+    jumps-bare (tree_of arena old) forest (slots_of new) v node visible
+    (places-bare (slots_of old) (slots_of new) node.list.0 (λ q. (a ≤ q) × (q < b)) (λ l q some. elim (zeroed.places node visible.at l q some) [
+      | inl had ↦ inl had
+      | inr here ↦ inr (here.0, (here.1, here.2))
+    ]))
 
 -- ---- a VMO comes
 

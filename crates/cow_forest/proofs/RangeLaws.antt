@@ -307,8 +307,7 @@ pub zero-on : (arena : Arena) (old new : Rows Row) (before after : Pool) (v firs
 zero-on arena old new before after v first from next a b page z zero behind p low high = elim (cases_lt p from) [
   | inr past ↦ behind p past high
   | inl passed ↦ none-from (frame_shown (tree_of arena new) v p) (λ t shows.
-      let less = page.below in
-      let had = z.part v p t (record { node = page.node; visible = page.visible; below = omega (arith, less) }) shows in
+      let had = z.part v p t (record { node = page.node; visible = page.visible; below = omega (arith, page.below) }) shows in
       let none = zero p low passed in
       absurd (cc))
 ]

@@ -119,7 +119,7 @@ are-ranged a are v at is rows pool first end z =
     let h = are.store.named v at is in
     record {
       store = store-ranged (forest_of a) are.store v at is rows pool first end z;
-      jumps = (jumps-zeroed a.arena a.lists rows a.frames pool at.0 first end are.store.exact.forest h.node (node-visible (forest_of a) are.store v at.0 h) z
-          a.jumps (a.next, are.jumps)).1;
+      jumps = jumps-zeroed a.arena a.lists rows a.frames pool at.0 first end are.store.exact.forest h.node (node-visible (forest_of a) are.store v at.0 h) z
+          a.next a.jumps are.jumps;
       founders = are.founders;
     }

@@ -367,7 +367,11 @@ impl PageStore for CowForest {
             &mut self.frames,
             &self.jumps,
             node,
-            PageRun { from: first, end },
+            PageRun {
+                from: first,
+                end,
+                in_row: true,
+            },
         );
     }
 

@@ -248,8 +248,8 @@ fn next_shown_by_rows(
     None
 }
 
-/// Returns the first page from `from` to below `end` of a VMO's node that shows a frame, or `end` if none does. The first two
-/// cost a look each, and only behind them the call searches, up to the root.
+/// Returns the first page from `from` to below `end` of a VMO's node that shows a frame, or `end` if none does. The first costs
+/// a look, and if there are two, so does the second. Behind the first of more than two the call searches, up to the root.
 pub(crate) fn next_shown_below(
     arena: &CowArena,
     lists: &PageLists,
@@ -269,16 +269,16 @@ pub(crate) fn next_shown_below(
         return from;
     }
     let next = from + 1;
+    if end - from > 2 {
+        return match next_shown_by_rows(arena, lists, jumps, leaf, next) {
+            Some(page) if page < end => page,
+            _ => end,
+        };
+    }
     if next == end || shown_frame(arena, lists, jumps, leaf, next).is_some() {
         return next;
     }
-    if next + 1 == end {
-        return end;
-    }
-    match next_shown_by_rows(arena, lists, jumps, leaf, next + 1) {
-        Some(page) if page < end => page,
-        _ => end,
-    }
+    end
 }
 
 /// Returns the first page from `from` on of a VMO's node that comes to a row, of the node or of one above it. No page

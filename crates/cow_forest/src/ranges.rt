@@ -65,15 +65,17 @@ pub(crate) fn zero_pages<L: Ledger>(
     }
 }
 
-/// Pages of a VMO's node, from `from` to below `end`.
+/// Pages of a VMO's node that are left, from `from` to below `end`. `in_row` says that held pages stood in a row before them, or
+/// that there are none before. What they show does not depend on it.
 #[derive(Clone, Copy)]
 pub(crate) struct PageRun {
     pub from: PageNo,
     pub end: PageNo,
+    pub in_row: bool,
 }
 
-/// Makes pages of a VMO's node zero, one after another. Behind a page that showed no frame it goes on at the next one that
-/// does, so held pages in a row cost no search.
+/// Makes pages of a VMO's node zero, one after another. Held pages in a row cost no look and no search: behind any other page
+/// the call goes on at the next one that is held.
 pub(crate) fn zero_in_turn(
     arena: &CowArena,
     lists: &mut PageLists,
@@ -87,40 +89,40 @@ pub(crate) fn zero_in_turn(
     ensures some { HasZeroedSome arena.now lists.old lists.new frames.old frames.new leaf.0 pages.from pages.end }
     ensures zero { AreZero (tree_of arena.now lists.new) leaf.0 pages.from pages.end }
 {
-    let mut from = first_to_zero(arena, lists, jumps, leaf, pages);
-    while from < pages.end {
-        let rest = PageRun {
-            from,
-            end: pages.end,
-        };
-        from = zero_next(arena, lists, frames, jumps, leaf, rest);
+    let mut run = first_to_zero(arena, lists, jumps, leaf, pages);
+    while run.from < run.end {
+        run = zero_next(arena, lists, frames, jumps, leaf, run);
     }
 }
 
-/// Returns a page from the first on, up to the end, before which all are zero. A root has no row that says zero, and there no
-/// page is looked at.
+/// Returns the pages that are left behind those that are zero already. A root has no row that says zero, and there no page is
+/// looked at.
 fn first_to_zero(
     arena: &CowArena,
     lists: &PageLists,
     jumps: &JumpTable,
     leaf: NodeId,
     pages: PageRun,
-) -> PageNo
+) -> PageRun
     requires exact { (in_use : ℕ → Bool) × IsExact (tree_of arena.now lists.now) all_in_sight in_use }
     requires jumps { (next : ℕ) × AreJumps (tree_of arena.now lists.now) next jumps.now }
     requires leaf { IsSomeAnd (nodes_of arena.now leaf.0) (λ node. IsSome node.koid) }
     requires order { pages.from ≤ pages.end }
-    ensures range { (pages.from ≤ result) × (result ≤ pages.end) }
-    ensures none { ShowsNoneIn (tree_of arena.now lists.now) leaf.0 pages.from result }
+    ensures range { (pages.from ≤ result.from) × (result.from ≤ pages.end) × (result.end ≡ pages.end) }
+    ensures none { ShowsNoneIn (tree_of arena.now lists.now) leaf.0 pages.from result.from }
 {
     if arena.look(leaf).parent.is_none() {
-        return pages.from;
+        return pages;
     }
-    next_shown_below(arena, lists, jumps, leaf, pages.from, pages.end)
+    PageRun {
+        from: next_shown_below(arena, lists, jumps, leaf, pages.from, pages.end),
+        end: pages.end,
+        in_row: true,
+    }
 }
 
-/// Makes the first of some pages of a VMO's node zero, and returns a page behind it, up to the end, before which all are zero.
-/// If the page showed no frame, the next page that does is searched for.
+/// Makes the first of some pages of a VMO's node zero, and returns those that are left behind it and behind others that are
+/// zero. The next page that is held is searched for, unless held pages stand in a row.
 fn zero_next(
     arena: &CowArena,
     lists: &mut PageLists,
@@ -128,21 +130,31 @@ fn zero_next(
     jumps: &JumpTable,
     leaf: NodeId,
     pages: PageRun,
-) -> PageNo
+) -> PageRun
     requires exact { IsExact (tree_of arena.now lists.old) all_in_sight (is_taken frames.old) }
     requires page { IsPage (tree_of arena.now lists.old) leaf.0 pages.from }
     requires below { pages.from < pages.end }
     requires room { frame_shown (tree_of arena.now lists.old) leaf.0 pages.from ≢ None → 1 ≤ lists.old.spare }
     requires jumps { (next : ℕ) × AreJumps (tree_of arena.now lists.old) next jumps.now }
-    ensures range { (pages.from < result) × (result ≤ pages.end) }
+    ensures range { (pages.from < result.from) × (result.from ≤ pages.end) × (result.end ≡ pages.end) }
     ensures some { HasZeroedSome arena.now lists.old lists.new frames.old frames.new leaf.0 pages.from (pages.from + 1) }
-    ensures zero { AreZero (tree_of arena.now lists.new) leaf.0 pages.from result }
+    ensures zero { AreZero (tree_of arena.now lists.new) leaf.0 pages.from result.from }
 {
     let behind = pages.from + 1;
-    if zero_by_jumps(arena, lists, frames, jumps, leaf, pages.from) {
-        return behind;
+    let held = zero_by_jumps(arena, lists, frames, jumps, leaf, pages.from);
+    if held && pages.in_row {
+        return PageRun {
+            from: behind,
+            end: pages.end,
+            in_row: true,
+        };
     }
-    next_shown_below(arena, lists, jumps, leaf, behind, pages.end)
+    let next = next_shown_below(arena, lists, jumps, leaf, behind, pages.end);
+    PageRun {
+        from: next,
+        end: pages.end,
+        in_row: next == behind,
+    }
 }
 
 /// Makes those pages of a VMO's node zero that come to the rows of a list on its pages from `here` to below `to`: the page that

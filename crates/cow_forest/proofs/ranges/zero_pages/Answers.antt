@@ -10,7 +10,8 @@ pub zero_rows-requires-clause-ready : goal.zero_rows-requires-clause-ready
 zero_rows-requires-clause-ready g c = rise-ready _ _ _ _ _ _ _ c.requires.ready _ _ _ _ _ _ c.loop-here.invariant
 
 pub zero_rows-requires-clause-jumps : goal.zero_rows-requires-clause-jumps
-zero_rows-requires-clause-jumps g c = jumps-zeroed _ _ _ _ _ _ _ _ c.requires.ready.exact.forest _ c.requires.ready.visible c.loop-here.invariant.some _ c.requires.jumps
+zero_rows-requires-clause-jumps g c =
+    (c.requires.jumps.0, jumps-zeroed _ _ _ _ _ _ _ _ c.requires.ready.exact.forest _ c.requires.ready.visible c.loop-here.invariant.some _ _ c.requires.jumps.1)
 
 pub returns-then-stop-here-clause-some : goal.returns-then-stop-here-clause-some
 returns-then-stop-here-clause-some g c =

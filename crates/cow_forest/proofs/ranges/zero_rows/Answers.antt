@@ -17,7 +17,8 @@ zero_shown-requires-clause-room g c =
     sweep-room _ _ _ _ _ _ _ _ _ _ _ _ _ _ c.requires.ready c.requires.order c.requires.within c.loop-row.invariant c.in-Some.row found.0 found.1
 
 pub zero_shown-requires-clause-jumps : goal.zero_shown-requires-clause-jumps
-zero_shown-requires-clause-jumps g c = jumps-zeroed _ _ _ _ _ _ _ _ c.requires.ready.exact.forest _ c.requires.ready.visible c.loop-row.invariant.some _ c.requires.jumps
+zero_shown-requires-clause-jumps g c =
+    (c.requires.jumps.0, jumps-zeroed _ _ _ _ _ _ _ _ c.requires.ready.exact.forest _ c.requires.ready.visible c.loop-row.invariant.some _ _ c.requires.jumps.1)
 
 pub overflow_add-from : goal.overflow_add-from
 overflow_add-from g c = omega (arith, c.in-Some.ensures.next.found c.in-Some.row refl)

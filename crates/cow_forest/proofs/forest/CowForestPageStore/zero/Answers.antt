@@ -17,8 +17,7 @@ some : (c : goal.After-zero_by_jumps) →
     HasZeroedSome c.self.inside.arena c.self.inside.lists c.zero_by_jumps.new.lists c.self.inside.frames c.zero_by_jumps.new.frames c.get-node.result.0 c.args.page (c.args.page + 1)
 some c =
     zeroed-one c.self.inside.arena _ _ _ _ _ _
-    (page-at (forest_of c.self.inside) c.self.invariant.store c.args.v.0 c.args.page _ (rw (← c.self.view_is) at c.requires.page) c.get-node.ensures).page
-    c.zero_by_jumps.ensures.zeroed
+    (page-at (forest_of c.self.inside) c.self.invariant.store c.args.v.0 c.args.page _ (rw (← c.self.view_is) at c.requires.page) c.get-node.ensures).page c.zero_by_jumps.ensures.zeroed
 
 pub invariant_of-self : goal.invariant_of-self
 invariant_of-self c = are-ranged c.self.inside c.self.invariant c.args.v.0 _ c.get-node.ensures _ _ _ _ (some c)

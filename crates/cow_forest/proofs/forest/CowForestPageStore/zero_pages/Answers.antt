@@ -13,8 +13,7 @@ zero_in_turn-requires-clause-ready c =
     let place : c.args.first + (c.args.end - c.args.first) ≡ c.args.end = omega (arith, c.requires.range) in
     let range = rw (← c.self.view_is) at c.requires.range in
     subst (λ n. IsReadyToZero c.self.inside.arena c.self.inside.lists c.self.inside.frames c.get-node.result.0 c.args.first n) place
-    (range-ready _ c.self.invariant.store c.args.v.0 _ c.get-node.ensures c.args.first (c.args.end - c.args.first)
-    (omega (arith, range)) (rw (← c.self.view_is) at c.requires.room))
+    (range-ready _ c.self.invariant.store c.args.v.0 _ c.get-node.ensures c.args.first (c.args.end - c.args.first) (omega (arith, range)) (rw (← c.self.view_is) at c.requires.room))
 
 pub invariant_of-self : goal.invariant_of-self
 invariant_of-self c = are-ranged c.self.inside c.self.invariant c.args.v.0 _ c.get-node.ensures _ _ _ _ c.zero_in_turn.ensures.some
