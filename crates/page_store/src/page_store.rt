@@ -120,7 +120,7 @@ pub trait PageStore: Drop {
         ensures spare { spare self.old ≤ spare self.new + 1 };
 
     /// Makes the pages of a VMO zero from `first` to below `end`, which `zero` does with one. The call needs room
-    /// (`spare`) for each of them that is held, and takes no more. A store may pass the pages that are zero at once.
+    /// (`spare`) for each of them that is held, and takes no more. A store may go from held page to held page by one walk.
     fn zero_pages(&mut self, v: Koid, first: PageNo, end: PageNo)
         requires vmo { IsSome ((content self.old).count v.0) }
         requires range { (first ≤ end) × (end ≤ pages_of (content self.old) v.0) }

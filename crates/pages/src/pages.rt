@@ -104,7 +104,7 @@ pub trait Pages: Drop {
         ensures spare { spare self.old ≤ spare self.new + 1 };
 
     /// Makes the pages of a VMO zero from `first` to below `end`, as `zero` does with one page. The call needs room
-    /// (`spare`) for each of them that is held. It goes over the range once, and looks for no page from the start.
+    /// (`spare`) for each of them that is held.
     fn zero_pages(&mut self, v: Koid, first: PageNo, end: PageNo)
         requires vmo { IsSome ((content self.old).count v.0) }
         requires range { (first ≤ end) × (end ≤ pages_of (content self.old) v.0) }
