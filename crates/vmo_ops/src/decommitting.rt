@@ -14,9 +14,9 @@ ghost use Rattle.pin_table.specs.Table.{pins_of};
 ghost use Rattle.vmo_ops.specs.Costs.{held_touched};
 ghost use Rattle.vmo_ops.specs.Targets.{AreTogether, with_tables, IsPlaced, IsRefusalIn};
 
-use crate::owning::reserve_rows;
 use crate::ranges::{is_whole, place_in_vmo};
-use crate::zeroing::{cost_to_zero, zero_pages};
+use crate::ready::RangeToChange;
+use crate::zeroing::{room_to_zero, rows_to_clear, zero_pages};
 use pages::Pages;
 use pin_table::PinTable;
 use vm_base::{Koid, PAGE, Refusal, page_of};
@@ -49,8 +49,8 @@ pub fn decommit<P: Pages>(
         Ok(at) => at,
         Err(refusal) => return Err(refusal),
     };
-    let cost = cost_to_zero(store, pins, t.koid, at, len);
-    let Ok(()) = reserve_rows(store, cost.held, cost.held) else {
+    let rows = rows_to_clear(store, pins, t.koid, at, len);
+    let Ok(()) = room_to_zero(store, pins, t.koid, RangeToChange { at, rows }, len) else {
         return Err(Refusal::HostMemory);
     };
     clear_pages(store, pins, t.koid, at, len);

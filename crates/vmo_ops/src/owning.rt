@@ -79,7 +79,7 @@ pub fn reserve_rows<P: Pages>(store: &mut P, wanting: u64, pages: u64) -> Result
 }
 
 /// The most pages for which room is made without a look at them. So no more rows than these stay unused.
-const UNSEEN_PAGES: u64 = 64;
+pub(crate) const UNSEEN_PAGES: u64 = 64;
 
 /// Returns whether `pages` pages may be owned, whatever they are, without a look at them: they are at most `UNSEEN_PAGES`, and
 /// there is a free frame for each. No page takes more than one. A page that is sole takes none, so `false` does not mean a

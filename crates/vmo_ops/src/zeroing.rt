@@ -18,7 +18,7 @@ ghost use Rattle.vmo_ops.specs.Costs.{held_touched};
 
 use crate::filling::fill_part;
 use crate::held_pages::{is_held_at, next_held_below};
-use crate::owning::{are_ample, is_sole, with_one};
+use crate::owning::{UNSEEN_PAGES, are_ample, is_sole, with_one};
 use crate::ranges::{PagePart, part_in_page, touched_pages};
 use crate::ready::{RangeToChange, place_to_change};
 use pages::Pages;
@@ -113,8 +113,29 @@ fn rows_to_zero<P: Pages>(store: &P, pins: &PinTable, v: Koid, offset: u64, len:
     Some(cost.held)
 }
 
-// Makes room for zeroing a range that was asked for. `HostMemory` only if a page that it touches is held.
-fn room_to_zero<P: Pages>(
+/// Returns how many rows of the store are enough to zero a range inside a VMO, if it needs no frame. If the range is short, no
+/// page is looked at.
+pub(crate) fn rows_to_clear<P: Pages>(
+    store: &P,
+    pins: &PinTable,
+    v: Koid,
+    offset: u64,
+    len: u64,
+) -> u64
+    requires good { IsGood (P.content store.now) }
+    requires vmo { IsSome ((P.content store.now).count v.0) }
+    requires inside { offset + len ≤ pages_of (P.content store.now) v.0 * PAGE }
+    ensures { held_touched (P.content store.now) v.0 offset len ≤ result }
+{
+    let (first, end) = touched_pages(offset, len);
+    if end - first <= UNSEEN_PAGES {
+        return end - first;
+    }
+    cost_to_zero(store, pins, v, offset, len).held
+}
+
+/// Makes room for zeroing a range that was asked for. `HostMemory` only if a page that it touches is held.
+pub(crate) fn room_to_zero<P: Pages>(
     store: &mut P,
     pins: &PinTable,
     v: Koid,
