@@ -237,15 +237,7 @@ module _ (v : ℕ) (pinned : ℕ → Bool) (offset len : ℕ) (old : Content) wh
 
 -- ---- pages that become zero as wholes
 
--- a page that the range does not hold wholly does not
-pub is_cleared-cut : (pinned : ℕ → Bool) (offset len p : ℕ) → (PAGE * p < offset) ⊎ (offset + len < PAGE * (p + 1)) → is_cleared pinned offset len p ≡ false
-is_cleared-cut = grind (arith, nat_tests)
-
--- nor does a pinned one
-pub is_cleared-pinned : (pinned : ℕ → Bool) (offset len p : ℕ) → pinned p ≡ true → is_cleared pinned offset len p ≡ false
-is_cleared-pinned = grind (arith, cases_Bool)
-
--- any other does
+-- a page that the range holds wholly, and that is not pinned, does
 pub is_cleared-whole : (pinned : ℕ → Bool) (offset len p : ℕ) → offset ≤ PAGE * p → PAGE * (p + 1) ≤ offset + len → pinned p ≡ false
     → is_cleared pinned offset len p ≡ true
 is_cleared-whole = grind (arith, nat_tests)
