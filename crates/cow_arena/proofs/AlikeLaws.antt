@@ -13,7 +13,7 @@ use Rattle.cow_arena.specs.Walk.{Slots, Tree, Found, from_side, walk, frame_in, 
 use Rattle.cow_arena.specs.Forest.{IsForest}
 use Rattle.cow_arena.specs.Ways.{Climbs, Reaches, Arrives, SameElsewhere, SameFrames, Sight, sight_of, absent_node, own_row, past_window, on_upwards}
 use Rattle.cow_arena.proofs.WalkLaws.{up-each, begins, walk-absent, walk-row, walk-past, walk-climbs}
-use Rattle.cow_arena.proofs.ReachLaws.{reach-one, reach-more, reach-each, reach-hidden, reach-deeper, walk-from, hidden-apart, arrives-on}
+use Rattle.cow_arena.proofs.ReachLaws.{reach-one, reach-more, reach-each, reach-hidden, reach-deeper, hidden-apart, arrives-on}
 
 -- a value at another pair stays
 pub with_pair-other : {V : Type 0} (map : ℕ → ℕ → Option V) (a b : ℕ) (v : Option V) (k q : ℕ) → (k ≡ a → q ≡ b → ⊥) → with_pair map a b v k q ≡ map k q
@@ -95,11 +95,6 @@ module _ (t : Tree) (f : IsForest t.nodes t.lists) where
         page = c.page;
       }
 
-  -- and finds what is found there
-  pub walk-changed : (slots : Slots) (h q : ℕ) (node : Node) → t.nodes h ≡ Some node → SameElsewhere t.slots slots node.list.0 q →
-      (k p : ℕ) (side : Option Side) → Arrives t k p side h q → walk (record t { slots = slots }) k p ≡ from_side side (walk (record t { slots = slots }) h q)
-  walk-changed slots h q node at but k p side w = walk-from (record t { slots = slots }) f k p side h q (arrives-but slots h q node at but k p side w)
-
   -- a row of a visible node is nothing to another node, nor to another page
   pub walk-beside : (l q : ℕ) (leaf : Node) (slot : Option Slot) (k p : ℕ) → IsVisible t.nodes l leaf → (k ≡ l → p ≡ q → ⊥) →
       walk (record t { slots = with_pair t.slots leaf.list.0 q slot }) k p ≡ walk t k p
@@ -150,11 +145,6 @@ module _ (t : Tree) (slots : Slots) (alike : SameFrames t.slots slots) where
     parent = c.parent;
     page = c.page;
   }
-
-  pub reach-alike : (k p : ℕ) (side : Side) (h q : ℕ) → Reaches t k p side h q → Reaches (record t { slots = slots }) k p side h q
-  reach-alike k p side h q = reach-each t side h q (λ k p. Reaches (record t { slots = slots }) k p side h q)
-      (λ k p c is. reach-one (record t { slots = slots }) k p side h q (climbs-alike k p h q c) is)
-      (λ k p j r c _ ih. reach-more (record t { slots = slots }) k p j r side h q (climbs-alike k p j r c) ih) k p
 
   -- walks find the same but for what the row says of sides
   pub walk-alike : IsForest t.nodes t.lists → (k p : ℕ) → option_map sight_of (walk (record t { slots = slots }) k p) ≡ option_map sight_of (walk t k p)

@@ -11,7 +11,7 @@ use Rattle.cow_arena.specs.declared.node.NodeId.{NodeId}
 use Rattle.cow_arena.specs.declared.node.Node.{Node}
 use Rattle.cow_arena.specs.declared.node.Side.{Side}
 use Rattle.cow_arena.specs.declared.node.Side.TheVariants as side
-use Rattle.cow_arena.specs.Nodes.{Nodes, leads_to, link_to, child_on, other_side, side_of, node_above, side_in, sibling_in, AreFamily}
+use Rattle.cow_arena.specs.Nodes.{Nodes, leads_to, link_to, child_on, other_side, side_of, node_above, sibling_in, AreFamily}
 use Rattle.cow_arena.specs.Forest.{IsForest, IsForestBy, HasPair, IsChild}
 use Rattle.cow_arena.specs.Changes.{moved_link, relinked}
 
@@ -53,14 +53,6 @@ module _ (nodes : Nodes) (lists : ℕ) (f : IsForest nodes lists) (k : ℕ) (nod
 
   pub above_none : is_none (node_above nodes k) ≡ is_none node.parent
   above_none = above_none_by node.parent refl
-
-  side_none_by : (above : Option Node) → node_above nodes k ≡ above → is_none (side_in nodes k) ≡ is_none above
-  side_none_by None e = rw e refl
-  side_none_by (Some above) e = rw e refl
-
-  -- a node is a child on some side where it has a parent
-  pub side_none : is_none (side_in nodes k) ≡ is_none node.parent
-  side_none = side_none_by (node_above nodes k) refl ∙ above_none
 
   sibling_none_by : (parent : Option NodeId) → node.parent ≡ parent → is_none (sibling_in nodes k) ≡ is_none parent
   sibling_none_by None e = rw (node_above-root nodes k node at e) refl

@@ -184,14 +184,6 @@ module _ (t : Tree) (f : IsForest t.nodes t.lists) (k : ℕ) (leaf : Node) (visi
   unfolding pair-same-hidden
   pair-walk-hidden p free = step-free t after f g k h p pair-same-hidden free (λ x q step. pair-walk-other x q (other-above k p x q step))
 
-  pub pair-reach-hidden : (p : ℕ) (side : Side) (x q : ℕ) → Reaches t k p side x q → Reaches after h p side x q
-  pair-reach-hidden p side x q w = elim (reach-cases t k p side x q w) [
-    | inl one ↦ reach-one after h p side x q (climbs-moved t after k h pair-same-hidden p x q one.0) (pair-same-hidden.side ∙ one.1)
-    | inr on ↦
-        reach-more after h p on.0 on.1 side x q (climbs-moved t after k h pair-same-hidden p on.0 on.1 on.2)
-        (pair-reach-other on.0 on.1 side x q (other-above k p on.0 on.1 on.2) on.3)
-  ]
-
   pub pair-reach-hidden-back : (p : ℕ) (side : Side) (x q : ℕ) → Reaches after h p side x q → Reaches t k p side x q
   pair-reach-hidden-back p side x q w =
       let back = step-back t after k h pair-same-hidden in
@@ -246,10 +238,6 @@ module _ (t : Tree) (f : IsForest t.nodes t.lists) (k : ℕ) (leaf : Node) (visi
         with_row : (o : Option Slot) → t.slots leaf.list.0 q ≡ o → frame_shown after i p ≡ frame_shown t k q
         with_row None e = ap frame_found (pair-walk-free inside e)
         with_row (Some slot) e = ap frame_found (pair-walk-own slot inside e) ∙ sym (ap frame_found (walk-own t f k q leaf slot visible.at e))
-
-    -- it reaches what the leaf reached, and the hidden node
-    pub pair-reach : (side : Side) (x y : ℕ) → p < pages → Reaches t k q side x y → Reaches after i p side x y
-    pair-reach side x y inside w = reach-more after i p h q side x y (views-climbs v p q inside page) (pair-reach-hidden q side x y w)
 
     pub pair-reach-cases : (side : Side) (x y : ℕ) → Reaches after i p side x y → (p < pages) × (((x ≡ h) × (y ≡ q) × (side ≡ s)) ⊎ Reaches t k q side x y)
     pair-reach-cases side x y w = elim (reach-cases after i p side x y w) [

@@ -1,5 +1,5 @@
 -- Laws of the ways upwards in a forest: which child a step comes from, what a way ends at, and that it is the only one.
-use Rattle.std.proofs.Common.{◌≡◌, ◌≢◌, ℕ, zero, suc, ◌+◌, ◌<◌, ◌≤◌, ◌-◌, ◌==◌, Bool, false, Option, None, Some, ◌⊎◌, inl, inr, refl, sym, ap, ◌∙◌, subst, arith}
+use Rattle.std.proofs.Common.{◌≡◌, ◌≢◌, ℕ, zero, suc, ◌+◌, ◌<◌, ◌-◌, ◌==◌, Bool, false, Option, None, Some, ◌⊎◌, inl, inr, refl, sym, ap, ◌∙◌, subst, arith}
 use Rattle.std.specs.Prelude.{IsSome, is_some}
 use Rattle.std.specs.Option.{option_or}
 use Rattle.std.proofs.lemmas.Bool.{cases_eq}
@@ -119,17 +119,6 @@ module _ (t : Tree) (f : IsForest t.nodes t.lists) where
       let it = child-there t.nodes t.lists f h k above side above_at child in
       let same : it.node ≡ node = some_same (sym it.at ∙ at) in
       record { node = node; at = at; free = free; inside = inside; parent = ap (λ (n : Node). n.parent) (sym same) ∙ it.parent; page = refl }
-
-  pub reach-from-child : (h k p : ℕ) (above node : Node) (side : Side) → t.nodes h ≡ Some above → child_on above side ≡ link_to k → t.nodes k ≡ Some node →
-      t.slots node.list.0 p ≡ None → p < node.seen → Reaches t k p side h (node.first + p)
-  reach-from-child h k p above node side above_at child at free inside =
-      reach-one t k p side h (node.first + p) (climb-from-child h k p above node side above_at child at free inside)
-      (side-of-child t.nodes t.lists f h k above side above_at child)
-
-  pub climb-down : (h k q : ℕ) (above node : Node) (side : Side) → t.nodes h ≡ Some above → child_on above side ≡ link_to k → t.nodes k ≡ Some node →
-      node.first ≤ q → q < node.first + node.seen → t.slots node.list.0 (q - node.first) ≡ None → Climbs t k (q - node.first) h q
-  climb-down h k q above node side above_at child at from to free =
-      subst (Climbs t k (q - node.first) h) (omega arith) (climb-from-child h k (q - node.first) above node side above_at child at free (omega arith))
 
   -- ---- one way alone
 

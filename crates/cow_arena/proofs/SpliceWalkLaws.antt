@@ -1,6 +1,6 @@
 -- Walks after a node went: a leaf with its parent, whose other child takes the parent's place, or a root.
 use Rattle.std.proofs.Common.{◌≡◌, ◌≢◌, ℕ, ◌+◌, ◌-◌, min, ◌<◌, Option, None, Some, ◌⊎◌, inl, inr, refl, sym, ap, ◌∙◌, subst, arith}
-use Rattle.std.specs.Prelude.{IsSome, ◌↔◌}
+use Rattle.std.specs.Prelude.{IsSome}
 use Rattle.std.proofs.lemmas.Bool.{cases_eq}
 use Rattle.vm_base.specs.Entries.{without_key}
 use Rattle.vm_base.proofs.SearchLaws.{eqb_apart}
@@ -15,10 +15,10 @@ use Rattle.cow_arena.specs.Nodes.{Nodes, IsVisible, link_to, child_on, other_sid
 use Rattle.cow_arena.specs.Walk.{Tree, from_side, walk}
 use Rattle.cow_arena.specs.Forest.{IsForest, IsListed, HasListedRows}
 use Rattle.cow_arena.specs.Changes.{relinked, lifted, spliced}
-use Rattle.cow_arena.specs.Ways.{Climbs, Reaches, absent_node, own_row, past_window, on_upwards}
+use Rattle.cow_arena.specs.Ways.{Climbs, absent_node, own_row, past_window, on_upwards}
 use Rattle.cow_arena.proofs.WalkLaws.{link_same, climb_below, rank-each, begins, walk-row, walk-past, walk-climbs}
 use Rattle.cow_arena.proofs.ReachLaws.{side-is, side-of-parent, child-there, climb-side, from_side-twice, hidden-apart}
-use Rattle.cow_arena.proofs.MovedLaws.{SameStep, IsChangeOf, walk-stays, reach-stays, same-side, step-same}
+use Rattle.cow_arena.proofs.MovedLaws.{SameStep, IsChangeOf, walk-stays, same-side, step-same}
 use Rattle.cow_arena.proofs.RelinkLaws.{relinked-stays, relinked-here}
 
 -- ---- a family
@@ -257,10 +257,6 @@ module _ (t : Tree) (f : IsForest t.nodes t.lists) (k : ℕ) (leaf : Node) (visi
 
   pub walk-removed : (j p : ℕ) (node : Node) → t.nodes j ≡ Some node → j ≢ k → walk (record t { nodes = without_key t.nodes k }) j p ≡ walk t j p
   walk-removed = walk-stays t (without_key t.nodes k) t.lists k f g root_change
-
-  pub reach-removed : (j p : ℕ) (side : Side) (h q : ℕ) (node : Node) → t.nodes j ≡ Some node → j ≢ k →
-      Reaches t j p side h q ↔ Reaches (record t { nodes = without_key t.nodes k }) j p side h q
-  reach-removed = reach-stays t (without_key t.nodes k) t.lists k f g root_change
 
   pub removed-listed : ((p : ℕ) → t.slots leaf.list.0 p ≡ None) → HasListedRows t → HasListedRows (record t { nodes = without_key t.nodes k })
   removed-listed bare rows = record { listed = λ l p slot e. here l p slot e (rows.listed l p slot e) }

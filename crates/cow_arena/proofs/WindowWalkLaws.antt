@@ -1,20 +1,19 @@
 -- Walks after a leaf got another count or window, and where a root comes; and which lists have rows then.
 use Rattle.std.proofs.Common.{◌≡◌, ◌≢◌, ℕ, ◌<◌, ◌≤◌, None, Some, inl, inr, sym, ap, ◌∙◌, subst, arith}
-use Rattle.std.specs.Prelude.{IsSome, ◌↔◌}
+use Rattle.std.specs.Prelude.{IsSome}
 use Rattle.std.proofs.lemmas.Bool.{cases_eq}
 use Rattle.vm_base.specs.Entries.{with_key}
 use Rattle.vm_base.proofs.EntryLaws.{some_same, with_key-same, with_key-other}
 use Rattle.page_list.specs.declared.row.ListId.{ListId}
 use Rattle.cow_arena.specs.declared.node.Node.{Node}
-use Rattle.cow_arena.specs.declared.node.Side.{Side}
 use Rattle.cow_arena.specs.Nodes.{Nodes, IsVisible, side_in}
 use Rattle.cow_arena.specs.Walk.{Tree, tree_with, from_side, walk}
 use Rattle.cow_arena.specs.Forest.{IsForest, IsListed}
-use Rattle.cow_arena.specs.Ways.{Climbs, Reaches, absent_node, own_row, past_window, on_upwards}
+use Rattle.cow_arena.specs.Ways.{Climbs, absent_node, own_row, past_window, on_upwards}
 use Rattle.cow_arena.specs.Views.{KeepsListed}
 use Rattle.cow_arena.proofs.WalkLaws.{climb_below, begins, walk-row, walk-past, walk-climbs}
 use Rattle.cow_arena.proofs.ReachLaws.{hidden-of-child, hidden-apart}
-use Rattle.cow_arena.proofs.MovedLaws.{IsChangeOf, same-side, walk-stays, reach-stays}
+use Rattle.cow_arena.proofs.MovedLaws.{IsChangeOf, same-side, walk-stays}
 
 -- a leaf changes
 pub leaf-changed : (nodes : Nodes) (k : ℕ) (leaf new : Node) → IsVisible nodes k leaf → IsChangeOf nodes (with_key nodes k new) k
@@ -64,9 +63,6 @@ module _ (t : Tree) (f : IsForest t.nodes t.lists) (k : ℕ) (leaf new : Node) (
   -- the walks of other nodes stay
   pub walk-leaf-changed-other : (j p : ℕ) (node : Node) → t.nodes j ≡ Some node → j ≢ k → walk after j p ≡ walk t j p
   walk-leaf-changed-other = walk-stays t after.nodes t.lists k f g (leaf-changed t.nodes k leaf new visible)
-
-  pub reach-leaf-changed-other : (j p : ℕ) (side : Side) (h q : ℕ) (node : Node) → t.nodes j ≡ Some node → j ≢ k → Reaches t j p side h q ↔ Reaches after j p side h q
-  reach-leaf-changed-other = reach-stays t after.nodes t.lists k f g (leaf-changed t.nodes k leaf new visible)
 
   rows_same : (p : ℕ) → t.slots new.list.0 p ≡ t.slots leaf.list.0 p
   rows_same p = ap (λ (l : ListId). t.slots l.0 p) list

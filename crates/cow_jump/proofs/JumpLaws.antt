@@ -279,14 +279,6 @@ pub some-jump : (t : Tree) (table : JumpTable) (k : ℕ) (jump : Option Jump) �
 some-jump t table k None right one is = absurd (cc)
 some-jump t table k (Some has) right one is = subst (IsNewJump t table k) (some_same is) right.0
 
--- the koid rises
-pub later-jumps : (t : Tree) (next later : ℕ) (table : JumpTable) → next ≤ later → AreJumps t next table → AreJumps t later table
-later-jumps t next later table less are = record {
-  jumps = are.jumps;
-  made = λ k jump has. let made = are.made k jump has in omega arith;
-  serials = λ k. let was = are.serials k in omega arith;
-}
-
 -- a table with the same jumps and serial numbers
 pub same-jumps : (t : Tree) (next : ℕ) (old new : JumpTable) → ((k : ℕ) → jump_in new k ≡ jump_in old k) → ((k : ℕ) → serial_in new k ≡ serial_in old k) →
     AreJumps t next old → AreJumps t next new

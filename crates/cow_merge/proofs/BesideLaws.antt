@@ -30,8 +30,8 @@ use Rattle.cow_split.proofs.RowLaws.{left_out-in_sight}
 use Rattle.cow_split.proofs.PartLaws.{part-none}
 use Rattle.cow_merge.specs.declared.witness.Way.{Way}
 use Rattle.cow_merge.specs.inside.Lifting.{IsFamilyOf}
-use Rattle.cow_merge.specs.Ranges.{no_pages, CameTo, IsSpared, IsPassing, IsOnlyWay, HasPassedRow, HasLeftPageOut, IsExactFor, KeepsList, KeepsOthers, HasLost}
-use Rattle.cow_merge.specs.inside.Witness.{IsWayWithin, IsEntered, ComesBeside, IsBeside, SeesRowOf, HasLeftPage, IsPageCut}
+use Rattle.cow_merge.specs.Ranges.{no_pages, CameTo, IsSpared, IsPassing, IsOnlyWay, HasPassedRow, HasLeftPageOut, IsExactFor, KeepsList, KeepsOthers, HasLost, HasKept}
+use Rattle.cow_merge.specs.inside.Witness.{IsWayWithin, IsEntered, ComesBeside, IsBeside, SeesRowOf, IsPageCut}
 use Rattle.cow_arena.proofs.SpliceWalkLaws.{family-parent}
 use Rattle.cow_merge.proofs.LiftedLaws.{family-other}
 use Rattle.cow_merge.proofs.RangeLaws.{arrives-part, kept-same, bare-kept, bare-lost, bare-more, lost-kept}
@@ -174,9 +174,10 @@ module _ {arena : Arena} {mid : Rows Row} (new : Rows Row) {between : Pool} (aft
           ap (t.slots above.list.0) page ∙ (ap (λ (n : Node). t.slots n.list.0 sees.page) (sym node) ∙ sees.row.row) in
           absurd (let none = came.free came.below in cc)
 
-  beside-left : HasLeftPage arena mid new between after v own h → IsBeside arena new after v first spared h above base to s way (page + 1)
+  beside-left : HasKept mid new between after × ((tag : ℕ) → frame_shown (tree_of arena mid) v own ≡ Some tag → SeesRowOf (tree_of arena mid) v own h) →
+      IsBeside arena new after v first spared h above base to s way (page + 1)
   beside-left left =
-      let kept = left.kept in
+      let kept = left.0 in
       record {
         bare = bare-kept was.bare kept;
         parent = was.parent;
@@ -190,7 +191,7 @@ module _ {arena : Arena} {mid : Rows Row} (new : Rows Row) {between : Pool} (aft
               | inr it ↦ inr (subst
                   (λ r. ComesBeside (record (tree_of arena mid) { slots = r }) v q h above.list.0 base to was.place.e was.place.node was.place.from way (page + 1)) (sym kept.rows)
                   (elim (cases_eq q own) [
-                    | inl same ↦ absurd (not-seen q same it.came (left.shows tag (ap (frame_shown (tree_of arena mid) v) (sym same) ∙ showed)))
+                    | inl same ↦ absurd (not-seen q same it.came (left.1 tag (ap (frame_shown (tree_of arena mid) v) (sym same) ∙ showed)))
                     | inr apart ↦ record { came = it.came; beside = it.beside; free = still-free q tag apart it }
                   ]))
             ];
@@ -202,7 +203,7 @@ module _ {arena : Arena} {mid : Rows Row} (new : Rows Row) {between : Pool} (aft
   pub beside-lost : IsPageCut arena mid new between after v own h → HasLost arena mid new between after v first
   beside-lost cut = elim cut [
     | inl out ↦ bare-lost was.bare out (omega (arith, low))
-    | inr left ↦ lost-kept left.kept
+    | inr left ↦ lost-kept left.0
   ]
 
 -- no row is left on this node
@@ -245,7 +246,7 @@ module _ (arena : Arena) (old : Rows Row) (pool : Pool) (v p h : ℕ) (has : IsE
   -- no row is seen
   pub page-nothing : ((node : NodeId) (page : ℕ) (side : Side) (slot : Slot) → found ≡ holder.Above node page side slot → ⊥) →
       IsPageCut arena old old pool pool v p h
-  page-nothing none = inr (record { kept = kept-same; shows = λ tag shown. absurd (no-frame found is none tag shown) })
+  page-nothing none = inr (kept-same, λ tag shown. absurd (no-frame found is none tag shown))
 
   module _ (node : NodeId) (page : ℕ) (side : Side) (slot : Slot) (above_is : found ≡ holder.Above node page side slot) where
     pub page-way : Reaches (tree_of arena old) v p side node.0 page
@@ -265,16 +266,16 @@ module _ (arena : Arena) (old : Rows Row) (pool : Pool) (v p h : ℕ) (has : IsE
 
     -- the parent's row is seen
     pub page-parent : node.0 ≡ h → IsPageCut arena old old pool pool v p h
-    page-parent same = inr (record {
-      kept = kept-same;
-      shows = λ tag shown. record {
+    page-parent same = inr (
+      kept-same,
+      λ tag shown. record {
         side = side;
         page = page;
         slot = slot;
         way = subst (λ i. Reaches (tree_of arena old) v p side i page) same page-way;
         row = subst (λ i. HasRow (tree_of arena old) i page slot) same page-row;
-      };
-    })
+      },
+    )
 
     -- a row further up is
     pub page-other : (new : Rows Row) (after : Pool) → HasPassedRow arena old new pool after v p side node.0 page → IsPageCut arena old new pool after v p h

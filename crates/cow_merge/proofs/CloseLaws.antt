@@ -1,5 +1,5 @@
 -- A VMO's node goes, whose pages are all out of sight: alone, or with its parent, whose rows were lifted into the sibling.
-use Rattle.std.proofs.Common.{◌≡◌, ◌≢◌, ◌⊎◌, ℕ, ◌+◌, ◌<◌, ◌≤◌, Bool, Option, None, Some, inl, inr, IsSome, IsSomeAnd}
+use Rattle.std.proofs.Common.{◌≡◌, ◌≢◌, ◌⊎◌, ℕ, ◌+◌, ◌<◌, Bool, Option, None, Some, inl, inr, IsSome, IsSomeAnd}
 use Rattle.std.proofs.Common.{refl, sym, ap, subst, ◌∙◌, arith}
 use Rattle.std.specs.Prelude.{is_none, is_some}
 use Rattle.std.specs.Option.{option_map}

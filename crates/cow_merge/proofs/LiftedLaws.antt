@@ -40,8 +40,8 @@ use Rattle.cow_split.proofs.ExactLaws.{cases_place}
 use Rattle.cow_split.proofs.CutLaws.{exact-cut, cut-shows}
 use Rattle.frame_pool.specs.declared.frame_pool.Backlink.{Backlink}
 use Rattle.frame_pool.specs.Pool.{Pool, taken_frames, is_taken}
-use Rattle.cow_merge.specs.Ranges.{bit_on, leaving_range, ShowsSame, AreLinked, HasLeftOut, IsHeldBy, IsSparing, Accounts, HasLost, Moves, ShowsBut}
-use Rattle.cow_merge.specs.inside.Lifting.{IsAside, AreLifted, IsLifting, IsBefore, IsFamilyOf, SeesRow, IsMoved, TellsSeen, HasGone, HasLiftedRow, HasSettled, is_row_of_frame, HasLifted}
+use Rattle.cow_merge.specs.Ranges.{bit_on, leaving_range, ShowsSame, AreLinked, HasLeftOut, IsHeldBy, IsSparing, Accounts, HasLost, Moves, ShowsBut, HasGiven}
+use Rattle.cow_merge.specs.inside.Lifting.{IsAside, AreLifted, IsLifting, IsBefore, IsFamilyOf, SeesRow, IsMoved, TellsSeen, HasLiftedRow, HasSettled, is_row_of_frame, HasLifted}
 use Rattle.cow_merge.proofs.PassingLaws.{range-exact}
 use Rattle.cow_merge.proofs.SpliceLaws.{family-apart}
 use Rattle.cow_merge.proofs.LiftLaws.{page-over, lists-apart, leaf-step, hidden, not-below, dropped-shows, dropped-exact, moved-shows, moved-exact}
@@ -724,14 +724,14 @@ module _ (arena : Arena) (first mid new : Rows Row) (between after : Pool) (k h 
   abbrev beside_it : Node
   beside_it = of.sibling
 
-  module _ (gone : HasGone mid new between after row) where
+  module _ (gone : (new ≡ mid) × HasGiven between after (frame_in row)) where
     pub gone-slots : slots_of new ≡ with_pair (slots_of first) above.list.0 q None
-    gone-slots = ap (λ (r : Rows Row). slots_of r) gone.rows ∙ taken_out
+    gone-slots = ap (λ (r : Rows Row). slots_of r) gone.0 ∙ taken_out
 
     pub gone-linked : AreLinked first between → AreLinked new after
     gone-linked linked = record {
       linked = λ m r other tag e frame.
-          ap (λ (f : ℕ → Backlink). f tag) gone.given.links
+          ap (λ (f : ℕ → Backlink). f tag) gone.1.links
           ∙ linked.linked m r other tag (was-there (slots_of first) above.list.0 q m r other (sym (ap (λ (x : Slots). x m r) gone-slots) ∙ e)).1 frame;
     }
 
@@ -786,7 +786,7 @@ module _ (arena : Arena) (first mid new : Rows Row) (between after : Pool) (k h 
         | inl on ↦
             let moved = done.moves on in
             rows-beside (slots_of mid) (slots_of new) above.list.0 beside_it.list.0 (q - beside_it.first) p (Some moved.now) moved.slots apart
-        | inr off ↦ ap (λ (r : Rows Row). slots_of r above.list.0 p) ((done.gone off).rows)
+        | inr off ↦ ap (λ (r : Rows Row). slots_of r above.list.0 p) ((done.gone off).0)
       ]
 
 -- A row of the parent was taken out.
@@ -839,15 +839,15 @@ module _ (arena : Arena) (first mid new : Rows Row) (between after : Pool) (k h 
 
   -- ---- the row is gone
 
-  module _ (gone : HasGone mid new between after row) where
+  module _ (gone : (new ≡ mid) × HasGiven between after (frame_in row)) where
     gone-next : IsUnseen (slots_of first) parent k sibling q row → row_count mid + 1 ≡ row_count first → mid.spare ≡ first.spare + 1 →
         HasLifted arena first new between after k h s
     gone-next unseen count spare =
-        let spare_is = ap (λ (r : Rows Row). r.spare) gone.rows in
-        let count_is = ap (λ (r : Rows Row). row_count r) gone.rows in
+        let spare_is = ap (λ (r : Rows Row). r.spare) gone.0 in
+        let count_is = ap (λ (r : Rows Row). row_count r) gone.0 in
         next (with_pair (slots_of first) parent.list.0 q None) (gone-slots arena first mid new between after k h s was.of q row has taken_out gone)
-        (lifted-gone arena (slots_of first) between after k h s was.of q row was.lifted has unseen gone.given.taken) (record {
-          gives = gone.given.gives;
+        (lifted-gone arena (slots_of first) between after k h s was.of q row was.lifted has unseen gone.1.taken) (record {
+          gives = gone.1.gives;
           linked = gone-linked arena first mid new between after k h s was.of q row has taken_out gone;
           spare = omega arith;
           count = omega arith;

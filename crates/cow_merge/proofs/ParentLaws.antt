@@ -1,9 +1,8 @@
 -- Where a VMO's node goes, alone or with its parent, each node that is left keeps its parent or has that of its parent.
-use Rattle.std.proofs.Common.{◌≡◌, ◌≢◌, min, ℕ, ◌+◌, ◌-◌, ◌==◌, Bool, true, false, if◌then◌else◌, None, Some, inl, inr, refl, sym, ap, subst, ◌∙◌, arith}
+use Rattle.std.proofs.Common.{◌≡◌, ◌≢◌, min, ℕ, ◌+◌, ◌-◌, ◌==◌, Bool, true, false, if◌then◌else◌, Some, inl, inr, refl, sym, ap, subst, ◌∙◌, arith}
 use Rattle.std.proofs.lemmas.Bool.{cases_eq}
 use Rattle.vm_base.specs.Entries.{with_key, without_key}
 use Rattle.vm_base.proofs.EntryLaws.{some_same, without_key-some, with_key-same, with_key-other}
-use Rattle.cow_arena.specs.declared.node.NodeId.{NodeId}
 use Rattle.cow_arena.specs.declared.node.Node.{Node}
 use Rattle.cow_arena.specs.Nodes.{Nodes, AreFamily, link_to}
 use Rattle.cow_arena.specs.Forest.{IsForest}

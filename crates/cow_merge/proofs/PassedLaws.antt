@@ -26,7 +26,7 @@ use Rattle.cow_split.specs.Trees.{tree_of}
 use Rattle.cow_split.specs.Searching.{ComesTo}
 use Rattle.cow_split.specs.Sight.{IsPage, IsSeenFrom}
 use Rattle.cow_split.specs.Exact.{AreSplitBits, IsExact, leaving_out, without_frame}
-use Rattle.cow_split.specs.Cutting.{frame_left, HasCut, IsUnseenBy, HasStayed}
+use Rattle.cow_split.specs.Cutting.{frame_left, HasCut, IsUnseenBy}
 use Rattle.cow_split.proofs.ExactLaws.{cases_place}
 use Rattle.cow_split.proofs.RowLaws.{left_out-here, left_out-other}
 use Rattle.cow_split.proofs.PartLaws.{part-same}
@@ -81,8 +81,8 @@ module _ (arena : Arena) (old new : Rows Row) (v p : ℕ) (from : Side) (h q : �
     (row : HasRow (tree_of arena old) h q slot) (hidden : (above : Node) → nodes_of arena h ≡ Some above → above.koid ≡ None)
     (only : IsOnlyWay (tree_of arena old) v p from h q)
     (seen : Reaches (tree_of arena old) v p from h q → HasCut arena old new v p answer)
-    (unseen : IsUnseenBy (tree_of arena old) has.out v from h q → HasStayed old new answer) where
-  stayed : (Reaches (tree_of arena old) v p from h q → ⊥) → HasStayed old new answer
+    (unseen : IsUnseenBy (tree_of arena old) has.out v from h q → (slots_of new ≡ slots_of old) × (frame_left answer ≡ None)) where
+  stayed : (Reaches (tree_of arena old) v p from h q → ⊥) → (slots_of new ≡ slots_of old) × (frame_left answer ≡ None)
   stayed none = unseen (unseen-by (tree_of arena old) has.out v p from h q row.node row.at (hidden row.node row.at) only none)
 
   -- the frame that is to be given back is taken
@@ -92,8 +92,8 @@ module _ (arena : Arena) (old new : Rows Row) (v p : ℕ) (from : Side) (h q : �
     | inr none ↦ not_there (stayed (λ way. none (Some from) way))
   ]
     where
-      not_there : HasStayed old new answer → IsSome (taken_frames pool tag.0)
-      not_there stays = let left = ap frame_left is in let none = stays.no_frame in absurd (cc)
+      not_there : (slots_of new ≡ slots_of old) × (frame_left answer ≡ None) → IsSome (taken_frames pool tag.0)
+      not_there stays = let left = ap frame_left is in let none = stays.1 in absurd (cc)
 
       on_way : (side : Option Side) → Arrives (tree_of arena old) v p side h q → IsSome (taken_frames pool tag.0)
       on_way None way =
@@ -112,11 +112,11 @@ module _ (arena : Arena) (old new : Rows Row) (v p : ℕ) (from : Side) (h q : �
     came = λ way. cut-left_out arena old new v p has.node has.visible pool after answer has.exact.forest bare (seen way) given;
     stays = λ none.
         let stays = stayed none in
-        let same = subst (λ o. HasGiven pool after o) stays.no_frame given in
+        let same = subst (λ o. HasGiven pool after o) stays.1 given in
         record {
-          rows = stays.rows;
+          rows = stays.0;
           taken = λ t. same.taken t ∙ kept t;
-          accounts = accounts-part old new pool after None (subst (λ s. IsPartOf (slots_of old) s) (sym stays.rows) (part-same (slots_of old))) same spare count;
+          accounts = accounts-part old new pool after None (subst (λ s. IsPartOf (slots_of old) s) (sym stays.0) (part-same (slots_of old))) same spare count;
         };
   }
     where

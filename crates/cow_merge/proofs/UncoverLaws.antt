@@ -361,8 +361,8 @@ module _ {arena : Arena} {first : Rows Row} (new : Rows Row) {between : Pool} (a
   uncovered-next done = elim done [
     | inr it ↦ uncovered-row it
     | inl nothing ↦
-        subst (λ (r : Rows Row). IsUncovering arena r after k h (p + 1)) (sym nothing.rows)
-        (subst (λ (x : Pool). IsUncovering arena first x k h (p + 1)) (sym nothing.pool)
+        subst (λ (r : Rows Row). IsUncovering arena r after k h (p + 1)) (sym nothing.1)
+        (subst (λ (x : Pool). IsUncovering arena first x k h (p + 1)) (sym nothing.2)
         (uncovered-more (p + 1) leaf leaf_at was (λ r past below held.
         elim (cases_eq r p) [
           | inl same ↦
@@ -370,7 +370,7 @@ module _ {arena : Arena} {first : Rows Row} (new : Rows Row) {between : Pool} (a
               let some : IsSome (slots_of first parent.list.0 q) =
               subst (λ x. IsSome (slots_of first parent.list.0 (leaf.first + x))) same
               (subst (λ (n : Node). IsSome (slots_of first n.list.0 (leaf.first + r))) above held.row) in
-              absurd (let none = ap is_some nothing.none in cc)
+              absurd (let none = ap is_some nothing.0 in cc)
           | inr apart ↦ (next.least p refl).2 r past (omega arith)
         ])))
   ]
@@ -379,8 +379,8 @@ module _ {arena : Arena} {first : Rows Row} (new : Rows Row) {between : Pool} (a
   uncovered-lost done = elim done [
     | inr it ↦ row-lost it
     | inl nothing ↦
-        subst (λ (r : Rows Row). HasLost arena first r between after k 0) (sym nothing.rows)
-        (subst (λ (x : Pool). HasLost arena first first between x k 0) (sym nothing.pool) lost-same)
+        subst (λ (r : Rows Row). HasLost arena first r between after k 0) (sym nothing.1)
+        (subst (λ (x : Pool). HasLost arena first first between x k 0) (sym nothing.2) lost-same)
   ]
 
 -- ---- what the code asks on the way

@@ -11,6 +11,7 @@ ghost use Rattle.cow_merge.specs.Merging.{HasClosed, KeepsParents};
 
 use crate::handing::{goes_over, hand_over};
 use crate::lifting::lift_rows;
+use crate::places::Family;
 use crate::ranges::{leave_out, leave_out_above};
 use crate::uncovering::uncover;
 use cow_arena::{CowArena, NodeId};
@@ -88,14 +89,19 @@ fn close_with(
         arena.remove_root(leaf);
         return;
     };
+    let family = Family {
+        leaf,
+        hidden,
+        sibling,
+    };
     if goes_over(arena, lists, hidden, sibling) {
         uncover(arena, lists, frames, leaf, hidden);
-        leave_out_above(arena, lists, frames, jumps, leaf, hidden, sibling);
-        hand_over(arena, lists, frames, leaf, hidden, sibling);
+        leave_out_above(arena, lists, frames, jumps, family);
+        hand_over(arena, lists, frames, family);
         arena.splice_over(leaf);
     } else {
-        leave_out_above(arena, lists, frames, jumps, leaf, hidden, sibling);
-        lift_rows(arena, lists, frames, leaf, hidden, sibling, 0, None);
+        leave_out_above(arena, lists, frames, jumps, family);
+        lift_rows(arena, lists, frames, family, 0, None);
         arena.splice(leaf);
     }
 }

@@ -10,6 +10,7 @@ ghost use Rattle.cow_merge.specs.inside.Lifting.{IsLifting};
 ghost use Rattle.cow_merge.specs.inside.HandingOver.{frame_there, HasDroppedRow, HasRowPut, AreSeenFrom, IsHandingOver, HasHandedOver};
 
 use crate::lifting::{lift_rows, note_place};
+use crate::places::Family;
 use crate::ranges::give_back_frame;
 use crate::sharing::share_rows;
 use cow_arena::{CowArena, NodeId};
@@ -57,39 +58,30 @@ pub(crate) fn hand_over(
     arena: &CowArena,
     lists: &mut PageLists,
     frames: &mut FramePool,
-    leaf: NodeId,
-    hidden: NodeId,
-    child: NodeId,
+    family: Family,
 )
-    requires lifting { IsLifting arena.now lists.old frames.old leaf.0 hidden.0 child.0 }
-    requires sees { (node : Node) → nodes_of arena.now child.0 ≡ Some node → node.first ≡ 0 }
-    requires seen { (node parent : Node) → nodes_of arena.now leaf.0 ≡ Some node → nodes_of arena.now hidden.0 ≡ Some parent →
-        AreSeenFrom (slots_of lists.old) parent leaf.0 node.first (node.first + node.seen) }
-    ensures { HasHandedOver arena.now lists.old lists.new frames.old frames.new leaf.0 hidden.0 child.0 }
+    requires lifting { IsLifting arena.now lists.old frames.old family.leaf.0 family.hidden.0 family.sibling.0 }
+    requires sees { (node : Node) → nodes_of arena.now family.sibling.0 ≡ Some node → node.first ≡ 0 }
+    requires seen { (node parent : Node) → nodes_of arena.now family.leaf.0 ≡ Some node → nodes_of arena.now family.hidden.0 ≡ Some parent →
+        AreSeenFrom (slots_of lists.old) parent family.leaf.0 node.first (node.first + node.seen) }
+    ensures { HasHandedOver arena.now lists.old lists.new frames.old frames.new family.leaf.0 family.hidden.0 family.sibling.0 }
 {
-    let shared = share_rows(arena, lists, frames, leaf, hidden, child);
-    let node = arena.node(leaf);
+    let shared = share_rows(arena, lists, frames, family);
+    let node = arena.node(family.leaf);
     let from = node.first.max(shared.from);
     let to = node.first.saturating_add(node.seen).min(shared.to);
-    lift_rows(arena, lists, frames, leaf, hidden, child, 0, Some(from));
-    lift_rows(arena, lists, frames, leaf, hidden, child, to, None);
-    hand_rows(arena, lists, frames, leaf, hidden, child);
+    lift_rows(arena, lists, frames, family, 0, Some(from));
+    lift_rows(arena, lists, frames, family, to, None);
+    hand_rows(arena, lists, frames, family);
 }
 
 /// Puts each row of a node into the list of its parent, in place of the row there. The other child of the parent goes.
-fn hand_rows(
-    arena: &CowArena,
-    lists: &mut PageLists,
-    frames: &mut FramePool,
-    leaf: NodeId,
-    hidden: NodeId,
-    child: NodeId,
-)
-    requires { IsHandingOver arena.now lists.old lists.old frames.old frames.old leaf.0 hidden.0 child.0 0 }
-    ensures { HasHandedOver arena.now lists.old lists.new frames.old frames.new leaf.0 hidden.0 child.0 }
+fn hand_rows(arena: &CowArena, lists: &mut PageLists, frames: &mut FramePool, family: Family)
+    requires { IsHandingOver arena.now lists.old lists.old frames.old frames.old family.leaf.0 family.hidden.0 family.sibling.0 0 }
+    ensures { HasHandedOver arena.now lists.old lists.new frames.old frames.new family.leaf.0 family.hidden.0 family.sibling.0 }
 {
-    let to = arena.node(hidden).list;
-    let list = arena.node(child).list;
+    let to = arena.node(family.hidden).list;
+    let list = arena.node(family.sibling).list;
     let mut from = 0;
     while let Some((page, slot)) = lists.take_next(list, from) {
         put_row(lists, frames, to, page, slot);

@@ -10,6 +10,7 @@
 mod closing;
 mod handing;
 mod lifting;
+mod places;
 mod ranges;
 mod sharing;
 mod shrinking;

@@ -14,12 +14,21 @@ ghost use Rattle.frame_pool.specs.Pool.{taken_frames, links_of};
 ghost use Rattle.cow_merge.specs.Ranges.{bit_on};
 ghost use Rattle.cow_merge.specs.inside.Lifting.{IsLifting, HasLifted, IsBefore, HasSettled, SeesRow, IsMoved, is_row_of_frame};
 
+use crate::places::Family;
 use crate::ranges::give_back_frame;
 use cow_arena::{CowArena, Node, NodeId, Side};
 use cow_split::reached_from;
 use frame_pool::{Backlink, FramePool};
 use page_list::{ListId, PageLists, Slot};
 use vm_base::PageNo;
+
+/// A hidden node, and a child of it, which is `node`.
+#[derive(Clone, Copy)]
+struct Branch {
+    above: Node,
+    child: NodeId,
+    node: Node,
+}
 
 /// Empties the list of a hidden node from page `from` on, to below page `to` if there is one. Rows that are seen
 /// through the child move into the child's list, and the frames of the other rows are given back. The hidden node's
@@ -30,24 +39,26 @@ pub(crate) fn lift_rows(
     arena: &CowArena,
     lists: &mut PageLists,
     frames: &mut FramePool,
-    leaf: NodeId,
-    hidden: NodeId,
-    child: NodeId,
+    family: Family,
     from: PageNo,
     to: Option<PageNo>,
 )
-    requires { IsLifting arena.now lists.old frames.old leaf.0 hidden.0 child.0 }
-    ensures lifted { HasLifted arena.now lists.old lists.new frames.old frames.new leaf.0 hidden.0 child.0 }
-    ensures empty { (parent : Node) → nodes_of arena.now hidden.0 ≡ Some parent →
+    requires { IsLifting arena.now lists.old frames.old family.leaf.0 family.hidden.0 family.sibling.0 }
+    ensures lifted { HasLifted arena.now lists.old lists.new frames.old frames.new family.leaf.0 family.hidden.0 family.sibling.0 }
+    ensures empty { (parent : Node) → nodes_of arena.now family.hidden.0 ≡ Some parent →
         (p : ℕ) → from ≤ p → IsBefore to p → slots_of lists.new parent.list.0 p ≡ None }
-    ensures others { (parent : Node) → nodes_of arena.now hidden.0 ≡ Some parent →
+    ensures others { (parent : Node) → nodes_of arena.now family.hidden.0 ≡ Some parent →
         (p : ℕ) (row : Slot) → slots_of lists.new parent.list.0 p ≡ Some row → slots_of lists.old parent.list.0 p ≡ Some row }
 {
-    let above = arena.node(hidden);
-    let node = arena.node(child);
+    let above = arena.node(family.hidden);
+    let branch = Branch {
+        above,
+        child: family.sibling,
+        node: arena.node(family.sibling),
+    };
     let mut at = from;
     while let Some((page, slot)) = take_below(lists, above.list, at, to) {
-        settle(arena, lists, frames, above, child, node, page, slot);
+        settle(arena, lists, frames, branch, page, slot);
         at = page;
     }
 }
@@ -87,33 +98,32 @@ fn is_past(page: PageNo, to: Option<PageNo>) -> bool
     }
 }
 
-/// Moves a row that was taken out of the list of a hidden node into the list of its child `node`, if it is seen through
-/// this child. Otherwise the frame of the row is given back, if it has one.
+/// Moves a row that was taken out of the list of a hidden node into the list of its child, if it is seen through this
+/// child. Otherwise the frame of the row is given back, if it has one.
 fn settle(
     arena: &CowArena,
     lists: &mut PageLists,
     frames: &mut FramePool,
-    above: Node,
-    child: NodeId,
-    node: Node,
+    branch: Branch,
     page: PageNo,
     slot: Slot,
 )
     requires forest { IsForest (nodes_of arena.now) arena.now.lists }
-    requires child { nodes_of arena.now child.0 ≡ Some node }
+    requires child { nodes_of arena.now branch.child.0 ≡ Some branch.node }
     requires room { 1 ≤ lists.old.spare }
     requires taken { (tag : ℕ) → frame_in slot ≡ Some tag → IsSome (taken_frames frames.old tag) }
     requires seen { (tag : Tag) (left right : Bool) → slot ≡ Slot.Frame tag left right →
-        bit_on (side_of above child.0) left right ≡ false → SeesRow (slots_of lists.old) node page }
-    ensures { HasSettled arena.now lists.old lists.new frames.old frames.new above child.0 node page slot }
+        bit_on (side_of branch.above branch.child.0) left right ≡ false → SeesRow (slots_of lists.old) branch.node page }
+    ensures { HasSettled arena.now lists.old lists.new frames.old frames.new branch.above branch.child.0 branch.node page slot }
 {
-    let side = above.side_of(child);
+    let node = branch.node;
+    let side = branch.above.side_of(branch.child);
     if !is_seen_through(lists, side, node, page, slot) {
         give_back_frame(frames, slot);
         return;
     }
     let to = page - node.first;
-    let moved = slot_in(arena, lists, child, node, to, slot);
+    let moved = slot_in(arena, lists, branch.child, node, to, slot);
     lists.insert(node.list, to, moved);
     note_place(frames, moved, node.list, to);
 }

@@ -19,10 +19,11 @@ ghost use Rattle.cow_jump.specs.Jumps.{MayJump};
 ghost use Rattle.cow_merge.specs.inside.Lifting.{IsFamilyOf};
 ghost use Rattle.cow_merge.specs.Ranges.{IsOutside, no_pages, IsNextOutside, bare_of, is_split, HasGiven, HasLost, IsLeftBare, IsPassing, IsOnItsWayUp, IsSparing, IsOnlyWay, HasPassedRow, KeepsList, KeepsOthers, HasLeftOut, IsExactFor};
 
+use crate::places::{Arrival, Family, Span};
 use crate::witness::leave_out_beside;
-use cow_arena::{CowArena, Node, NodeId, Side};
+use cow_arena::{CowArena, NodeId, Side};
 use cow_jump::JumpTable;
-use cow_split::{Cut, cut_row};
+use cow_split::{Cut, RowAbove, cut_row};
 use frame_pool::FramePool;
 use page_list::{ListId, PageLists, Slot};
 use vm_base::PageNo;
@@ -66,13 +67,21 @@ pub(crate) fn leave_out(
     let side = above.side_of(leaf);
     let shift = node.first;
     let to = shift + node.seen;
+    let arrival = Arrival {
+        leaf,
+        at: hidden,
+        node: above,
+        side,
+    };
+    let span = Span { first, shift, to };
     let skip = Pages { from: 0, to: 0 };
-    cut_rows(
-        arena, lists, frames, leaf, first, skip, hidden, above, side, shift, to,
-    );
-    leave_out_further(
-        arena, lists, frames, jumps, leaf, first, hidden, sibling, shift, to,
-    );
+    cut_rows(arena, lists, frames, arrival, span, skip);
+    let family = Family {
+        leaf,
+        hidden,
+        sibling,
+    };
+    leave_out_further(arena, lists, frames, jumps, family, span);
 }
 
 /// Does what `leave_out` does with all pages of a VMO's node, but leaves those alone that the parent holds. The
@@ -82,96 +91,91 @@ pub(crate) fn leave_out_above(
     lists: &mut PageLists,
     frames: &mut FramePool,
     jumps: Option<&JumpTable>,
-    leaf: NodeId,
-    hidden: NodeId,
-    sibling: NodeId,
+    family: Family,
 )
     requires exact { IsExact (tree_of arena.now lists.old) all_in_sight (is_taken frames.old) }
-    requires leaf { IsSomeAnd (nodes_of arena.now leaf.0) (λ node. IsSome node.koid × (node.parent ≡ Some hidden)) }
-    requires family { IsFamilyOf arena.now leaf.0 hidden.0 sibling.0 }
+    requires leaf { IsSomeAnd (nodes_of arena.now family.leaf.0) (λ node. IsSome node.koid × (node.parent ≡ Some family.hidden)) }
+    requires family { IsFamilyOf arena.now family.leaf.0 family.hidden.0 family.sibling.0 }
     requires jumps { MayJump (tree_of arena.now lists.old) (option_copied jumps) }
-    ensures sparing { IsSparing arena.now lists.new frames.new leaf.0 0 (Some hidden) }
-    ensures lost { HasLost arena.now lists.old lists.new frames.old frames.new leaf.0 0 }
-    ensures kept { (above : Node) → nodes_of arena.now hidden.0 ≡ Some above → KeepsList lists.old lists.new above.list.0 }
+    ensures sparing { IsSparing arena.now lists.new frames.new family.leaf.0 0 (Some family.hidden) }
+    ensures lost { HasLost arena.now lists.old lists.new frames.old frames.new family.leaf.0 0 }
+    ensures kept { (above : Node) → nodes_of arena.now family.hidden.0 ≡ Some above → KeepsList lists.old lists.new above.list.0 }
 {
-    drop_rows(arena, lists, frames, leaf, 0);
-    let node = arena.node(leaf);
-    let above = arena.node(hidden);
+    drop_rows(arena, lists, frames, family.leaf, 0);
+    let node = arena.node(family.leaf);
+    let above = arena.node(family.hidden);
     prove!(above.count <= u64::MAX);
     let to = node.first + node.seen;
-    leave_out_further(
-        arena, lists, frames, jumps, leaf, 0, hidden, sibling, node.first, to,
-    );
+    let span = Span {
+        first: 0,
+        shift: node.first,
+        to,
+    };
+    leave_out_further(arena, lists, frames, jumps, family, span);
 }
 
-/// Leaves the pages of a VMO's node from `first` on out of sight of the rows above its parent `hidden`. Page `q` of the
-/// VMO's node comes to page `q + shift` of the parent, which is below `to`. If the parent is spared, the pages that it
-/// holds are left alone. No other page comes to a row of the parent, so the parent's rows stay as they are.
+/// Leaves pages of a VMO's node out of sight of the rows above its parent. They come to the parent as the span says. If
+/// the parent is spared, the pages that it holds are left alone. No other page comes to a row of the parent, so the
+/// parent's rows stay as they are.
 fn leave_out_further(
     arena: &CowArena,
     lists: &mut PageLists,
     frames: &mut FramePool,
     jumps: Option<&JumpTable>,
-    leaf: NodeId,
-    first: PageNo,
-    hidden: NodeId,
-    sibling: NodeId,
-    shift: PageNo,
-    to: PageNo,
+    family: Family,
+    span: Span,
 )
-    requires passing { (above : Node) → nodes_of arena.now hidden.0 ≡ Some above →
-        IsOnItsWayUp arena.now lists.old frames.old leaf.0 first no_pages above shift to to }
-    requires family { IsFamilyOf arena.now leaf.0 hidden.0 sibling.0 }
-    requires base { (node : Node) → nodes_of arena.now leaf.0 ≡ Some node → shift ≡ node.first }
-    requires end { (node : Node) → nodes_of arena.now leaf.0 ≡ Some node → to ≤ shift + node.seen }
-    requires range { first + shift < 2 ^ 64 }
+    requires passing { (above : Node) → nodes_of arena.now family.hidden.0 ≡ Some above →
+        IsOnItsWayUp arena.now lists.old frames.old family.leaf.0 span.first no_pages above span.shift span.to span.to }
+    requires family { IsFamilyOf arena.now family.leaf.0 family.hidden.0 family.sibling.0 }
+    requires base { (node : Node) → nodes_of arena.now family.leaf.0 ≡ Some node → span.shift ≡ node.first }
+    requires end { (node : Node) → nodes_of arena.now family.leaf.0 ≡ Some node → span.to ≤ span.shift + node.seen }
+    requires range { span.first + span.shift < 2 ^ 64 }
     requires jumps { MayJump (tree_of arena.now lists.old) (option_copied jumps) }
-    ensures sparing { (spared : Option NodeId) (above : Node) → nodes_of arena.now hidden.0 ≡ Some above →
-        IsPassing arena.now lists.old frames.old leaf.0 first no_pages spared above shift to to →
-        IsSparing arena.now lists.new frames.new leaf.0 first spared }
-    ensures lost { HasLost arena.now lists.old lists.new frames.old frames.new leaf.0 first }
-    ensures kept { (above : Node) → nodes_of arena.now hidden.0 ≡ Some above → KeepsList lists.old lists.new above.list.0 }
+    ensures sparing { (spared : Option NodeId) (above : Node) → nodes_of arena.now family.hidden.0 ≡ Some above →
+        IsPassing arena.now lists.old frames.old family.leaf.0 span.first no_pages spared above span.shift span.to span.to →
+        IsSparing arena.now lists.new frames.new family.leaf.0 span.first spared }
+    ensures lost { HasLost arena.now lists.old lists.new frames.old frames.new family.leaf.0 span.first }
+    ensures kept { (above : Node) → nodes_of arena.now family.hidden.0 ≡ Some above → KeepsList lists.old lists.new above.list.0 }
 {
-    let skip = leave_out_beside(
-        arena, lists, frames, jumps, leaf, first, hidden, sibling, shift, to,
-    );
-    let above = arena.node(hidden);
-    cut_upwards(
-        arena, lists, frames, leaf, first, skip, hidden, above, shift, to,
-    );
+    let skip = leave_out_beside(arena, lists, frames, jumps, family, span);
+    let above = arena.node(family.hidden);
+    let arrival = Arrival {
+        leaf: family.leaf,
+        at: family.hidden,
+        node: above,
+        side: above.side_of(family.leaf),
+    };
+    cut_upwards(arena, lists, frames, arrival, span, skip);
 }
 
-/// Cuts the pages of a VMO's node from `first` on off from the frames that they see in rows above the node `start`,
-/// which is `node`. Page `q` of the VMO's node comes to page `q + shift` of `start`, which is below `to`. The pages
-/// that a spared parent holds are left alone. No other page comes to a row of `start`, so the rows of `start` stay as
-/// they are. The pages `skip` are passed over: they show nothing but what the spared parent holds.
+/// Cuts pages of a VMO's node off from the frames that they see in rows above a node. They come to this node as the
+/// span says. The pages that a spared parent holds are left alone. No other page comes to a row of the node, so its
+/// rows stay as they are. The pages `skip` are passed over: they show nothing but what the spared parent holds.
 fn cut_upwards(
     arena: &CowArena,
     lists: &mut PageLists,
     frames: &mut FramePool,
-    leaf: NodeId,
-    first: PageNo,
+    start: Arrival,
+    span: Span,
     skip: Pages,
-    start: NodeId,
-    node: Node,
-    shift: PageNo,
-    to: PageNo,
 )
-    requires passing { IsOnItsWayUp arena.now lists.old frames.old leaf.0 first skip node shift to to }
-    requires start { nodes_of arena.now start.0 ≡ Some node }
-    requires way { first + shift < to → ComesTo (bare_of arena.now) leaf.0 first start.0 (first + shift) }
-    requires range { first + shift < 2 ^ 64 }
+    requires passing { IsOnItsWayUp arena.now lists.old frames.old start.leaf.0 span.first skip start.node span.shift span.to span.to }
+    requires start { nodes_of arena.now start.at.0 ≡ Some start.node }
+    requires way { span.first + span.shift < span.to → ComesTo (bare_of arena.now) start.leaf.0 span.first start.at.0 (span.first + span.shift) }
+    requires range { span.first + span.shift < 2 ^ 64 }
     ensures sparing { (spared : Option NodeId) →
-        IsPassing arena.now lists.old frames.old leaf.0 first skip spared node shift to to →
-        IsSparing arena.now lists.new frames.new leaf.0 first spared }
-    ensures lost { HasLost arena.now lists.old lists.new frames.old frames.new leaf.0 first }
-    ensures kept { KeepsList lists.old lists.new node.list.0 }
+        IsPassing arena.now lists.old frames.old start.leaf.0 span.first skip spared start.node span.shift span.to span.to →
+        IsSparing arena.now lists.new frames.new start.leaf.0 span.first spared }
+    ensures lost { HasLost arena.now lists.old lists.new frames.old frames.new start.leaf.0 span.first }
+    ensures kept { KeepsList lists.old lists.new start.node.list.0 }
 {
-    let mut at = start;
-    let mut node = node;
-    let mut from = first + shift;
-    let mut to = to;
-    let mut shift = shift;
+    let first = span.first;
+    let mut at = start.at;
+    let mut node = start.node;
+    let mut from = first + span.shift;
+    let mut to = span.to;
+    let mut shift = span.shift;
     loop {
         let Some(parent) = node.parent else {
             return;
@@ -191,8 +195,19 @@ fn cut_upwards(
         to = end + node.first;
         at = parent;
         node = above;
+        let arrival = Arrival {
+            leaf: start.leaf,
+            at,
+            node,
+            side,
+        };
         cut_rows(
-            arena, lists, frames, leaf, first, skip, parent, above, side, shift, to,
+            arena,
+            lists,
+            frames,
+            arrival,
+            Span { first, shift, to },
+            skip,
         );
     }
 }
@@ -236,48 +251,40 @@ pub(crate) fn give_back_frame(frames: &mut FramePool, slot: Slot)
     }
 }
 
-/// Cuts the pages of a VMO's node from `first` on off from the frames that they see in the rows of `above`, a node
-/// above it, below page `to` of `above`. Page `q` of the VMO's node comes to page `q + shift` of `above`, from this
-/// side. It comes to no row before, unless a spared parent holds it. The pages `skip` are passed over.
+/// Cuts pages of a VMO's node off from the frames that they see in the rows of a node above it. They come to this node
+/// as the span says, from this side. Each comes to no row before, unless a spared parent holds it. The pages `skip` are
+/// passed over.
 fn cut_rows(
     arena: &CowArena,
     lists: &mut PageLists,
     frames: &mut FramePool,
-    leaf: NodeId,
-    first: PageNo,
+    arrival: Arrival,
+    span: Span,
     skip: Pages,
-    node: NodeId,
-    above: Node,
-    side: Side,
-    shift: PageNo,
-    to: PageNo,
 )
-    requires passing { IsOnItsWayUp arena.now lists.old frames.old leaf.0 first skip above shift to (first + shift) }
-    requires node { nodes_of arena.now node.0 ≡ Some above }
-    requires way { Reaches (bare_of arena.now) leaf.0 first side node.0 (first + shift) }
-    requires range { first + shift < to }
+    requires passing { IsOnItsWayUp arena.now lists.old frames.old arrival.leaf.0 span.first skip arrival.node span.shift span.to (span.first + span.shift) }
+    requires node { nodes_of arena.now arrival.at.0 ≡ Some arrival.node }
+    requires way { Reaches (bare_of arena.now) arrival.leaf.0 span.first arrival.side arrival.at.0 (span.first + span.shift) }
+    requires range { span.first + span.shift < span.to }
     ensures passing { (spared : Option NodeId) →
-        IsPassing arena.now lists.old frames.old leaf.0 first skip spared above shift to (first + shift) →
-        IsPassing arena.now lists.new frames.new leaf.0 first skip spared above shift to to }
-    ensures lost { HasLost arena.now lists.old lists.new frames.old frames.new leaf.0 first }
-    ensures others { KeepsOthers lists.old lists.new above.list.0 }
+        IsPassing arena.now lists.old frames.old arrival.leaf.0 span.first skip spared arrival.node span.shift span.to (span.first + span.shift) →
+        IsPassing arena.now lists.new frames.new arrival.leaf.0 span.first skip spared arrival.node span.shift span.to span.to }
+    ensures lost { HasLost arena.now lists.old lists.new frames.old frames.new arrival.leaf.0 span.first }
+    ensures others { KeepsOthers lists.old lists.new arrival.node.list.0 }
 {
-    let mut from = first + shift;
-    while let Some(row) = next_outside(lists, above.list, from, to, shift, skip) {
-        let Some(slot) = lists.find(above.list, row) else {
+    let list = arrival.node.list;
+    let mut from = span.first + span.shift;
+    while let Some(row) = next_outside(lists, list, from, span.to, span.shift, skip) {
+        let Some(slot) = lists.find(list, row) else {
             unreachable!()
         };
-        cut_off(
-            arena,
-            lists,
-            frames,
-            leaf,
-            row - shift,
-            node,
-            row,
-            side,
+        let above = RowAbove {
+            node: arrival.at,
+            page: row,
+            side: arrival.side,
             slot,
-        );
+        };
+        cut_off(arena, lists, frames, arrival.leaf, row - span.shift, above);
         from = row + 1;
     }
 }
@@ -342,23 +349,20 @@ pub(crate) fn cut_off(
     frames: &mut FramePool,
     leaf: NodeId,
     own: PageNo,
-    node: NodeId,
-    page: PageNo,
-    side: Side,
-    slot: Slot,
+    row: RowAbove,
 )
     requires exact { IsExactFor arena.now lists.old frames.old leaf.0 }
     requires bare { (at : Node) → nodes_of arena.now leaf.0 ≡ Some at → slots_of lists.old at.list.0 own ≡ None }
-    requires row { HasRow (tree_of arena.now lists.old) node.0 page slot }
-    requires hidden { (above : Node) → nodes_of arena.now node.0 ≡ Some above → above.koid ≡ None }
-    requires only { IsOnlyWay (tree_of arena.now lists.old) leaf.0 own side node.0 page }
-    ensures passed { HasPassedRow arena.now lists.old lists.new frames.old frames.new leaf.0 own side node.0 page }
-    ensures others { (above : Node) → nodes_of arena.now node.0 ≡ Some above → KeepsOthers lists.old lists.new above.list.0 }
+    requires row { HasRow (tree_of arena.now lists.old) row.node.0 row.page row.slot }
+    requires hidden { (above : Node) → nodes_of arena.now row.node.0 ≡ Some above → above.koid ≡ None }
+    requires only { IsOnlyWay (tree_of arena.now lists.old) leaf.0 own row.side row.node.0 row.page }
+    ensures passed { HasPassedRow arena.now lists.old lists.new frames.old frames.new leaf.0 own row.side row.node.0 row.page }
+    ensures others { (above : Node) → nodes_of arena.now row.node.0 ≡ Some above → KeepsOthers lists.old lists.new above.list.0 }
 {
-    if is_split(side, slot) {
+    if is_split(row.side, row.slot) {
         return;
     }
-    let answer = cut_row(arena, lists, leaf, own, node, page, side, slot);
+    let answer = cut_row(arena, lists, leaf, own, row);
     give_back_last(frames, answer);
 }
 

@@ -12,6 +12,7 @@ ghost use Rattle.cow_merge.specs.inside.Lifting.{IsLifting, HasLifted};
 ghost use Rattle.cow_merge.specs.inside.Sharing.{AreReached, AreShared, IsDown};
 
 use crate::lifting::lift_rows;
+use crate::places::Family;
 use crate::ranges::{Pages, next_below};
 use crate::witness::{MOST_NODES, Way, enter, pages_of, wider};
 use cow_arena::{CowArena, NodeId};
@@ -26,18 +27,16 @@ pub(crate) fn share_rows(
     arena: &CowArena,
     lists: &mut PageLists,
     frames: &mut FramePool,
-    leaf: NodeId,
-    hidden: NodeId,
-    child: NodeId,
+    family: Family,
 ) -> Pages
-    requires lifting { IsLifting arena.now lists.old frames.old leaf.0 hidden.0 child.0 }
-    ensures lifted { HasLifted arena.now lists.old lists.new frames.old frames.new leaf.0 hidden.0 child.0 }
-    ensures others { (parent : Node) → nodes_of arena.now hidden.0 ≡ Some parent →
+    requires lifting { IsLifting arena.now lists.old frames.old family.leaf.0 family.hidden.0 family.sibling.0 }
+    ensures lifted { HasLifted arena.now lists.old lists.new frames.old frames.new family.leaf.0 family.hidden.0 family.sibling.0 }
+    ensures others { (parent : Node) → nodes_of arena.now family.hidden.0 ≡ Some parent →
         (p : ℕ) (row : Slot) → slots_of lists.new parent.list.0 p ≡ Some row → slots_of lists.old parent.list.0 p ≡ Some row }
-    ensures shared { (parent node : Node) → nodes_of arena.now hidden.0 ≡ Some parent → nodes_of arena.now child.0 ≡ Some node →
-        AreShared (tree_of arena.now lists.new) parent.list.0 child.0 node result }
+    ensures shared { (parent node : Node) → nodes_of arena.now family.hidden.0 ≡ Some parent → nodes_of arena.now family.sibling.0 ≡ Some node →
+        AreShared (tree_of arena.now lists.new) parent.list.0 family.sibling.0 node result }
 {
-    let node = arena.node(child);
+    let node = arena.node(family.sibling);
     if node.koid.is_some() {
         return Pages {
             from: 0,
@@ -50,8 +49,8 @@ pub(crate) fn share_rows(
     let Some(right) = node.right else {
         unreachable!()
     };
-    let one = share_side(arena, lists, frames, leaf, hidden, child, left, node.seen);
-    let other = share_side(arena, lists, frames, leaf, hidden, child, right, node.seen);
+    let one = share_side(arena, lists, frames, family, left, node.seen);
+    let other = share_side(arena, lists, frames, family, right, node.seen);
     Pages {
         from: one.from.max(other.from),
         to: one.to.min(other.to),
@@ -65,26 +64,24 @@ fn share_side(
     arena: &CowArena,
     lists: &mut PageLists,
     frames: &mut FramePool,
-    leaf: NodeId,
-    hidden: NodeId,
-    child: NodeId,
+    family: Family,
     below: NodeId,
     seen: PageNo,
 ) -> Pages
-    requires lifting { IsLifting arena.now lists.old frames.old leaf.0 hidden.0 child.0 }
-    requires below { IsChild (nodes_of arena.now) child.0 below.0 }
-    ensures lifted { HasLifted arena.now lists.old lists.new frames.old frames.new leaf.0 hidden.0 child.0 }
-    ensures others { (parent : Node) → nodes_of arena.now hidden.0 ≡ Some parent →
+    requires lifting { IsLifting arena.now lists.old frames.old family.leaf.0 family.hidden.0 family.sibling.0 }
+    requires below { IsChild (nodes_of arena.now) family.sibling.0 below.0 }
+    ensures lifted { HasLifted arena.now lists.old lists.new frames.old frames.new family.leaf.0 family.hidden.0 family.sibling.0 }
+    ensures others { (parent : Node) → nodes_of arena.now family.hidden.0 ≡ Some parent →
         (p : ℕ) (row : Slot) → slots_of lists.new parent.list.0 p ≡ Some row → slots_of lists.old parent.list.0 p ≡ Some row }
-    ensures reached { (parent : Node) (side : Side) → nodes_of arena.now hidden.0 ≡ Some parent →
+    ensures reached { (parent : Node) (side : Side) → nodes_of arena.now family.hidden.0 ≡ Some parent →
         side_in (nodes_of arena.now) below.0 ≡ Some side →
-        AreReached (tree_of arena.now lists.new) parent.list.0 side child.0 seen result }
+        AreReached (tree_of arena.now lists.new) parent.list.0 side family.sibling.0 seen result }
 {
     let mut way = enter(arena, below, 0, 0, seen);
     let mut left = MOST_NODES;
     while left > 0 && way.from < way.to {
         let node = arena.node(way.at);
-        settle_under(arena, lists, frames, leaf, hidden, child, way, node.list);
+        settle_under(arena, lists, frames, family, way, node.list);
         if node.koid.is_some() {
             return pages_of(way, 0);
         }
@@ -101,26 +98,24 @@ fn settle_under(
     arena: &CowArena,
     lists: &mut PageLists,
     frames: &mut FramePool,
-    leaf: NodeId,
-    hidden: NodeId,
-    child: NodeId,
+    family: Family,
     way: Way,
     list: ListId,
 )
-    requires lifting { IsLifting arena.now lists.old frames.old leaf.0 hidden.0 child.0 }
+    requires lifting { IsLifting arena.now lists.old frames.old family.leaf.0 family.hidden.0 family.sibling.0 }
     requires list { (node : Node) → nodes_of arena.now way.at.0 ≡ Some node → list ≡ node.list }
     requires fits { (p : ℕ) → way.from ≤ p → p < way.to → p + way.shift + 1 < 2 ^ 64 }
-    ensures lifted { HasLifted arena.now lists.old lists.new frames.old frames.new leaf.0 hidden.0 child.0 }
-    ensures others { (parent : Node) → nodes_of arena.now hidden.0 ≡ Some parent →
+    ensures lifted { HasLifted arena.now lists.old lists.new frames.old frames.new family.leaf.0 family.hidden.0 family.sibling.0 }
+    ensures others { (parent : Node) → nodes_of arena.now family.hidden.0 ≡ Some parent →
         (p : ℕ) (row : Slot) → slots_of lists.new parent.list.0 p ≡ Some row → slots_of lists.old parent.list.0 p ≡ Some row }
-    ensures down { (parent : Node) (side : Side) (seen : ℕ) → nodes_of arena.now hidden.0 ≡ Some parent →
-        IsDown (tree_of arena.now lists.old) parent.list.0 child.0 seen side way way.from →
-        IsDown (tree_of arena.now lists.new) parent.list.0 child.0 seen side way way.to }
+    ensures down { (parent : Node) (side : Side) (seen : ℕ) → nodes_of arena.now family.hidden.0 ≡ Some parent →
+        IsDown (tree_of arena.now lists.old) parent.list.0 family.sibling.0 seen side way way.from →
+        IsDown (tree_of arena.now lists.new) parent.list.0 family.sibling.0 seen side way way.to }
 {
     let mut from = way.from;
     while let Some(page) = next_below(lists, list, from, way.to) {
         let at = page + way.shift;
-        lift_rows(arena, lists, frames, leaf, hidden, child, at, Some(at + 1));
+        lift_rows(arena, lists, frames, family, at, Some(at + 1));
         from = page + 1;
     }
 }

@@ -13,12 +13,13 @@ ghost use Rattle.cow_merge.specs.inside.Lifting.{IsFamilyOf};
 ghost use Rattle.cow_merge.specs.Ranges.{no_pages, HasLost, IsPassing, IsOnItsWayUp, IsExactFor, KeepsList};
 ghost use Rattle.cow_merge.specs.inside.Witness.{IsGoingDown, IsBeside, IsEntered, IsPageCut};
 
+use crate::places::{Family, Span, Window};
 use crate::ranges::{Pages, cut_off, next_below};
 use cow_arena::{CowArena, NodeId};
 use cow_jump::{JumpTable, above_with};
-use cow_split::Holder;
+use cow_split::{Holder, RowAbove};
 use frame_pool::FramePool;
-use page_list::{ListId, PageLists};
+use page_list::PageLists;
 use vm_base::PageNo;
 
 /// The most nodes that are tried on the way down from the sibling. A longer way is given up: the pages are then cut off
@@ -36,8 +37,8 @@ pub(crate) struct Way {
 }
 
 /// Leaves pages of a VMO's node out of sight that another VMO shows too, and answers these pages. Afterwards they show
-/// nothing but what the parent holds. Page `q` of the VMO's node, from `first` on, comes to page `q + shift` of the
-/// parent, below `to`. It comes to no row of the parent, unless the parent is spared.
+/// nothing but what the parent holds. They come to the parent as the span says, and to no row of the parent, unless
+/// the parent is spared.
 ///
 /// The call goes down from the sibling to a VMO's node, the witness. At each node it takes the child with the widest
 /// window over the pages that go on above the parent. A page of the witness that comes to a page of the parent sees
@@ -48,35 +49,34 @@ pub(crate) fn leave_out_beside(
     lists: &mut PageLists,
     frames: &mut FramePool,
     jumps: Option<&JumpTable>,
-    leaf: NodeId,
-    first: PageNo,
-    hidden: NodeId,
-    sibling: NodeId,
-    shift: PageNo,
-    to: PageNo,
+    family: Family,
+    span: Span,
 ) -> Pages
-    requires passing { (above : Node) → nodes_of arena.now hidden.0 ≡ Some above →
-        IsOnItsWayUp arena.now lists.old frames.old leaf.0 first no_pages above shift to to }
-    requires family { IsFamilyOf arena.now leaf.0 hidden.0 sibling.0 }
-    requires base { (node : Node) → nodes_of arena.now leaf.0 ≡ Some node → shift ≡ node.first }
-    requires range { first + shift < 2 ^ 64 }
+    requires passing { (above : Node) → nodes_of arena.now family.hidden.0 ≡ Some above →
+        IsOnItsWayUp arena.now lists.old frames.old family.leaf.0 span.first no_pages above span.shift span.to span.to }
+    requires family { IsFamilyOf arena.now family.leaf.0 family.hidden.0 family.sibling.0 }
+    requires base { (node : Node) → nodes_of arena.now family.leaf.0 ≡ Some node → span.shift ≡ node.first }
+    requires range { span.first + span.shift < 2 ^ 64 }
     requires jumps { MayJump (tree_of arena.now lists.old) (option_copied jumps) }
-    ensures passing { (spared : Option NodeId) (above : Node) → nodes_of arena.now hidden.0 ≡ Some above →
-        IsPassing arena.now lists.old frames.old leaf.0 first no_pages spared above shift to to →
-        IsPassing arena.now lists.new frames.new leaf.0 first result spared above shift to to }
-    ensures lost { HasLost arena.now lists.old lists.new frames.old frames.new leaf.0 first }
-    ensures kept { (above : Node) → nodes_of arena.now hidden.0 ≡ Some above → KeepsList lists.old lists.new above.list.0 }
+    ensures passing { (spared : Option NodeId) (above : Node) → nodes_of arena.now family.hidden.0 ≡ Some above →
+        IsPassing arena.now lists.old frames.old family.leaf.0 span.first no_pages spared above span.shift span.to span.to →
+        IsPassing arena.now lists.new frames.new family.leaf.0 span.first result spared above span.shift span.to span.to }
+    ensures lost { HasLost arena.now lists.old lists.new frames.old frames.new family.leaf.0 span.first }
+    ensures kept { (above : Node) → nodes_of arena.now family.hidden.0 ≡ Some above → KeepsList lists.old lists.new above.list.0 }
 {
-    let end = to.min(arena.node(hidden).seen);
-    let mut way = enter(arena, sibling, 0, first + shift, end);
+    let window = Window {
+        leaf: family.leaf,
+        hidden: family.hidden,
+        shift: span.shift,
+    };
+    let end = span.to.min(arena.node(family.hidden).seen);
+    let mut way = enter(arena, family.sibling, 0, span.first + span.shift, end);
     let mut left = MOST_NODES;
     while left > 0 && way.from < way.to {
         let node = arena.node(way.at);
-        cut_under(
-            arena, lists, frames, jumps, leaf, hidden, shift, way, node.list,
-        );
+        cut_under(arena, lists, frames, jumps, window, way);
         if node.koid.is_some() {
-            return pages_of(way, shift);
+            return pages_of(way, span.shift);
         }
         let child = wider(arena, lists, way);
         way = enter(arena, child, way.shift, way.from, way.to);
@@ -166,25 +166,22 @@ fn cut_under(
     lists: &mut PageLists,
     frames: &mut FramePool,
     jumps: Option<&JumpTable>,
-    leaf: NodeId,
-    hidden: NodeId,
-    shift: PageNo,
+    window: Window,
     way: Way,
-    list: ListId,
 )
-    requires down { IsGoingDown arena.now lists.old frames.old leaf.0 hidden.0 shift way }
-    requires list { (node : Node) → nodes_of arena.now way.at.0 ≡ Some node → list ≡ node.list }
+    requires down { IsGoingDown arena.now lists.old frames.old window.leaf.0 window.hidden.0 window.shift way }
     requires jumps { MayJump (tree_of arena.now lists.old) (option_copied jumps) }
     ensures beside { (first : ℕ) (spared : Option NodeId) (above : Node) (to : ℕ) (s : Side) →
-        IsBeside arena.now lists.old frames.old leaf.0 first spared hidden.0 above shift to s way way.from →
-        IsBeside arena.now lists.new frames.new leaf.0 first spared hidden.0 above shift to s way way.to
-        × HasLost arena.now lists.old lists.new frames.old frames.new leaf.0 first }
-    ensures kept { (above : Node) → nodes_of arena.now hidden.0 ≡ Some above → KeepsList lists.old lists.new above.list.0 }
+        IsBeside arena.now lists.old frames.old window.leaf.0 first spared window.hidden.0 above window.shift to s way way.from →
+        IsBeside arena.now lists.new frames.new window.leaf.0 first spared window.hidden.0 above window.shift to s way way.to
+        × HasLost arena.now lists.old lists.new frames.old frames.new window.leaf.0 first }
+    ensures kept { (above : Node) → nodes_of arena.now window.hidden.0 ≡ Some above → KeepsList lists.old lists.new above.list.0 }
 {
+    let list = arena.node(way.at).list;
     let mut from = way.from;
     while let Some(page) = next_below(lists, list, from, way.to) {
-        let own = page + way.shift - shift;
-        cut_page(arena, lists, frames, jumps, leaf, own, hidden);
+        let own = page + way.shift - window.shift;
+        cut_page(arena, lists, frames, jumps, window, own);
         from = page + 1;
     }
 }
@@ -196,17 +193,16 @@ fn cut_page(
     lists: &mut PageLists,
     frames: &mut FramePool,
     jumps: Option<&JumpTable>,
-    leaf: NodeId,
+    window: Window,
     own: PageNo,
-    hidden: NodeId,
 )
-    requires exact { IsExactFor arena.now lists.old frames.old leaf.0 }
-    requires bare { (node : Node) → nodes_of arena.now leaf.0 ≡ Some node → slots_of lists.old node.list.0 own ≡ None }
+    requires exact { IsExactFor arena.now lists.old frames.old window.leaf.0 }
+    requires bare { (node : Node) → nodes_of arena.now window.leaf.0 ≡ Some node → slots_of lists.old node.list.0 own ≡ None }
     requires jumps { MayJump (tree_of arena.now lists.old) (option_copied jumps) }
-    ensures cut { IsPageCut arena.now lists.old lists.new frames.old frames.new leaf.0 own hidden.0 }
-    ensures kept { (above : Node) → nodes_of arena.now hidden.0 ≡ Some above → KeepsList lists.old lists.new above.list.0 }
+    ensures cut { IsPageCut arena.now lists.old lists.new frames.old frames.new window.leaf.0 own window.hidden.0 }
+    ensures kept { (above : Node) → nodes_of arena.now window.hidden.0 ≡ Some above → KeepsList lists.old lists.new above.list.0 }
 {
-    let found = above_with(arena, lists, jumps, leaf, own);
+    let found = above_with(arena, lists, jumps, window.leaf, own);
     if let Holder::Above {
         node,
         page,
@@ -214,9 +210,15 @@ fn cut_page(
         slot,
     } = found
     {
-        if node.0 == hidden.0 {
+        if node.0 == window.hidden.0 {
             return;
         }
-        cut_off(arena, lists, frames, leaf, own, node, page, side, slot);
+        let row = RowAbove {
+            node,
+            page,
+            side,
+            slot,
+        };
+        cut_off(arena, lists, frames, window.leaf, own, row);
     }
 }

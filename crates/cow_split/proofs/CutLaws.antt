@@ -16,7 +16,7 @@ use Rattle.cow_arena.specs.declared.node.Side.{Side}
 use Rattle.cow_arena.specs.declared.node.Side.TheVariants as side
 use Rattle.cow_arena.specs.Nodes.{IsVisible, link_to, leads_to, other_side}
 use Rattle.cow_arena.specs.Walk.{Slots, Tree, Found, walk, frame_in, frame_found, frame_shown}
-use Rattle.cow_arena.specs.Forest.{IsForest, HasListedRows}
+use Rattle.cow_arena.specs.Forest.{IsForest}
 use Rattle.cow_arena.specs.Ways.{HasRow, Arrives, SameFrames}
 use Rattle.cow_arena.proofs.WalkLaws.{walk-past}
 use Rattle.cow_arena.proofs.ReachLaws.{reach-once, reach-hidden, walk-ends, walk-arrives}
@@ -505,17 +505,6 @@ own-by t forest v p slots answer (sees_shared side h q node tag left right it is
 own-by t forest v p slots answer (sees_alone side h q node tag left right it is) w r own visible =
     with_pair-other t.slots node.list.0 q _ own.list.0 r (λ list page. row-apart t forest w h own node visible it.at it.hidden list)
 
-listed-by : (t : Tree) → HasListedRows t → (v p : ℕ) (slots : Slots) (answer : Cut) → CutBy t v p slots answer →
-    HasListedRows (record t { slots = slots })
-listed-by t listed v p slots answer (sees_nothing none) = listed
-listed-by t listed v p slots answer (sees_shared side h q node tag left right it is) = listed
-listed-by t listed v p slots answer (sees_alone side h q node tag left right it is) = record {
-  listed = λ l r row e. elim (cases_place node.list.0 q l r) [
-    | inl here ↦ record { k = h; node = node; at = it.at; named = sym here.0 }
-    | inr differs ↦ listed.listed l r row (sym (with_pair-other t.slots node.list.0 q _ l r (λ list page. differs (list, page))) ∙ e)
-  ];
-}
-
 something : (side : Side) (tag : Tag) (left right : Bool) → answer_on side tag left right ≡ cut.NothingThere → ⊥
 something side.Left tag left true e = cc
 something side.Left tag left false e = cc
@@ -540,9 +529,6 @@ module _ (t : Tree) (forest : IsForest t.nodes t.lists) (v p : ℕ) (node : Node
   -- the rows of visible nodes stay, and rows stand in lists of nodes alone
   pub cut-own : (w r : ℕ) (own : Node) → IsVisible t.nodes w own → cut_slots t v p own.list.0 r ≡ t.slots own.list.0 r
   cut-own = own-by t forest v p _ _ (cut-by t forest v p node visible none)
-
-  pub cut-listed : HasListedRows t → HasListedRows (record t { slots = cut_slots t v p })
-  cut-listed listed = listed-by t listed v p _ _ (cut-by t forest v p node visible none)
 
 -- What it does in an exact tree, where pages of v alone are out of sight.
 module _ (t : Tree) (out : ℕ → ℕ → Bool) (in_use : ℕ → Bool) (exact : IsExact t out in_use) (v p : ℕ) (only : IsOnlyOf out v)

@@ -1,5 +1,5 @@
 -- Laws of the search for anyone: whom it leaves to the turn of the parent, and what is ahead of it.
-use Rattle.std.proofs.Common.{◌≡◌, ℕ, ◌<◌, ◌^◌, true, false, List, [], ◌∷◌, ◌++◌, Option, None, Some, refl, sym, ap, ◌∙◌, subst}
+use Rattle.std.proofs.Common.{◌≡◌, ℕ, ◌<◌, ◌^◌, true, List, [], ◌∷◌, ◌++◌, Option, None, Some, refl, sym, ap, ◌∙◌, subst}
 use Rattle.std.specs.Prelude.{IsSome, is_some}
 use Rattle.std.proofs.lemmas.List.{append-nil}
 use Rattle.vm_base.specs.declared.names.Koid.{Koid}
@@ -23,10 +23,6 @@ pub some-left : (a b : List ℕ) → has_some a ≡ true → has_some (a ++ b) �
 some-left [] b some = absurd (cc)
 some-left (k ∷ a) b some = refl
 
-pub some-right : (a b : List ℕ) → has_some b ≡ true → has_some (a ++ b) ≡ true
-some-right [] b some = some
-some-right (k ∷ a) b some = refl
-
 module _ (t : Tree) (except : Option NodeId) where
   -- a hidden child is left out nowhere, and a visible one always
   pub hidden-same : (k q : ℕ) (node : Node) → t.nodes k ≡ Some node → node.koid ≡ None →
@@ -39,26 +35,6 @@ module _ (t : Tree) (except : Option NodeId) where
       with_koid : (o : Option Koid) → node.koid ≡ o → IsSome o → hidden_at t except (link_to k) q ≡ []
       with_koid None e some = absurd (cc)
       with_koid (Some koid) e some = rw (at, e) refl
-
-  -- who is found below a hidden child is found
-  pub hidden-some : (k q : ℕ) → has_some (hidden_at t except (link_to k) q) ≡ true → has_some (viewers_at t except (link_to k) q) ≡ true
-  hidden-some k q some = with_node (t.nodes k) refl
-    where
-      with_koid : (node : Node) → t.nodes k ≡ Some node → (o : Option Koid) → node.koid ≡ o → has_some (viewers_at t except (link_to k) q) ≡ true
-      with_koid node at None e = ap has_some (hidden-same k q node at e) ∙ some
-      with_koid node at (Some koid) e =
-          let nobody = ap has_some (visible-none k q node at (subst IsSome (sym e) refl)) in absurd (cc)
-
-      with_node : (o : Option Node) → t.nodes k ≡ o → has_some (viewers_at t except (link_to k) q) ≡ true
-      with_node None e = let nobody : has_some (hidden_at t except (link_to k) q) ≡ false = rw e refl in absurd (cc)
-      with_node (Some node) e = with_koid node e node.koid refl
-
--- a visible node is not gone through
-pub visible-not_through : (t : Tree) (k q l p : ℕ) (node : Node) → t.nodes k ≡ Some node → IsSome node.koid → IsOnward t k q l p → ⊥
-visible-not_through t k q l p node at some on =
-    let same : on.node ≡ node = some_same (sym on.through.at ∙ at) in
-    let none : is_some node.koid ≡ false = ap is_some (ap (λ (n : Node). n.koid) (sym same) ∙ on.through.hidden) in
-    cc
 
 module _ (t : Tree) (f : IsForest t.nodes t.lists) (except : Option NodeId) where
   -- a node without a right child is visible

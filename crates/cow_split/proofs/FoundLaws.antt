@@ -13,13 +13,10 @@ use Rattle.cow_arena.specs.Nodes.{Nodes}
 use Rattle.cow_arena.specs.Walk.{Tree}
 use Rattle.cow_split.specs.declared.viewers.Cursor.{Cursor}
 use Rattle.cow_split.specs.Viewers.{HasKoid, HasLesser, IsBelowAll, IsLeastKoid, lesser_of}
-use Rattle.cow_split.specs.Searching.{Finds, FindsFirst, IsSearch, IsAmid, HasCounted, HasLeast, HasNoneLess}
+use Rattle.cow_split.specs.Searching.{Finds, FindsFirst, IsAmid, HasCounted, HasLeast, HasNoneLess}
 use Rattle.cow_split.proofs.SearchLaws.{contains-none}
 
 module _ (t : Tree) (except : Option NodeId) (all : List ℕ) where
-  amid-begins : (from : Option Cursor) → Finds t except from all → IsAmid t except all [] from
-  amid-begins from finds = record { ahead = all; finds = finds; all_is = refl }
-
   -- one more is found
   amid-next : (found : List ℕ) (from next : Option Cursor) (v : ℕ) → IsAmid t except all found from →
       ((ahead : List ℕ) → Finds t except from ahead → FindsFirst t except v next ahead) → IsAmid t except all (found ++ v ∷ []) next
@@ -38,12 +35,6 @@ module _ (t : Tree) (except : Option NodeId) (all : List ℕ) where
 
   -- ---- how many they are
 
-  pub count-begins : (from : Option Cursor) → Finds t except from all → HasCounted t except all 0 from
-  count-begins from finds = record { found = []; amid = amid-begins from finds; count_is = refl }
-
-  pub count-search : (count : ℕ) (from : Option Cursor) → HasCounted t except all count from → IsSearch t except from
-  count-search count from h = record { ahead = h.amid.ahead; finds = h.amid.finds }
-
   pub count-next : (count : ℕ) (from next : Option Cursor) (v : ℕ) → HasCounted t except all count from →
       ((ahead : List ℕ) → Finds t except from ahead → FindsFirst t except v next ahead) → HasCounted t except all (count + 1) next
   count-next count from next v h first = record {
@@ -56,17 +47,7 @@ module _ (t : Tree) (except : Option NodeId) (all : List ℕ) where
   count-most count from h =
       let parts = length-append h.found h.amid.ahead in let same = ap length h.amid.all_is in let count_is = h.count_is in omega arith
 
-  pub count-end : (count : ℕ) (from : Option Cursor) → HasCounted t except all count from →
-      ((ahead : List ℕ) → Finds t except from ahead → ahead ≡ []) → count ≡ length all
-  count-end count from h last = h.count_is ∙ sym (ap length (amid-end h.found from h.amid last))
-
   -- ---- the least koid
-
-  pub least-begins : (from : Option Cursor) → Finds t except from all → HasLeast t except all None from
-  least-begins from finds = record { found = []; amid = amid-begins from finds; least_is = refl }
-
-  pub least-search : (least : Option Koid) (from : Option Cursor) → HasLeast t except all least from → IsSearch t except from
-  least-search least from h = record { ahead = h.amid.ahead; finds = h.amid.finds }
 
   pub least-has : (least : Option Koid) (from next : Option Cursor) (v : ℕ) → HasLeast t except all least from →
       ((ahead : List ℕ) → Finds t except from ahead → FindsFirst t except v next ahead) → Contains all v
@@ -123,18 +104,7 @@ module _ (t : Tree) (except : Option NodeId) (all : List ℕ) where
       with_koid None e s = absurd (cc)
       with_koid (Some koid) e s = least-more t.nodes h.found v koid (record { node = node; at = at; koid_is = e }) least h.least_is
 
-  pub least-end : (least : Option Koid) (from : Option Cursor) → HasLeast t except all least from →
-      ((ahead : List ℕ) → Finds t except from ahead → ahead ≡ []) → MatchOption least (all ≡ []) (λ koid. IsLeastKoid t.nodes all koid)
-  least-end least from h last = subst (λ list. MatchOption least (list ≡ []) (λ koid. IsLeastKoid t.nodes list koid))
-      (sym (amid-end t except all h.found from h.amid last)) h.least_is
-
   -- ---- a koid that is less than another
-
-  pub none_less-begins : (koid : Koid) (from : Option Cursor) → Finds t except from all → HasNoneLess t except all koid from
-  none_less-begins koid from finds = record { found = []; amid = amid-begins t except all from finds; none = λ w other inside has. absurd (contains-none w inside) }
-
-  pub none_less-search : (koid : Koid) (from : Option Cursor) → HasNoneLess t except all koid from → IsSearch t except from
-  none_less-search koid from h = record { ahead = h.amid.ahead; finds = h.amid.finds }
 
   pub none_less-has : (koid : Koid) (from next : Option Cursor) (v : ℕ) → HasNoneLess t except all koid from →
       ((ahead : List ℕ) → Finds t except from ahead → FindsFirst t except v next ahead) → Contains all v

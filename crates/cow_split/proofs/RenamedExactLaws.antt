@@ -4,13 +4,9 @@ use Rattle.page_list.specs.declared.row.Slot.TheVariants as slot
 use Rattle.cow_arena.specs.declared.node.Node.{Node}
 use Rattle.cow_arena.specs.declared.node.Side.{Side}
 use Rattle.cow_arena.specs.declared.node.Side.TheVariants as side
-use Rattle.cow_arena.specs.Nodes.{Nodes, AreFamily}
-use Rattle.cow_arena.specs.Walk.{Slots, Tree, tree_with}
-use Rattle.cow_arena.specs.Forest.{IsForestBy}
-use Rattle.cow_arena.specs.Changes.{spliced, spliced_over}
-use Rattle.cow_arena.specs.Renamed.{exchanged, renamed_node, renamed, IsExchange, AreExchanged}
+use Rattle.cow_arena.specs.Walk.{Tree}
+use Rattle.cow_arena.specs.Renamed.{renamed_node, renamed, IsExchange}
 use Rattle.cow_arena.proofs.RenamedLaws.{renamed-at, renamed-was, renamed-each, forest-renamed_by, row-renamed, walk-renamed}
-use Rattle.cow_arena.proofs.RenamedOverLaws.{over-exchange, tree-over}
 use Rattle.cow_split.specs.Sight.{IsPage, IsSeenFrom}
 use Rattle.cow_split.specs.Exact.{AreSplitBits, IsExact}
 use Rattle.cow_split.proofs.ExactLaws.{denies-alike}
@@ -97,14 +93,3 @@ module _ (name : ℕ → ℕ) (t : Tree) (exchange : IsExchange name t.lists) (o
         (exact.bits h q node tag left right at hidden (sym (row-renamed name exchange.twice t exact.forest node q) ∙ has)))
         h node;
   }
-
--- A leaf goes with its parent: where the tree is exact in which the sibling keeps its list, it is with the parent's list and the
--- rows of the two lists exchanged.
-pub exact-over : (nodes : Nodes) (lists : ℕ) (rank : ℕ → ℕ) (f : IsForestBy nodes lists rank) (k h s : ℕ) (node parent sibling : Node) →
-    AreFamily nodes k h s node parent sibling → (slots over : Slots) → AreExchanged slots over parent.list.0 sibling.list.0 →
-    (out : ℕ → ℕ → Bool) (in_use : ℕ → Bool) → IsExact (tree_with (spliced nodes k h s parent sibling) lists slots) out in_use →
-    IsExact (tree_with (spliced_over nodes k h s parent sibling) lists over) out in_use
-exact-over nodes lists rank f k h s node parent sibling family slots over rows out in_use exact =
-    subst (λ (u : Tree). IsExact u out in_use) (sym (tree-over nodes lists rank f k h s node parent sibling family slots over rows))
-    (exact-renamed (exchanged parent.list.0 sibling.list.0) (tree_with (spliced nodes k h s parent sibling) lists slots)
-    (over-exchange nodes lists rank f k h s node parent sibling family) out in_use exact)

@@ -91,11 +91,6 @@ with_frame-none in_use = refl
 abbrev pub ShowsNothing : Tree → (v p : ℕ) → Type 0
 ShowsNothing t v p = IsPage t v p → frame_shown t v p ≡ None
 
--- exact where the same pages are out of sight, and the same frames in use
-pub exact-out_alike : (t : Tree) (out out_now : ℕ → ℕ → Bool) (in_use : ℕ → Bool) → ((v p : ℕ) → out v p ≡ out_now v p) →
-    IsExact t out in_use → IsExact t out_now in_use
-exact-out_alike t out out_now in_use same exact = subst (λ o. IsExact t o in_use) (λ i v p. same v p i) exact
-
 pub exact-in_use_alike : (t : Tree) (out : ℕ → ℕ → Bool) (in_use in_use_now : ℕ → Bool) → ((tag : ℕ) → in_use tag ≡ in_use_now tag) →
     IsExact t out in_use → IsExact t out in_use_now
 exact-in_use_alike t out in_use in_use_now same exact = subst (IsExact t out) (λ i tag. same tag i) exact
@@ -158,12 +153,6 @@ module _ (t : Tree) (out : ℕ → ℕ → Bool) (in_use : ℕ → Bool) (v p : 
       let here = ap (λ i. walk t i q) both.0 ∙ (ap (walk t v) both.1 ∙ walk-own t forest v p own own_row own_at has) in
       absurd (let none = ap (λ (it : Found). it.side) (some_same (sym sees.found ∙ here)) in cc)
 
-  pub exact-own_out : IsExact t out in_use → IsExact t (leaving_out out v p) in_use
-  exact-own_out exact = exact-out_by t out in_use v p (sees-own exact.forest) exact
-
-  pub exact-own_in : IsExact t (leaving_out out v p) in_use → IsExact t out in_use
-  exact-own_in exact = exact-in_by t out in_use v p (sees-own exact.forest) exact
-
 -- ---- own rows
 
 -- a row of a visible node says nothing of sides
@@ -220,9 +209,6 @@ module _ (t : Tree) (v p : ℕ) (node : Node) (visible : IsVisible t.nodes v nod
   -- and show what they showed, before and after
   pub own-shows : IsForest t.nodes t.lists → (row : Option Slot) → OthersShowSame t (with_row t node.list.0 p row) v p
   own-shows forest row w q page differs = ap frame_found (own-walks forest row w q differs)
-
-  pub own-showed : IsForest t.nodes t.lists → (row : Option Slot) → OthersShowSame (with_row t node.list.0 p row) t v p
-  own-showed forest row w q page differs = sym (ap frame_found (own-walks forest row w q differs))
 
   -- the page shows its own row
   pub own_comes-shows : IsForest t.nodes t.lists → (row : Slot) → frame_shown (with_row t node.list.0 p (Some row)) v p ≡ frame_in row

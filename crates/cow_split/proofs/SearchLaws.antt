@@ -19,9 +19,7 @@ use Rattle.cow_arena.specs.Walk.{Slots, Tree}
 use Rattle.cow_arena.specs.Forest.{IsForest}
 use Rattle.cow_arena.specs.Ways.{Climbs, Reaches}
 use Rattle.cow_arena.proofs.ReachLaws.{hidden-of-child, reach-one, reach-each, reach-on, child-there, climb-from-child, side-of-child, climb-side, found-of-reach, walk-ends}
-use Rattle.cow_arena.proofs.AlikeLaws.{with_pair-other}
 use Rattle.cow_split.specs.Trees.{with_row}
-use Rattle.balanced_tree.specs.Pairs.{with_pair}
 use Rattle.cow_split.specs.Search.{in_window, ends, meets, viewers_over, viewers_from, has_some, reached_from}
 use Rattle.cow_split.specs.Searching.{viewers_at, IsLeafOn}
 use Rattle.cow_split.specs.Sight.{IsPage, Sees}
@@ -420,17 +418,6 @@ pub reached-kept : (t : Tree) → IsForest t.nodes t.lists → (new : Slots) (ex
     reached_from (record t { slots = new }) except side h q ≡ reached_from t except side h q
 reached-kept t f new except side h q above at P first under same =
     ap has_some (viewers-kept t f new except side h q above at P first under same)
-
--- it does not look at the rows of the node itself
-pub reached-with_row : (t : Tree) → IsForest t.nodes t.lists → (except : Option NodeId) (side : Side) (h q : ℕ) (above : Node) (r : ℕ) (row : Option Slot) →
-    t.nodes h ≡ Some above →
-    reached_from (with_row t above.list.0 r row) except side h q ≡ reached_from t except side h q
-reached-with_row t f except side h q above r row at =
-    reached-kept t f (with_pair t.slots above.list.0 r row) except side h q above at (λ k. f.rank h < f.rank k)
-    (λ c child. deeper-child t.nodes t.slots t.lists f except h c above side at child)
-    (λ k c node s below k_at child. let deeper = deeper-child t.nodes t.slots t.lists f except k c node s k_at child in omega arith)
-    (λ k p node below k_at. with_pair-other t.slots above.list.0 r row node.list.0 p
-    (λ list _. let one = ap f.rank (f.by.own k h node above k_at at list) in absurd (omega arith)))
 
 -- ---- a leaf that is the child on a side
 

@@ -1,14 +1,12 @@
 -- Who is found by a search: the visible nodes that see a row from a side, each of them once.
-use Rattle.std.proofs.Common.{◌≡◌, ◌≢◌, ℕ, zero, suc, ◌+◌, ◌-◌, ◌<◌, ◌≤◌, Bool, true, false, List, [], ◌∷◌, ◌++◌, length, Option, None, Some, refl, sym, ◌∙◌, subst, arith}
+use Rattle.std.proofs.Common.{◌≡◌, ℕ, zero, suc, ◌+◌, ◌-◌, ◌<◌, ◌≤◌, Bool, true, false, List, [], ◌∷◌, ◌++◌, length, Option, None, Some, refl, sym, ◌∙◌, subst, arith}
 use Rattle.std.proofs.Math.Dec.{eqb}
 use Rattle.std.specs.Prelude.{◌↔◌, IsSome, if◌then◌else◌}
-use Rattle.std.specs.List.{All, AllPairs, Contains, IsDistinct}
+use Rattle.std.specs.List.{All, Contains, IsDistinct}
 use Rattle.std.proofs.lemmas.List.Elements.{All-append, All-weaker, All-contains_itself, All-from_recursion, recursion_from_All}
 use Rattle.std.proofs.lemmas.Map.Keys.{IsDistinct-cons, IsDistinct-head, IsDistinct-tail}
 use Rattle.std.proofs.lemmas.Bool.{ne_eqb, eqb-true}
-use Rattle.std.proofs.lemmas.Bool.Decides.{Decides-eqb}
 use Rattle.std.proofs.lemmas.Map.Views.{Contains-from_any}
-use Rattle.std.proofs.lemmas.Map.Made.{AllPairs-from_IsDistinct}
 use Rattle.std.proofs.lemmas.Map.Steps.{length-le_from_distinct_below}
 use Rattle.vm_base.specs.Entries.{passes}
 use Rattle.vm_base.specs.declared.names.Koid.{Koid}
@@ -143,10 +141,6 @@ module _ (t : Tree) (f : IsForest t.nodes t.lists) where
         with_node : (o : Option Node) → t.nodes h ≡ o → IsDistinct eqb (viewers_from t except side h q)
         with_node None e = rw e distinct-none
         with_node (Some node) e = rw e (with_child (child_on node side))
-
-    -- the same with std's other word
-    pub viewers-differ : (side : Side) (h q : ℕ) → AllPairs (λ v w. v ≢ w) (viewers_from t except side h q)
-    viewers-differ side h q = AllPairs-from_IsDistinct {eq = eqb} Decides-eqb (viewers_from t except side h q) (viewers-distinct side h q)
 
     -- there are not more of them than there are numbers for nodes
     pub viewers-few : (side : Side) (h q room : ℕ) → ((k : ℕ) → IsSome (t.nodes k) → k < room) →

@@ -90,8 +90,3 @@ pub record IsUnseenBy (t : Tree) (out : ℕ → ℕ → Bool) (v : ℕ) (from : 
   pub at : t.nodes h ≡ Some above
   pub hidden : above.koid ≡ None
   pub none : (p : ℕ) → out v p ≡ false → Reaches t v p from h q → ⊥
-
--- the rows are as before, and no frame is left to the one who asked
-pub record HasStayed (old new : Rows Row) (answer : Cut) : Type 0 where
-  pub rows : slots_of new ≡ slots_of old
-  pub no_frame : frame_left answer ≡ None

@@ -40,6 +40,15 @@ impl Holder {
     }
 }
 
+/// A row of a page of a hidden node, and the side of the node from which a page of a node below comes to it.
+#[derive(Clone, Copy)]
+pub struct RowAbove {
+    pub node: NodeId,
+    pub page: PageNo,
+    pub side: Side,
+    pub slot: Slot,
+}
+
 /// The viewers of the frame of a page, once the page is cut off from the row that it saw.
 #[derive(Clone, Copy, Debug, PartialEq, Eq)]
 pub enum Cut {

@@ -12,10 +12,10 @@ ghost use Rattle.cow_arena.specs.Ways.{HasRow, Reaches};
 ghost use Rattle.cow_split.specs.Trees.{tree_of, holder_of};
 ghost use Rattle.cow_split.specs.Sight.{IsLastViewer};
 ghost use Rattle.cow_split.specs.Exact.{IsExact, IsOnlyOf, leaving_out, without_frame};
-ghost use Rattle.cow_split.specs.Cutting.{split_on, answer_on, answer_from, HasCut, IsUnseenBy, HasStayed, frame_left, cut_answer, leaves_frame};
+ghost use Rattle.cow_split.specs.Cutting.{split_on, answer_on, answer_from, HasCut, IsUnseenBy, frame_left, cut_answer, leaves_frame};
 ghost use Rattle.cow_split.specs.declared.answers.Cut.TheVariants as cut;
 
-use crate::answers::{Cut, Holder};
+use crate::answers::{Cut, Holder, RowAbove};
 use crate::climbing::holder_above;
 use crate::others::reached_by_others;
 use cow_arena::{CowArena, NodeId, Side};
@@ -65,14 +65,22 @@ pub fn cut_holder(
             page: row,
             side,
             slot,
-        } => cut_row(arena, lists, leaf, page, node, row, side, slot),
+        } => {
+            let row = RowAbove {
+                node,
+                page: row,
+                side,
+                slot,
+            };
+            cut_row(arena, lists, leaf, page, row)
+        }
         Holder::Own(_) => Cut::NothingThere,
         Holder::Nothing => Cut::NothingThere,
     }
 }
 
-/// Does what `cut` does for page `own` of a node, if the page comes to this row of a hidden node from this side. The
-/// call looks into no list on the way to the row.
+/// Does what `cut` does for page `own` of a node, if the page comes to this row. The call looks into no list on the way
+/// to the row.
 ///
 /// If no page of the node that is in sight comes to the row, nothing changes in an exact tree: others see the row from
 /// that side, or its bit of the side is set. The rows of all other nodes stay as they are in any case.
@@ -81,50 +89,44 @@ pub fn cut_row(
     lists: &mut PageLists,
     leaf: NodeId,
     own: PageNo,
-    node: NodeId,
-    page: PageNo,
-    side: Side,
-    slot: Slot,
+    row: RowAbove,
 ) -> Cut
     requires forest { IsForest (nodes_of arena.now) arena.now.lists }
     requires leaf { IsSome (nodes_of arena.now leaf.0) }
-    requires row { HasRow (tree_of arena.now lists.old) node.0 page slot }
-    ensures seen { Reaches (tree_of arena.now lists.old) leaf.0 own side node.0 page →
+    requires row { HasRow (tree_of arena.now lists.old) row.node.0 row.page row.slot }
+    ensures seen { Reaches (tree_of arena.now lists.old) leaf.0 own row.side row.node.0 row.page →
         HasCut arena.now lists.old lists.new leaf.0 own result }
     ensures unseen { (out : ℕ → ℕ → Bool) (in_use : ℕ → Bool) → IsExact (tree_of arena.now lists.old) out in_use →
-        IsUnseenBy (tree_of arena.now lists.old) out leaf.0 side node.0 page → HasStayed lists.old lists.new result }
-    ensures others { (above : Node) → nodes_of arena.now node.0 ≡ Some above →
+        IsUnseenBy (tree_of arena.now lists.old) out leaf.0 row.side row.node.0 row.page →
+        (slots_of lists.new ≡ slots_of lists.old) × (frame_left result ≡ None) }
+    ensures others { (above : Node) → nodes_of arena.now row.node.0 ≡ Some above →
         (l : ℕ) → l ≢ above.list.0 → (q : ℕ) → slots_of lists.new l q ≡ slots_of lists.old l q }
+    ensures spare { lists.old.spare ≤ lists.new.spare }
+    ensures count { row_count lists.new ≤ row_count lists.old }
+{
+    let Slot::Frame { .. } = row.slot else {
+        return Cut::NothingThere;
+    };
+    if reached_by_others(arena, lists, leaf, own, row) {
+        return Cut::StillSeen;
+    }
+    let list = arena.node(row.node).list;
+    split(lists, list, row.page, row.side, row.slot)
+}
+
+/// Sets the bit of a side in the row of a frame that no VMO on that side sees any more. If the other bit is set,
+/// removes the row instead, and answers `LastViewer`.
+fn split(lists: &mut PageLists, list: ListId, page: PageNo, side: Side, slot: Slot) -> Cut
+    requires { slots_of lists.old list.0 page ≡ Some slot }
+    ensures slots { (tag : Tag) (left right : Bool) → slot ≡ Slot.Frame tag left right →
+        slots_of lists.new ≡ with_pair (slots_of lists.old) list.0 page (split_on side tag left right) }
+    ensures answer { (tag : Tag) (left right : Bool) → slot ≡ Slot.Frame tag left right → result ≡ answer_on side tag left right }
     ensures spare { lists.old.spare ≤ lists.new.spare }
     ensures count { row_count lists.new ≤ row_count lists.old }
 {
     let Slot::Frame { tag, left, right } = slot else {
         return Cut::NothingThere;
     };
-    if reached_by_others(arena, lists, leaf, own, side, node, page) {
-        return Cut::StillSeen;
-    }
-    let list = arena.node(node).list;
-    split(lists, list, page, side, tag, left, right)
-}
-
-/// Sets the bit of a side in the row of a frame that no VMO on that side sees any more. If the other bit is set,
-/// removes the row instead, and answers `LastViewer`.
-fn split(
-    lists: &mut PageLists,
-    list: ListId,
-    page: PageNo,
-    side: Side,
-    tag: Tag,
-    left: bool,
-    right: bool,
-) -> Cut
-    requires { slots_of lists.old list.0 page ≡ Some (Slot.Frame tag left right) }
-    ensures slots { slots_of lists.new ≡ with_pair (slots_of lists.old) list.0 page (split_on side tag left right) }
-    ensures answer { result ≡ answer_on side tag left right }
-    ensures spare { lists.old.spare ≤ lists.new.spare }
-    ensures count { row_count lists.new ≤ row_count lists.old }
-{
     match side {
         Side::Left if !right => {
             lists.replace(
@@ -176,37 +178,41 @@ pub fn is_last(
             page: row,
             side,
             slot,
-        } => is_last_from(arena, lists, leaf, page, node, row, side, slot),
+        } => {
+            let row = RowAbove {
+                node,
+                page: row,
+                side,
+                slot,
+            };
+            is_last_from(arena, lists, leaf, page, row)
+        }
         Holder::Own(_) => false,
         Holder::Nothing => false,
     }
 }
 
-/// Returns whether the leaf alone sees the frame of this row of a hidden node. Its page `own` comes to the row from
-/// this side.
+/// Returns whether the leaf alone sees the frame of this row. Its page `own` comes to the row.
 fn is_last_from(
     arena: &CowArena,
     lists: &PageLists,
     leaf: NodeId,
     own: PageNo,
-    node: NodeId,
-    page: PageNo,
-    side: Side,
-    slot: Slot,
+    row: RowAbove,
 ) -> bool
     requires forest { IsForest (nodes_of arena.now) arena.now.lists }
-    requires row { HasRow (tree_of arena.now lists.now) node.0 page slot }
-    requires way { Reaches (tree_of arena.now lists.now) leaf.0 own side node.0 page }
-    ensures { result ≡ leaves_frame (answer_from (tree_of arena.now lists.now) leaf.0 node.0 page slot (Some side)) }
+    requires row { HasRow (tree_of arena.now lists.now) row.node.0 row.page row.slot }
+    requires way { Reaches (tree_of arena.now lists.now) leaf.0 own row.side row.node.0 row.page }
+    ensures { result ≡ leaves_frame (answer_from (tree_of arena.now lists.now) leaf.0 row.node.0 row.page row.slot (Some row.side)) }
 {
-    let Slot::Frame { tag, left, right } = slot else {
+    let Slot::Frame { tag, left, right } = row.slot else {
         return false;
     };
     // The row's bits are read first, since the search may go over all nodes on this side.
-    if !is_gone(side, tag, left, right) {
+    if !is_gone(row.side, tag, left, right) {
         return false;
     }
-    !reached_by_others(arena, lists, leaf, own, side, node, page)
+    !reached_by_others(arena, lists, leaf, own, row)
 }
 
 /// Returns whether nobody sees a row with these bits, if nobody on this side does.

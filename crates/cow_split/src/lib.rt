@@ -15,7 +15,7 @@ mod others;
 mod search;
 mod viewers;
 
-pub use answers::{Cut, Holder};
+pub use answers::{Cut, Holder, RowAbove};
 pub use climbing::{holder, holder_above};
 pub use cutting::{cut, cut_holder, cut_row, is_last};
 pub use existing::reached_from;

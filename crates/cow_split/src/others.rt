@@ -9,36 +9,35 @@ ghost use Rattle.cow_split.specs.Search.{has_some, reached_from};
 ghost use Rattle.cow_split.specs.Searching.{viewers_at, IsLeafOn};
 ghost use Rattle.cow_split.specs.inside.Existing.{IsReachedByOthers};
 
+use crate::answers::RowAbove;
 use crate::existing::{is_viewer, look_below, reached_from};
 use crate::viewers::Met;
 use cow_arena::{CowArena, NodeId, Side};
 use page_list::PageLists;
 use vm_base::PageNo;
 
-/// Returns whether this page of a node is reached from this side other than from `leaf`, whose page `own` comes to it
-/// from there. If the leaf is itself the child on this side, nobody else is there. Otherwise the leaf's sibling is
-/// asked before the search: it comes to the node as the leaf does, and a young sibling has no rows of its own yet.
+/// Returns whether a row is reached from its side other than from `leaf`, whose page `own` comes to it from there. If
+/// the leaf is itself the child on this side, nobody else is there. Otherwise the leaf's sibling is asked before the
+/// search: it comes to the row's node as the leaf does, and a young sibling has no rows of its own yet.
 pub(crate) fn reached_by_others(
     arena: &CowArena,
     lists: &PageLists,
     leaf: NodeId,
     own: PageNo,
-    side: Side,
-    node: NodeId,
-    page: PageNo,
+    row: RowAbove,
 ) -> bool
     requires forest { IsForest (nodes_of arena.now) arena.now.lists }
     requires leaf { IsSome (nodes_of arena.now leaf.0) }
-    requires node { IsSome (nodes_of arena.now node.0) }
-    ensures { IsReachedByOthers (tree_of arena.now lists.now) leaf.0 own side node.0 page result }
+    requires node { IsSome (nodes_of arena.now row.node.0) }
+    ensures { IsReachedByOthers (tree_of arena.now lists.now) leaf.0 own row.side row.node.0 row.page result }
 {
-    if is_child_on(arena, leaf, side, node) {
+    if is_child_on(arena, leaf, row.side, row.node) {
         return false;
     }
-    if reached_beside(arena, lists, leaf, own, node) {
+    if reached_beside(arena, lists, leaf, own, row.node) {
         return true;
     }
-    reached_from(arena, lists, Some(leaf), side, node, page)
+    reached_from(arena, lists, Some(leaf), row.side, row.node, row.page)
 }
 
 /// Returns whether the child of a node on this side is `leaf`, and visible.

@@ -81,11 +81,6 @@ pub record TellsSeen (slots : Slots) (parent : Node) (s : ℕ) (node : Node) (q 
   pub frame : (tag : Tag) (left right : Bool) → row ≡ slot.Frame tag left right → seen ≡ not (bit_on (side_of parent s) left right)
   pub zero : row ≡ slot.Zero → IsTrue seen ↔ SeesRow slots node q
 
--- the row, which was taken out, is gone, and its frame is free
-pub record HasGone (old new : Rows Row) (before after : Pool) (row : Slot) : Type 0 where
-  pub rows : new ≡ old
-  pub given : HasGiven before after (frame_in row)
-
 -- the row, which was taken out, is in the list of node s, at the page of s that comes to page q
 pub record HasLiftedRow (arena : Arena) (old new : Rows Row) (before after : Pool) (s : ℕ) (node : Node) (q : ℕ) (row : Slot) : Type 0 where
   pub now : Slot
@@ -99,10 +94,10 @@ pub record HasLiftedRow (arena : Arena) (old new : Rows Row) (before after : Poo
   pub count : row_count new ≤ row_count old + 1
 
 -- The row of page q of a hidden node was taken out. If it is seen through the child s, it has moved into the list of s.
--- Otherwise it is gone.
+-- Otherwise it is gone, and its frame is free.
 pub record HasSettled (arena : Arena) (old new : Rows Row) (before after : Pool) (parent : Node) (s : ℕ) (node : Node) (q : ℕ)
     (row : Slot) : Type 0 where
   pub seen : Bool
   pub tells : TellsSeen (slots_of old) parent s node q row seen
-  pub gone : seen ≡ false → HasGone old new before after row
+  pub gone : seen ≡ false → (new ≡ old) × HasGiven before after (frame_in row)
   pub moves : seen ≡ true → HasLiftedRow arena old new before after s node q row

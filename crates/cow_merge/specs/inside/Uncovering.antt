@@ -1,5 +1,5 @@
 -- Own rows of a VMO's node that goes, over rows of its parent: they go, and the node sees the rows of the parent.
-use Rattle.std.specs.Prelude.{◌≡◌, ◌≢◌, ◌⊎◌, ℕ, ◌+◌, ◌<◌, ◌≤◌, false, None, Some}
+use Rattle.std.specs.Prelude.{◌≡◌, ◌⊎◌, ℕ, ◌+◌, ◌<◌, false, None, Some}
 use Rattle.balanced_tree.specs.Pairs.{with_pair}
 use Rattle.balanced_tree.specs.Rows.{Rows}
 use Rattle.page_list.specs.declared.row.Row.{Row}
@@ -30,15 +30,10 @@ pub record IsRowUncovered (old new : Rows Row) (before after : Pool) (l p above 
   pub spare : new.spare ≡ old.spare + 1
   pub count : row_count new + 1 ≡ row_count old
 
--- the list above had no row of page q, and nothing has changed
-pub record IsNotUnder (old new : Rows Row) (before after : Pool) (above q : ℕ) : Type 0 where
-  pub none : slots_of old above q ≡ None
-  pub rows : new ≡ old
-  pub pool : after ≡ before
-
--- page p of list l was uncovered, if it covered a row
+-- Page p of list l was uncovered, if it covered a row. If the list above had no row of page q, nothing has changed.
 abbrev pub IsUncovered : (old new : Rows Row) → (before after : Pool) → (l p above q : ℕ) → Type 0
-IsUncovered old new before after l p above q = IsNotUnder old new before after above q ⊎ IsRowUncovered old new before after l p above q
+IsUncovered old new before after l p above q =
+    (slots_of old above q ≡ None) × (new ≡ old) × (after ≡ before) ⊎ IsRowUncovered old new before after l p above q
 
 -- Own rows of the VMO's node k below page `from`, over rows of its parent h, went. No own row that is left there covers a row of h.
 pub record IsUncovering (arena : Arena) (rows : Rows Row) (pool : Pool) (k h from : ℕ) : Type 0 where

@@ -81,12 +81,8 @@ pub record SeesRowOf (t : Tree) (v p h : ℕ) : Type 0 where
   pub way : Reaches t v p side h page
   pub row : HasRow t h page slot
 
--- nothing has changed, and page p of v shows no frame but one of node h
-pub record HasLeftPage (arena : Arena) (old new : Rows Row) (before after : Pool) (v p h : ℕ) : Type 0 where
-  pub kept : HasKept old new before after
-  pub shows : (tag : ℕ) → frame_shown (tree_of arena old) v p ≡ Some tag → SeesRowOf (tree_of arena old) v p h
-
--- page p of v is left out of sight, or shows no frame but one of node h
+-- page p of v is left out of sight. Or nothing has changed, and the page shows no frame but one of node h
 abbrev pub IsPageCut : Arena → (old new : Rows Row) → (before after : Pool) → (v p h : ℕ) → Type 0
 IsPageCut arena old new before after v p h =
-    HasLeftPageOut arena old new before after v p ⊎ HasLeftPage arena old new before after v p h
+    HasLeftPageOut arena old new before after v p
+    ⊎ HasKept old new before after × ((tag : ℕ) → frame_shown (tree_of arena old) v p ≡ Some tag → SeesRowOf (tree_of arena old) v p h)

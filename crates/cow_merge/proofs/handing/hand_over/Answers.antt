@@ -15,7 +15,7 @@ pub hand_rows-requires : goal.hand_rows-requires
 hand_rows-requires c =
     let since = lifted-then c.lift_rows.ensures.lifted c.lift_rows-2.ensures.lifted in
     over-lifted c.args.arena.now c.args.lists.now c.share_rows-shared.new.lists c.lift_rows.new.lists c.lift_rows-2.new.lists
-    c.share_rows-shared.new.frames c.lift_rows-2.new.frames c.args.leaf.0 c.args.hidden.0 c.args.child.0
+    c.share_rows-shared.new.frames c.lift_rows-2.new.frames c.args.family.leaf.0 c.args.family.hidden.0 c.args.family.sibling.0
     c.max-from.result c.min-to.result c.share_rows-shared.result c.node-node.result c.node-node.ensures since
     c.requires.sees c.requires.seen (omega (arith, c.max-from.ensures)) (omega (arith, c.max-from.ensures))
     (omega (arith, c.min-to.ensures, c.saturating_add.ensures)) (omega (arith, c.min-to.ensures))

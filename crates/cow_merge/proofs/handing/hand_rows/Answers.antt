@@ -46,6 +46,6 @@ loop-page-preserved c = record {
 pub returns : goal.returns
 returns c =
     over-end c.node-2.result c.node-2.ensures c.loop-page.from
-    (subst (λ (rows : Rows Row). IsHandedUpTo c.args.arena.now c.args.lists.now rows c.args.frames.now c.loop-page.frames c.args.leaf.0 c.args.hidden.0 c.args.child.0 c.loop-page.from)
+    (subst (λ (rows : Rows Row). IsHandedUpTo c.args.arena.now c.args.lists.now rows c.args.frames.now c.loop-page.frames c.args.family.leaf.0 c.args.family.hidden.0 c.args.family.sibling.0 c.loop-page.from)
     (sym c.in_default.ensures.none) c.loop-page.invariant.handing)
     (λ p from. ap (λ (rows : Rows Row). slots_of rows c.node-2.result.list.0 p) c.in_default.ensures.none ∙ c.in_default.ensures.page.none refl p from)

@@ -5,7 +5,7 @@ use Rattle.cow_merge.proofs.handing.hand_rows.Given as goal
 
 abbrev pub invariant-loop-page : goal.invariant-loop-page
 invariant-loop-page l = record {
-  handing : IsHandedUpTo l.arena l.fn.lists l.lists l.fn.frames l.frames l.fn.leaf.0 l.fn.hidden.0 l.fn.child.0 l.from;
+  handing : IsHandedUpTo l.arena l.fn.lists l.lists l.fn.frames l.frames l.fn.family.leaf.0 l.fn.family.hidden.0 l.fn.family.sibling.0 l.from;
 }
 
 abbrev pub decreases-loop-page : goal.decreases-loop-page

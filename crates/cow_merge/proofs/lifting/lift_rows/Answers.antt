@@ -15,46 +15,46 @@ loop-page-init c = record { lifted = lifted-same c.requires; below = λ p least 
 
 pub settle-requires-clause-taken : goal.settle-requires-clause-taken
 settle-requires-clause-taken c =
-    let was = lifting-with c.loop-page.invariant.lifted.now c.node-above.result c.node-node.result c.node-above.ensures c.node-node.ensures in
+    let was = lifting-with c.loop-page.invariant.lifted.now c.node-above.result c.node.result c.node-above.ensures c.node.ensures in
     row-taken c.args.arena.now c.loop-page.lists c.take_below.new.lists c.take_below.new.lists c.loop-page.frames c.loop-page.frames
-    c.args.leaf.0 c.args.hidden.0 c.args.child.0 c.in-Some.page c.in-Some.slot was c.in-Some.ensures.slot c.in-Some.ensures.slots
+    c.args.family.leaf.0 c.args.family.hidden.0 c.args.family.sibling.0 c.in-Some.page c.in-Some.slot was c.in-Some.ensures.slot c.in-Some.ensures.slots
 
 pub settle-requires-clause-seen : goal.settle-requires-clause-seen
 settle-requires-clause-seen c = λ tag left right e seen.
-    let was = lifting-with c.loop-page.invariant.lifted.now c.node-above.result c.node-node.result c.node-above.ensures c.node-node.ensures in
+    let was = lifting-with c.loop-page.invariant.lifted.now c.node-above.result c.node.result c.node-above.ensures c.node.ensures in
     row-sees-mid c.args.arena.now c.loop-page.lists c.take_below.new.lists c.take_below.new.lists c.loop-page.frames c.loop-page.frames
-    c.args.leaf.0 c.args.hidden.0 c.args.child.0 c.in-Some.page c.in-Some.slot was c.in-Some.ensures.slot c.in-Some.ensures.slots tag left right e seen
+    c.args.family.leaf.0 c.args.family.hidden.0 c.args.family.sibling.0 c.in-Some.page c.in-Some.slot was c.in-Some.ensures.slot c.in-Some.ensures.slots tag left right e seen
 
 pub loop-page-smaller : goal.loop-page-smaller
 loop-page-smaller c =
-    let was = lifting-with c.loop-page.invariant.lifted.now c.node-above.result c.node-node.result c.node-above.ensures c.node-node.ensures in
+    let was = lifting-with c.loop-page.invariant.lifted.now c.node-above.result c.node.result c.node-above.ensures c.node.ensures in
     let least = c.in-Some.ensures.page.least c.in-Some.page refl in
     ahead-less (slots_of c.loop-page.lists c.node-above.result.list.0) (slots_of c.settle.new.lists c.node-above.result.list.0) c.loop-page.at c.in-Some.page
     c.in-Some.slot least.0 c.in-Some.ensures.fits c.in-Some.ensures.slot
     (lifting-list c.args.arena.now c.loop-page.lists c.take_below.new.lists c.settle.new.lists c.loop-page.frames c.settle.new.frames
-    c.args.leaf.0 c.args.hidden.0 c.args.child.0 c.in-Some.page c.in-Some.slot was c.in-Some.ensures.slot c.in-Some.ensures.slots
+    c.args.family.leaf.0 c.args.family.hidden.0 c.args.family.sibling.0 c.in-Some.page c.in-Some.slot was c.in-Some.ensures.slot c.in-Some.ensures.slots
     c.settle.ensures c.in-Some.page ∙ gone-here _ c.in-Some.page)
 
 pub loop-page-preserved : goal.loop-page-preserved
 loop-page-preserved c =
-    let was = lifting-with c.loop-page.invariant.lifted.now c.node-above.result c.node-node.result c.node-above.ensures c.node-node.ensures in
+    let was = lifting-with c.loop-page.invariant.lifted.now c.node-above.result c.node.result c.node-above.ensures c.node.ensures in
     record {
       lifted = lifted-then c.loop-page.invariant.lifted
           (lifting-settled c.args.arena.now c.loop-page.lists c.take_below.new.lists c.settle.new.lists c.loop-page.frames c.settle.new.frames
-          c.args.leaf.0 c.args.hidden.0 c.args.child.0 c.in-Some.page c.in-Some.slot was c.in-Some.ensures.slot c.in-Some.ensures.slots
+          c.args.family.leaf.0 c.args.family.hidden.0 c.args.family.sibling.0 c.in-Some.page c.in-Some.slot was c.in-Some.ensures.slot c.in-Some.ensures.slots
           c.settle.ensures c.in-Some.ensures.count c.in-Some.ensures.spare);
       below = passed-more (slots_of c.loop-page.lists c.node-above.result.list.0) (slots_of c.settle.new.lists c.node-above.result.list.0) c.args.from c.loop-page.at c.in-Some.page
           c.loop-page.invariant.below c.in-Some.ensures.page
           (lifting-list c.args.arena.now c.loop-page.lists c.take_below.new.lists c.settle.new.lists c.loop-page.frames c.settle.new.frames
-          c.args.leaf.0 c.args.hidden.0 c.args.child.0 c.in-Some.page c.in-Some.slot was c.in-Some.ensures.slot c.in-Some.ensures.slots c.settle.ensures);
+          c.args.family.leaf.0 c.args.family.hidden.0 c.args.family.sibling.0 c.in-Some.page c.in-Some.slot was c.in-Some.ensures.slot c.in-Some.ensures.slots c.settle.ensures);
       others = λ p row at. c.loop-page.invariant.others p row (left-was (slots_of c.loop-page.lists c.node-above.result.list.0) (slots_of c.settle.new.lists c.node-above.result.list.0) c.in-Some.page
           (lifting-list c.args.arena.now c.loop-page.lists c.take_below.new.lists c.settle.new.lists c.loop-page.frames c.settle.new.frames
-          c.args.leaf.0 c.args.hidden.0 c.args.child.0 c.in-Some.page c.in-Some.slot was c.in-Some.ensures.slot c.in-Some.ensures.slots c.settle.ensures) p row at);
+          c.args.family.leaf.0 c.args.family.hidden.0 c.args.family.sibling.0 c.in-Some.page c.in-Some.slot was c.in-Some.ensures.slot c.in-Some.ensures.slots c.settle.ensures) p row at);
     }
 
 pub returns-clause-lifted : goal.returns-clause-lifted
 returns-clause-lifted c =
-    subst (λ (rows : Rows Row). HasLifted c.args.arena.now c.args.lists.now rows c.args.frames.now c.loop-page.frames c.args.leaf.0 c.args.hidden.0 c.args.child.0)
+    subst (λ (rows : Rows Row). HasLifted c.args.arena.now c.args.lists.now rows c.args.frames.now c.loop-page.frames c.args.family.leaf.0 c.args.family.hidden.0 c.args.family.sibling.0)
     (sym c.in_default.ensures.none) c.loop-page.invariant.lifted
 
 pub returns-clause-empty : goal.returns-clause-empty

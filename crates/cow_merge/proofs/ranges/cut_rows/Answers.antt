@@ -29,19 +29,19 @@ pub cut_off-requires-clause-bare : goal.cut_off-requires-clause-bare
 cut_off-requires-clause-bare c =
     let next = c.in-Some.ensures.next in
     let under = c.requires.passing in
-    passing-bare (c.loop-row.invariant.passing under.spared under.passing) (c.in-Some.row - c.args.shift) (omega (arith, next.least))
+    passing-bare (c.loop-row.invariant.passing under.spared under.passing) (c.in-Some.row - c.args.span.shift) (omega (arith, next.least))
 
 pub cut_off-requires-clause-row : goal.cut_off-requires-clause-row
-cut_off-requires-clause-row c = record { node = c.args.above; at = c.requires.node; row = sym c.in-Some-find.ensures }
+cut_off-requires-clause-row c = record { node = c.args.arrival.node; at = c.requires.node; row = sym c.in-Some-find.ensures }
 
 pub cut_off-requires-clause-hidden : goal.cut_off-requires-clause-hidden
 cut_off-requires-clause-hidden c =
-    bare-hidden c.args.arena.now c.requires.passing.passing.bare.has.exact.forest c.args.leaf.0 c.args.first c.args.shift c.args.node.0 c.args.side c.requires.way
+    bare-hidden c.args.arena.now c.requires.passing.passing.bare.has.exact.forest c.args.arrival.leaf.0 c.args.span.first c.args.span.shift c.args.arrival.at.0 c.args.arrival.side c.requires.way
 
 pub cut_off-requires-clause-only : goal.cut_off-requires-clause-only
 cut_off-requires-clause-only c =
     let next = c.in-Some.ensures.next in
-    bare-only c.args.arena.now c.requires.passing.passing.bare.has.exact.forest c.args.leaf.0 c.args.first c.args.shift c.args.node.0 c.args.side c.requires.way
+    bare-only c.args.arena.now c.requires.passing.passing.bare.has.exact.forest c.args.arrival.leaf.0 c.args.span.first c.args.span.shift c.args.arrival.at.0 c.args.arrival.side c.requires.way
     c.loop-row.lists c.in-Some.row (omega (arith, next.least))
 
 pub loop-row-smaller : goal.loop-row-smaller
@@ -55,15 +55,15 @@ loop-row-preserved c =
       from = omega (arith, next.least);
       below = omega (arith, next.below);
       passing = λ spared was.
-          passing-cut _ _ (c.loop-row.invariant.passing spared was) c.loop-row.invariant.from next c.args.node.0 c.args.side c.requires.node
-          (bare-apart c.args.arena.now f c.args.leaf.0 c.args.first c.args.shift c.args.node.0 c.args.side c.requires.way)
-          (bare-only c.args.arena.now f c.args.leaf.0 c.args.first c.args.shift c.args.node.0 c.args.side c.requires.way
+          passing-cut _ _ (c.loop-row.invariant.passing spared was) c.loop-row.invariant.from next c.args.arrival.at.0 c.args.arrival.side c.requires.node
+          (bare-apart c.args.arena.now f c.args.arrival.leaf.0 c.args.span.first c.args.span.shift c.args.arrival.at.0 c.args.arrival.side c.requires.way)
+          (bare-only c.args.arena.now f c.args.arrival.leaf.0 c.args.span.first c.args.span.shift c.args.arrival.at.0 c.args.arrival.side c.requires.way
           c.loop-row.lists c.in-Some.row (omega (arith, next.least))) c.cut_off.ensures.passed;
       lost =
           let under = c.requires.passing in
           lost-then c.loop-row.invariant.lost (passing-lost _ _ (c.loop-row.invariant.passing under.spared under.passing) c.loop-row.invariant.from next
-          c.args.node.0 c.args.side c.requires.node (bare-apart c.args.arena.now f c.args.leaf.0 c.args.first c.args.shift c.args.node.0 c.args.side c.requires.way)
-          (bare-only c.args.arena.now f c.args.leaf.0 c.args.first c.args.shift c.args.node.0 c.args.side c.requires.way
+          c.args.arrival.at.0 c.args.arrival.side c.requires.node (bare-apart c.args.arena.now f c.args.arrival.leaf.0 c.args.span.first c.args.span.shift c.args.arrival.at.0 c.args.arrival.side c.requires.way)
+          (bare-only c.args.arena.now f c.args.arrival.leaf.0 c.args.span.first c.args.span.shift c.args.arrival.at.0 c.args.arrival.side c.requires.way
           c.loop-row.lists c.in-Some.row (omega (arith, next.least))) c.cut_off.ensures.passed);
-      others = λ l apart q. c.cut_off.ensures.others c.args.above c.requires.node l apart q ∙ c.loop-row.invariant.others l apart q;
+      others = λ l apart q. c.cut_off.ensures.others c.args.arrival.node c.requires.node l apart q ∙ c.loop-row.invariant.others l apart q;
     }

@@ -65,9 +65,9 @@ cut_rows-requires-clause-passing c =
 
 pub cut_rows-requires-clause-way : goal.cut_rows-requires-clause-way
 cut_rows-requires-clause-way c =
-    let page = c.args.first + (c.loop-node.shift + c.loop-node.node.first) in
-    subst (λ s. Reaches (bare_of c.args.arena.now) c.args.leaf.0 c.args.first s c.in-Some.parent.0 page) (sym c.side_of-side.ensures)
-    (bare-up c.args.arena.now c.requires.passing.passing.bare.has.exact.forest c.args.leaf.0 c.args.first c.loop-node.at.0 c.in-Some.parent c.loop-node.node
+    let page = c.args.span.first + (c.loop-node.shift + c.loop-node.node.first) in
+    subst (λ s. Reaches (bare_of c.args.arena.now) c.args.start.leaf.0 c.args.span.first s c.in-Some.parent.0 page) (sym c.side_of-side.ensures)
+    (bare-up c.args.arena.now c.requires.passing.passing.bare.has.exact.forest c.args.start.leaf.0 c.args.span.first c.loop-node.at.0 c.in-Some.parent c.loop-node.node
     c.node-above.result c.loop-node.from page c.loop-node.invariant.here c.in-Some.is c.node-above.ensures (omega arith)
     (let same = c.loop-node.invariant.from in omega arith) (c.loop-node.invariant.way (omega arith)))
 
@@ -87,7 +87,7 @@ loop-node-preserved c =
           let page = c.loop-node.from + c.loop-node.node.first in
           record {
             side = Some (side_of c.node-above.result c.loop-node.at.0);
-            way = bare-up c.args.arena.now c.requires.passing.passing.bare.has.exact.forest c.args.leaf.0 c.args.first c.loop-node.at.0 c.in-Some.parent
+            way = bare-up c.args.arena.now c.requires.passing.passing.bare.has.exact.forest c.args.start.leaf.0 c.args.span.first c.loop-node.at.0 c.in-Some.parent
                 c.loop-node.node c.node-above.result c.loop-node.from page c.loop-node.invariant.here c.in-Some.is c.node-above.ensures (omega arith) (omega arith)
                 (c.loop-node.invariant.way (omega arith));
           };
@@ -97,8 +97,8 @@ loop-node-preserved c =
       lost = lost-then c.loop-node.invariant.lost c.cut_rows.ensures.lost;
       up = omega (arith, c.loop-node.invariant.up);
       kept = λ q.
-          c.cut_rows.ensures.others c.args.node.list.0
-          (up-list (nodes_of c.args.arena.now) c.args.arena.now.lists under.passing.bare.has.exact.forest c.args.start.0 c.in-Some.parent.0 c.args.node
+          c.cut_rows.ensures.others c.args.start.node.list.0
+          (up-list (nodes_of c.args.arena.now) c.args.arena.now.lists under.passing.bare.has.exact.forest c.args.start.at.0 c.in-Some.parent.0 c.args.start.node
           c.node-above.result c.requires.start c.node-above.ensures (omega (arith, c.loop-node.invariant.up))) q
           ∙ c.loop-node.invariant.kept q;
     }

@@ -9,22 +9,22 @@ use Rattle.cow_merge.proofs.ranges.leave_out_above.Goals as goal
 use Rattle.cow_merge.proofs.RangeLaws.{lost-then}
 
 pub drop_rows-requires-clause-leaf : goal.drop_rows-requires-clause-leaf
-drop_rows-requires-clause-leaf c = above-visible c.args.arena.now c.args.leaf.0 c.args.hidden c.requires.leaf
+drop_rows-requires-clause-leaf c = above-visible c.args.arena.now c.args.family.leaf.0 c.args.family.hidden c.requires.leaf
 
 pub node-above-requires : goal.node-above-requires
-node-above-requires c = above-there c.args.arena.now c.args.leaf.0 c.args.hidden c.requires.exact.forest c.node-node.result c.requires.leaf c.node-node.ensures
+node-above-requires c = above-there c.args.arena.now c.args.family.leaf.0 c.args.family.hidden c.requires.exact.forest c.node-node.result c.requires.leaf c.node-node.ensures
 
 pub overflow_add-to : goal.overflow_add-to
 overflow_add-to c =
-    let fits = above-fits c.args.arena.now c.args.leaf.0 c.args.hidden c.requires.exact.forest c.node-node.result c.node-above.result c.requires.leaf c.node-node.ensures
+    let fits = above-fits c.args.arena.now c.args.family.leaf.0 c.args.family.hidden c.requires.exact.forest c.node-node.result c.node-above.result c.requires.leaf c.node-node.ensures
     c.node-above.ensures in
     omega arith
 
 pub leave_out_further-requires-clause-passing : goal.leave_out_further-requires-clause-passing
 leave_out_further-requires-clause-passing c = λ above at. record {
-  spared = Some c.args.hidden;
+  spared = Some c.args.family.hidden;
   passing = (passing-above c.drop_rows.ensures.bare c.node-node.ensures
-      (above-parent c.args.arena.now c.args.leaf.0 c.args.hidden c.node-node.result c.requires.leaf c.node-node.ensures) at);
+      (above-parent c.args.arena.now c.args.family.leaf.0 c.args.family.hidden c.node-node.result c.requires.leaf c.node-node.ensures) at);
 }
 
 pub leave_out_further-requires-clause-base : goal.leave_out_further-requires-clause-base
@@ -36,8 +36,8 @@ leave_out_further-requires-clause-end c = λ node at.
 
 pub returns-clause-sparing : goal.returns-clause-sparing
 returns-clause-sparing c =
-    c.leave_out_further.ensures.sparing (Some c.args.hidden) c.node-above.result c.node-above.ensures (passing-above c.drop_rows.ensures.bare c.node-node.ensures
-    (above-parent c.args.arena.now c.args.leaf.0 c.args.hidden c.node-node.result c.requires.leaf c.node-node.ensures) c.node-above.ensures)
+    c.leave_out_further.ensures.sparing (Some c.args.family.hidden) c.node-above.result c.node-above.ensures (passing-above c.drop_rows.ensures.bare c.node-node.ensures
+    (above-parent c.args.arena.now c.args.family.leaf.0 c.args.family.hidden c.node-node.result c.requires.leaf c.node-node.ensures) c.node-above.ensures)
 
 pub returns-clause-kept : goal.returns-clause-kept
 returns-clause-kept c = λ above at q.
@@ -45,7 +45,7 @@ returns-clause-kept c = λ above at q.
     c.leave_out_further.ensures.kept above at q
     ∙ subst (λ (n : Node). slots_of c.drop_rows.new.lists n.list.0 q ≡ slots_of c.args.lists.now n.list.0 q) same
     (c.drop_rows.ensures.others c.node-node.result c.node-node.ensures c.node-above.result.list.0
-    (above-list c.args.arena.now c.args.leaf.0 c.args.hidden c.requires.exact.forest c.node-node.result c.node-above.result c.requires.leaf c.node-node.ensures
+    (above-list c.args.arena.now c.args.family.leaf.0 c.args.family.hidden c.requires.exact.forest c.node-node.result c.node-above.result c.requires.leaf c.node-node.ensures
     c.node-above.ensures) q)
 
 pub leave_out_further-requires-clause-jumps : goal.leave_out_further-requires-clause-jumps

@@ -28,16 +28,16 @@ cut_upwards-requires-clause-way c = λ less.
     let end = c.requires.end of.node of.family.at in
     let under = c.requires.passing c.node-above.result c.node-above.ensures in
     record {
-      side = Some (side_of c.node-above.result c.args.leaf.0);
-      way = bare-up c.args.arena.now under.passing.bare.has.exact.forest c.args.leaf.0 c.args.first c.args.leaf.0 c.args.hidden of.node c.node-above.result
-          c.args.first (c.args.first + c.args.shift) of.family.at of.family.parent_is c.node-above.ensures (omega arith) (omega arith)
+      side = Some (side_of c.node-above.result c.args.family.leaf.0);
+      way = bare-up c.args.arena.now under.passing.bare.has.exact.forest c.args.family.leaf.0 c.args.span.first c.args.family.leaf.0 c.args.family.hidden of.node c.node-above.result
+          c.args.span.first (c.args.span.first + c.args.span.shift) of.family.at of.family.parent_is c.node-above.ensures (omega arith) (omega arith)
           (record { side = None; way = (refl, refl) });
     }
 
 pub returns-clause-sparing : goal.returns-clause-sparing
 returns-clause-sparing c = λ spared above at was.
     c.cut_upwards.ensures.sparing spared (c.leave_out_beside-skip.ensures.passing spared c.node-above.result c.node-above.ensures
-    (subst (λ (n : Node). IsPassing c.args.arena.now c.args.lists.now c.args.frames.now c.args.leaf.0 c.args.first no_pages spared n c.args.shift c.args.to c.args.to)
+    (subst (λ (n : Node). IsPassing c.args.arena.now c.args.lists.now c.args.frames.now c.args.family.leaf.0 c.args.span.first no_pages spared n c.args.span.shift c.args.span.to c.args.span.to)
     (some_same (sym at ∙ c.node-above.ensures)) was))
 
 pub returns-clause-kept : goal.returns-clause-kept

@@ -47,7 +47,7 @@ loop-page-preserved c =
       down = λ parent side seen at was.
           let it = c.loop-page.invariant.down parent side seen at was in
           let now = c.lift_rows.ensures.lifted.now in
-          down-row (tree_of c.args.arena.now c.loop-page.lists) now.lifted.exact.forest (slots_of c.lift_rows.new.lists) parent now.of.sibling c.args.child.0
+          down-row (tree_of c.args.arena.now c.loop-page.lists) now.lifted.exact.forest (slots_of c.lift_rows.new.lists) parent now.of.sibling c.args.family.sibling.0
           now.of.family.sibling_at
           (below-found c.lift_rows.ensures.lifted parent at) (c.lift_rows.ensures.others parent at) seen side c.args.way c.loop-page.from it c.in-Some.page
           (subst (λ (l : ListId). IsNext (slots_of c.loop-page.lists l.0) c.loop-page.from (Some c.in-Some.page)) (c.requires.list it.node it.node_at)
@@ -63,5 +63,5 @@ returns-clause-others c = c.loop-page.invariant.others
 pub returns-clause-down : goal.returns-clause-down
 returns-clause-down c = λ parent side seen at was.
     let it = c.loop-page.invariant.down parent side seen at was in
-    down-end (tree_of c.args.arena.now c.loop-page.lists) parent.list.0 c.args.child.0 seen side c.args.way c.loop-page.from it
+    down-end (tree_of c.args.arena.now c.loop-page.lists) parent.list.0 c.args.family.sibling.0 seen side c.args.way c.loop-page.from it
     (λ p from below. subst (λ (l : ListId). slots_of c.loop-page.lists l.0 p ≡ None) (c.requires.list it.node it.node_at) (c.in_default.ensures.none p from below))

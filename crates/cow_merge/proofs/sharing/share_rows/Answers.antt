@@ -1,5 +1,5 @@
 -- Both sides are gone down, if the child is hidden.
-use Rattle.std.proofs.Common.{◌≡◌, Some, sym, ap, subst, ◌∙◌, arith}
+use Rattle.std.proofs.Common.{◌≡◌, sym, ap, subst, ◌∙◌, arith}
 use Rattle.std.specs.Prelude.{is_some}
 use Rattle.vm_base.proofs.EntryLaws.{some_same}
 use Rattle.page_list.specs.Lists.{slots_of}
@@ -20,29 +20,29 @@ node-node-requires c = ap is_some c.requires.lifting.of.family.sibling_at
 pub returns-then-is_some-clause-shared : goal.returns-then-is_some-clause-shared
 returns-then-is_some-clause-shared c = λ parent node at there.
     let one : c.node-node.result ≡ node = some_same (sym c.node-node.ensures ∙ there) in
-    subst (λ (n : Node). AreShared (tree_of c.args.arena.now c.args.lists.now) parent.list.0 c.args.child.0 n (record { from = 0; to = c.node-node.result.seen })) one
-    (shared-visible (tree_of c.args.arena.now c.args.lists.now) parent.list.0 c.args.child.0 c.node-node.result (sym c.is_some.ensures ∙ c.if-is_some.true))
+    subst (λ (n : Node). AreShared (tree_of c.args.arena.now c.args.lists.now) parent.list.0 c.args.family.sibling.0 n (record { from = 0; to = c.node-node.result.seen })) one
+    (shared-visible (tree_of c.args.arena.now c.args.lists.now) parent.list.0 c.args.family.sibling.0 c.node-node.result (sym c.is_some.ensures ∙ c.if-is_some.true))
 
 pub unreachable-requires : goal.unreachable-requires
 unreachable-requires c =
-    left-there c.args.arena.now c.requires.lifting.lifted.exact.forest c.args.child.0
-    (hidden-there c.args.arena.now c.args.child.0 c.node-node.result c.node-node.ensures (no-koid_of c.node-node.result.koid (sym c.is_some.ensures ∙ c.if-is_some.false)))
+    left-there c.args.arena.now c.requires.lifting.lifted.exact.forest c.args.family.sibling.0
+    (hidden-there c.args.arena.now c.args.family.sibling.0 c.node-node.result c.node-node.ensures (no-koid_of c.node-node.result.koid (sym c.is_some.ensures ∙ c.if-is_some.false)))
     c.node-node.result c.node-node.ensures c.in_default.is
 
 pub unreachable-requires-in_default-right : goal.unreachable-requires-in_default-right
 unreachable-requires-in_default-right c =
-    right-there c.args.arena.now c.requires.lifting.lifted.exact.forest c.args.child.0
-    (hidden-there c.args.arena.now c.args.child.0 c.node-node.result c.node-node.ensures (no-koid_of c.node-node.result.koid (sym c.is_some.ensures ∙ c.if-is_some.false)))
+    right-there c.args.arena.now c.requires.lifting.lifted.exact.forest c.args.family.sibling.0
+    (hidden-there c.args.arena.now c.args.family.sibling.0 c.node-node.result c.node-node.ensures (no-koid_of c.node-node.result.koid (sym c.is_some.ensures ∙ c.if-is_some.false)))
     c.node-node.result c.node-node.ensures c.in_default-right.is
 
 pub share_side-one-requires-clause-below : goal.share_side-one-requires-clause-below
 share_side-one-requires-clause-below c =
-    child-there (nodes_of c.args.arena.now) c.args.arena.now.lists c.requires.lifting.lifted.exact.forest c.args.child.0 c.in-Some.left.0 c.node-node.result side.Left
+    child-there (nodes_of c.args.arena.now) c.args.arena.now.lists c.requires.lifting.lifted.exact.forest c.args.family.sibling.0 c.in-Some.left.0 c.node-node.result side.Left
     c.node-node.ensures c.in-Some.is
 
 pub share_side-other-requires-clause-below : goal.share_side-other-requires-clause-below
 share_side-other-requires-clause-below c =
-    child-there (nodes_of c.args.arena.now) c.args.arena.now.lists c.requires.lifting.lifted.exact.forest c.args.child.0 c.in-Some-right.right.0 c.node-node.result side.Right
+    child-there (nodes_of c.args.arena.now) c.args.arena.now.lists c.requires.lifting.lifted.exact.forest c.args.family.sibling.0 c.in-Some-right.right.0 c.node-node.result side.Right
     c.node-node.ensures c.in-Some-right.is
 
 pub share_side-other-requires-clause-lifting : goal.share_side-other-requires-clause-lifting
@@ -64,15 +64,15 @@ returns-clause-shared c = λ parent node at there.
     let f = c.requires.lifting.lifted.exact.forest in
     let same : c.node-node.result ≡ node = some_same (sym c.node-node.ensures ∙ there) in
     let now = c.share_side-other.ensures.lifted.now in
-    subst (λ (n : Node). AreShared (tree_of c.args.arena.now c.share_side-other.new.lists) parent.list.0 c.args.child.0 n
+    subst (λ (n : Node). AreShared (tree_of c.args.arena.now c.share_side-other.new.lists) parent.list.0 c.args.family.sibling.0 n
     (record { from = c.max.result; to = c.min.result })) same
-    (shared-both (tree_of c.args.arena.now c.share_side-other.new.lists) parent.list.0 c.args.child.0 c.node-node.result c.share_side-one.result c.share_side-other.result
+    (shared-both (tree_of c.args.arena.now c.share_side-other.new.lists) parent.list.0 c.args.family.sibling.0 c.node-node.result c.share_side-one.result c.share_side-other.result
     (record { from = c.max.result; to = c.min.result })
-    (reached-kept (tree_of c.args.arena.now c.share_side-one.new.lists) f (slots_of c.share_side-other.new.lists) parent now.of.sibling c.args.child.0
+    (reached-kept (tree_of c.args.arena.now c.share_side-one.new.lists) f (slots_of c.share_side-other.new.lists) parent now.of.sibling c.args.family.sibling.0
     now.of.family.sibling_at
     (below-found c.share_side-other.ensures.lifted parent at) (c.share_side-other.ensures.others parent at) side.Left c.node-node.result.seen c.share_side-one.result
     (c.share_side-one.ensures.reached parent side.Left at
-    (side-of-child (nodes_of c.args.arena.now) c.args.arena.now.lists f c.args.child.0 c.in-Some.left.0 c.node-node.result side.Left c.node-node.ensures c.in-Some.is)))
+    (side-of-child (nodes_of c.args.arena.now) c.args.arena.now.lists f c.args.family.sibling.0 c.in-Some.left.0 c.node-node.result side.Left c.node-node.ensures c.in-Some.is)))
     (c.share_side-other.ensures.reached parent side.Right at
-    (side-of-child (nodes_of c.args.arena.now) c.args.arena.now.lists f c.args.child.0 c.in-Some-right.right.0 c.node-node.result side.Right c.node-node.ensures
+    (side-of-child (nodes_of c.args.arena.now) c.args.arena.now.lists f c.args.family.sibling.0 c.in-Some-right.right.0 c.node-node.result side.Right c.node-node.ensures
     c.in-Some-right.is)) (omega (arith, c.max.ensures)) (omega (arith, c.max.ensures)) (omega (arith, c.min.ensures)) (omega (arith, c.min.ensures)))

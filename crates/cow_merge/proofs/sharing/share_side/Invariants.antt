@@ -11,11 +11,11 @@ use Rattle.cow_merge.specs.inside.Lifting.{HasLifted}
 
 abbrev pub invariant-loop-left : goal.invariant-loop-left
 invariant-loop-left l = record {
-  lifted : HasLifted l.arena l.fn.lists l.lists l.fn.frames l.frames l.leaf.0 l.hidden.0 l.child.0;
-  others : (parent : Node) → nodes_of l.arena l.hidden.0 ≡ Some parent → (p : ℕ) (row : Slot) → slots_of l.lists parent.list.0 p ≡ Some row →
+  lifted : HasLifted l.arena l.fn.lists l.lists l.fn.frames l.frames l.family.leaf.0 l.family.hidden.0 l.family.sibling.0;
+  others : (parent : Node) → nodes_of l.arena l.family.hidden.0 ≡ Some parent → (p : ℕ) (row : Slot) → slots_of l.lists parent.list.0 p ≡ Some row →
       slots_of l.fn.lists parent.list.0 p ≡ Some row;
-  down : (parent : Node) (side : Side) → nodes_of l.arena l.hidden.0 ≡ Some parent → side_in (nodes_of l.arena) l.fn.below.0 ≡ Some side →
-      IsDown (tree_of l.arena l.lists) parent.list.0 l.child.0 l.seen side l.way l.way.from;
+  down : (parent : Node) (side : Side) → nodes_of l.arena l.family.hidden.0 ≡ Some parent → side_in (nodes_of l.arena) l.fn.below.0 ≡ Some side →
+      IsDown (tree_of l.arena l.lists) parent.list.0 l.family.sibling.0 l.seen side l.way l.way.from;
 }
 
 abbrev pub decreases-loop-left : goal.decreases-loop-left

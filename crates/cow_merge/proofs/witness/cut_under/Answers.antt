@@ -1,8 +1,10 @@
 -- Each row that is passed has cut off the page that comes under it.
-use Rattle.std.proofs.Common.{◌≡◌, ◌+◌, ◌-◌, None, Some, refl, subst, ◌∙◌, arith}
+use Rattle.std.proofs.Common.{◌≡◌, ◌+◌, ◌-◌, None, Some, refl, sym, ap, subst, ◌∙◌, arith}
+use Rattle.vm_base.proofs.EntryLaws.{some_same}
 use Rattle.balanced_tree.specs.Pairs.{IsNext}
 use Rattle.page_list.specs.declared.row.ListId.{ListId}
 use Rattle.page_list.specs.Lists.{slots_of}
+use Rattle.cow_arena.specs.declared.node.Node.{Node}
 use Rattle.cow_merge.proofs.BesideLaws.{beside-bare, beside-cut, beside-end, beside-lost}
 use Rattle.cow_merge.proofs.JumpingLaws.{jumps-left}
 use Rattle.cow_merge.proofs.witness.cut_under.Goals as goal
@@ -40,7 +42,7 @@ cut_page-requires-clause-bare c =
     let least = c.in-Some.ensures.next.least c.in-Some.page refl in
     let low = down.beside.place.within.low c.in-Some.page (omega (arith, least.0, c.loop-page.invariant.from)) (omega (arith, least.0, c.in-Some.ensures.below)) in
     beside-bare (c.loop-page.invariant.beside down.first down.spared down.above down.to down.side down.beside).0
-    (c.in-Some.page + c.args.way.shift - c.args.shift) (omega arith)
+    (c.in-Some.page + c.args.way.shift - c.args.window.shift) (omega arith)
 
 pub loop-page-smaller : goal.loop-page-smaller
 loop-page-smaller c =
@@ -57,7 +59,7 @@ loop-page-preserved c =
           let been = c.loop-page.invariant.beside first spared above to s was in
           let it = been.0 in
           let next =
-          subst (λ (l : ListId). IsNext (slots_of c.loop-page.lists l.0) c.loop-page.from (Some c.in-Some.page)) (c.requires.list it.place.node it.place.node_at)
+          subst (λ (l : ListId). IsNext (slots_of c.loop-page.lists l.0) c.loop-page.from (Some c.in-Some.page)) (ap (λ (n : Node). n.list) (some_same (sym c.node.ensures ∙ it.place.node_at)))
           c.in-Some.ensures.next in (
             beside-cut _ _ it c.loop-page.invariant.from (omega (arith, least.0, c.in-Some.ensures.below))
                 next c.cut_page.ensures.cut,
@@ -72,7 +74,7 @@ returns-clause-beside c = λ first spared above to s was.
     let been = c.loop-page.invariant.beside first spared above to s was in
     let it = been.0 in (
       beside-end it
-          (λ p from below. subst (λ (l : ListId). slots_of c.loop-page.lists l.0 p ≡ None) (c.requires.list it.place.node it.place.node_at)
+          (λ p from below. subst (λ (l : ListId). slots_of c.loop-page.lists l.0 p ≡ None) (ap (λ (n : Node). n.list) (some_same (sym c.node.ensures ∙ it.place.node_at)))
           (c.in_default.ensures.none p from below)),
       been.1,
     )

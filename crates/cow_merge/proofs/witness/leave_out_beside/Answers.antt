@@ -19,8 +19,8 @@ enter-way-requires c = record { child = ap is_some c.requires.family.family.sibl
 pub loop-left-init : goal.loop-left-init
 loop-left-init c = record {
   beside = λ spared above at was.
-      beside-start c.args.arena.now c.args.lists.now c.args.frames.now c.args.leaf.0 c.args.first spared above c.args.shift c.args.to c.args.hidden.0
-      c.args.sibling (omega arith) c.requires.family at c.min-end.result (omega (arith, c.min-end.ensures)) c.enter-way.result c.enter-way.ensures was;
+      beside-start c.args.arena.now c.args.lists.now c.args.frames.now c.args.family.leaf.0 c.args.span.first spared above c.args.span.shift c.args.span.to c.args.family.hidden.0
+      c.args.family.sibling (omega arith) c.requires.family at c.min-end.result (omega (arith, c.min-end.ensures)) c.enter-way.result c.enter-way.ensures was;
   lost = lost-same;
   kept = λ above at q. refl;
 }
@@ -37,17 +37,14 @@ cut_under-requires-clause-down c =
     let of = c.requires.family in
     let under = c.requires.passing of.parent of.family.parent_at in
     record {
-      first = c.args.first;
+      first = c.args.span.first;
       spared = under.spared;
       above = of.parent;
-      to = c.args.to;
+      to = c.args.span.to;
       fits = omega arith;
-      side = other_side (side_of of.parent c.args.leaf.0);
+      side = other_side (side_of of.parent c.args.family.leaf.0);
       beside = (c.loop-left.invariant.beside under.spared of.parent of.family.parent_at under.passing);
     }
-
-pub cut_under-requires-clause-list : goal.cut_under-requires-clause-list
-cut_under-requires-clause-list c = λ node at. ap (λ (n : Node). n.list) (some_same (sym c.node-node.ensures ∙ at))
 
 pub pages_of-requires-clause-from : goal.pages_of-requires-clause-from
 pages_of-requires-clause-from c =
@@ -79,7 +76,7 @@ enter-way-requires-in-loop-left c = record { child = ap is_some c.wider-child.en
 pub loop-left-preserved : goal.loop-left-preserved
 loop-left-preserved c = record {
   beside = λ spared above at was.
-      let it = (c.cut_under.ensures.beside c.args.first spared above c.args.to (other_side (side_of above c.args.leaf.0))
+      let it = (c.cut_under.ensures.beside c.args.span.first spared above c.args.span.to (other_side (side_of above c.args.family.leaf.0))
       (c.loop-left.invariant.beside spared above at was)).0 in
       let child = c.wider-child.ensures in
       beside-down it (omega arith) c.wider-child.result child.node child.at child.parent
@@ -87,7 +84,7 @@ loop-left-preserved c = record {
   lost =
       let of = c.requires.family in
       let under = c.requires.passing of.parent of.family.parent_at in
-      lost-then c.loop-left.invariant.lost (c.cut_under.ensures.beside c.args.first under.spared of.parent c.args.to (other_side (side_of of.parent c.args.leaf.0))
+      lost-then c.loop-left.invariant.lost (c.cut_under.ensures.beside c.args.span.first under.spared of.parent c.args.span.to (other_side (side_of of.parent c.args.family.leaf.0))
       (c.loop-left.invariant.beside under.spared of.parent of.family.parent_at under.passing)).1;
   kept = λ above at q. c.cut_under.ensures.kept above at q ∙ c.loop-left.invariant.kept above at q;
 }
@@ -102,7 +99,7 @@ returns-after-loop-left-clause-passing c = λ spared above at was.
 
 pub returns-then-is_some-clause-passing : goal.returns-then-is_some-clause-passing
 returns-then-is_some-clause-passing c = λ spared above at was.
-    let it = (c.cut_under.ensures.beside c.args.first spared above c.args.to (other_side (side_of above c.args.leaf.0))
+    let it = (c.cut_under.ensures.beside c.args.span.first spared above c.args.span.to (other_side (side_of above c.args.family.leaf.0))
     (c.loop-left.invariant.beside spared above at was)).0 in
     let of = c.requires.family in
     let leaf : of.node ≡ it.bare.has.node = some_same (sym of.family.at ∙ it.bare.has.visible.at) in
@@ -116,7 +113,7 @@ pub returns-then-is_some-clause-lost : goal.returns-then-is_some-clause-lost
 returns-then-is_some-clause-lost c =
     let of = c.requires.family in
     let under = c.requires.passing of.parent of.family.parent_at in
-    lost-then c.loop-left.invariant.lost (c.cut_under.ensures.beside c.args.first under.spared of.parent c.args.to (other_side (side_of of.parent c.args.leaf.0))
+    lost-then c.loop-left.invariant.lost (c.cut_under.ensures.beside c.args.span.first under.spared of.parent c.args.span.to (other_side (side_of of.parent c.args.family.leaf.0))
     (c.loop-left.invariant.beside under.spared of.parent of.family.parent_at under.passing)).1
 
 -- ---- the jumps

@@ -7,13 +7,13 @@ pub returns-then-is_child_on : goal.returns-then-is_child_on
 returns-then-is_child_on c = record {
   others = λ e. absurd (cc);
   nobody = λ e.
-      leaf-alone (tree_of c.args.arena.now c.args.lists.now) c.requires.forest c.args.leaf.0 c.args.node.0 c.args.page c.args.side
+      leaf-alone (tree_of c.args.arena.now c.args.lists.now) c.requires.forest c.args.leaf.0 c.args.row.node.0 c.args.row.page c.args.row.side
       (c.is_child_on.ensures c.if-is_child_on.true);
 }
 
 pub returns-then-reached_beside : goal.returns-then-reached_beside
 returns-then-reached_beside c = record {
-  others = λ e way. c.reached_beside.ensures c.if-reached_beside.true c.args.side c.args.page way;
+  others = λ e way. c.reached_beside.ensures c.if-reached_beside.true c.args.row.side c.args.row.page way;
   nobody = λ e. absurd (cc);
 }
 
