@@ -27,7 +27,7 @@ use Rattle.cow_split.proofs.RenamedExactLaws.{page-renamed, exact-renamed}
 use Rattle.cow_split.specs.Trees.{tree_of}
 use Rattle.cow_split.specs.Sight.{IsPage}
 use Rattle.cow_split.specs.Exact.{IsExact, IsOnlyOf, all_in_sight}
-use Rattle.cow_merge.specs.Ranges.{leaving_range, IsAllOut, HasLeftOut, Accounts, ShowsBut}
+use Rattle.cow_merge.specs.Ranges.{leaving_range, IsAllOut, IsLeftOut, Moves, Accounts, ShowsBut}
 use Rattle.cow_merge.specs.inside.Lifting.{IsFamilyOf}
 use Rattle.cow_merge.specs.inside.HandingOver.{HasHandedOver}
 use Rattle.cow_merge.specs.Merging.{WasThere, HasListOfParent, HasClosed}
@@ -146,9 +146,9 @@ page-before arena rows slots w q page = record { node = page.node; visible = pag
 
 -- the node has no parent
 pub closed-root : (arena new : Arena) (rows late : Rows Row) (before after : Pool) (v : ℕ) (node : Node) → IsVisible (nodes_of arena) v node →
-    node.parent ≡ None → HasLeftOut arena rows late before after v node 0 → nodes_of new ≡ without_key (nodes_of arena) v → new.lists ≡ arena.lists →
+    node.parent ≡ None → IsLeftOut arena late after v node 0 → Moves arena rows late before after v 0 → nodes_of new ≡ without_key (nodes_of arena) v → new.lists ≡ arena.lists →
     visible_count new + 1 ≡ visible_count arena → IsForest (nodes_of new) new.lists → HasClosed arena new rows late before after v
-closed-root arena new rows late before after v node visible root left is lists shown forest =
+closed-root arena new rows late before after v node visible root left moves is lists shown forest =
     let t : Tree = tree_of arena late in
     let f = left.exact.forest in
     let g : IsForest (without_key (nodes_of arena) v) arena.lists =
@@ -161,8 +161,8 @@ closed-root arena new rows late before after v node visible root left is lists s
     (λ s is. absurd (let none = rw (visible.at, root) at is in cc))
     (exact-removed_root t f v node visible g (leaving_range all_in_sight v 0 node.count) (is_taken after)
     (λ p. left.bare p (omega arith)) left.exact (out-only v node) (out-all arena (slots_of late) v node visible))
-    (λ w q page apart. left.moves.shows w q (page-before arena rows (slots_of late) w q page) (λ same. absurd (apart same))))
-    (kept-list t (without_key (nodes_of arena) v) v without) lists shown left.moves.accounts
+    (λ w q page apart. moves.shows w q (page-before arena rows (slots_of late) w q page) (λ same. absurd (apart same))))
+    (kept-list t (without_key (nodes_of arena) v) v without) lists shown moves.accounts
 
 -- The node and its parent go: all its pages are out of sight in the tree with these slots, in which neither has rows.
 module _ (arena : Arena) (rows : Rows Row) (slots : Slots) (in_use : ℕ → Bool) (v h s : ℕ) (node parent sibling : Node)
@@ -203,17 +203,17 @@ module _ (arena : Arena) (rows : Rows Row) (slots : Slots) (in_use : ℕ → Boo
 -- the sibling keeps its list
 pub closed-spliced : (arena new : Arena) (rows late : Rows Row) (before after : Pool) (v h s : ℕ) (node parent sibling : Node)
     (visible : IsVisible (nodes_of arena) v node) (family : AreFamily (nodes_of arena) v h s node parent sibling)
-    (left : HasLeftOut arena rows late before after v node 0) → ((p : ℕ) → slots_of late parent.list.0 p ≡ None) →
+    (left : IsLeftOut arena late after v node 0) → Moves arena rows late before after v 0 → ((p : ℕ) → slots_of late parent.list.0 p ≡ None) →
     nodes_of new ≡ spliced (nodes_of arena) v h s parent sibling → new.lists ≡ arena.lists → visible_count new + 1 ≡ visible_count arena →
     HasClosed arena new rows late before after v
-closed-spliced arena new rows late before after v h s node parent sibling visible family left empty is lists shown =
+closed-spliced arena new rows late before after v h s node parent sibling visible family left moves empty is lists shown =
     let bare : (p : ℕ) → slots_of late node.list.0 p ≡ None = λ p. left.bare p (omega arith) in
     closed-by arena new rows late before after v (record (tree_of arena late) { nodes = spliced (nodes_of arena) v h s parent sibling })
     (tree-now arena new late (spliced (nodes_of arena) v h s parent sibling) is lists)
-    (gone-spliced arena rows (slots_of late) (is_taken after) v h s node parent sibling visible family left.exact bare empty left.moves.shows)
+    (gone-spliced arena rows (slots_of late) (is_taken after) v h s node parent sibling visible family left.exact bare empty moves.shows)
     (kept-list (tree_of arena late) (spliced (nodes_of arena) v h s parent sibling) v
-    (spliced-whole arena rows (slots_of late) (is_taken after) v h s node parent sibling visible family left.exact bare empty left.moves.shows))
-    lists shown left.moves.accounts
+    (spliced-whole arena rows (slots_of late) (is_taken after) v h s node parent sibling visible family left.exact bare empty moves.shows))
+    lists shown moves.accounts
 
 -- the sibling has the list of the parent
 pub closed-over : (arena new : Arena) (rows late : Rows Row) (before after : Pool) (v h s : ℕ) (it : HasHandedOver arena rows late before after v h s) →

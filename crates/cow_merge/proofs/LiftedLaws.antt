@@ -40,7 +40,7 @@ use Rattle.cow_split.proofs.ExactLaws.{cases_place}
 use Rattle.cow_split.proofs.CutLaws.{exact-cut, cut-shows}
 use Rattle.frame_pool.specs.declared.frame_pool.Backlink.{Backlink}
 use Rattle.frame_pool.specs.Pool.{Pool, taken_frames, is_taken}
-use Rattle.cow_merge.specs.Ranges.{bit_on, leaving_range, ShowsSame, AreLinked, HasLeftOut, IsHeldBy, IsSparing, Accounts, HasLost, Moves, ShowsBut, HasGiven}
+use Rattle.cow_merge.specs.Ranges.{bit_on, leaving_range, ShowsSame, AreLinked, IsLeftOut, IsHeldBy, IsSparing, Accounts, HasLost, ShowsBut, HasGiven}
 use Rattle.cow_merge.specs.inside.Lifting.{IsAside, AreLifted, IsLifting, IsBefore, IsFamilyOf, SeesRow, IsMoved, TellsSeen, HasLiftedRow, HasSettled, is_row_of_frame, HasLifted}
 use Rattle.cow_merge.proofs.PassingLaws.{range-exact}
 use Rattle.cow_merge.proofs.SpliceLaws.{family-apart}
@@ -579,10 +579,9 @@ module _ (arena : Arena) (slots : Slots) (after : Pool) (k h s : ℕ) (of : IsFa
   pub lifted-exact : IsExact left_tree (leaving_range all_in_sight k 0 of.node.count) (is_taken after)
   lifted-exact = range-exact arena slots after k 0 of.node of.family.at was.out was.exact was.only (λ q e. omega arith) none-left
 
-pub lifting-end : {arena : Arena} {old new : Rows Row} {before after : Pool} {k h s : ℕ} (was : IsLifting arena new after k h s) →
-    Moves arena old new before after k 0 → ((p : ℕ) → slots_of new was.of.parent.list.0 p ≡ None) → HasLeftOut arena old new before after k was.of.node 0
-lifting-end {arena} {old} {new} {before} {after} {k} {h} {s} was moves empty = record {
-  moves = moves;
+pub lifting-end : {arena : Arena} {new : Rows Row} {after : Pool} {k h s : ℕ} (was : IsLifting arena new after k h s) →
+    ((p : ℕ) → slots_of new was.of.parent.list.0 p ≡ None) → IsLeftOut arena new after k was.of.node 0
+lifting-end {arena} {new} {after} {k} {h} {s} was empty = record {
   exact = lifted-exact arena (slots_of new) after k h s was.of was.lifted empty;
   bare = λ p from. was.lifted.bare p;
 }

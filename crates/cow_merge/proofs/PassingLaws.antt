@@ -32,7 +32,7 @@ use Rattle.cow_split.proofs.ExactLaws.{exact-seen_alike, seen-carried}
 use Rattle.cow_split.proofs.RowLaws.{left_out-in_sight, frame-shown}
 use Rattle.cow_split.proofs.PartLaws.{part-same, part-none}
 use Rattle.cow_merge.specs.declared.ranges.Pages.{Pages}
-use Rattle.cow_merge.specs.Ranges.{leaving_range, HasLeftPageOut, IsLeftBare, CameTo, IsHeldBy, IsSpared, IsParent, IsOnlyWay, HasKept, HasPassedRow, IsPassing, IsSparing, HasLeftOut, IsOutside, no_pages, IsNextOutside, HasLost}
+use Rattle.cow_merge.specs.Ranges.{leaving_range, HasLeftPageOut, IsLeftBare, CameTo, IsHeldBy, IsSpared, IsParent, IsOnlyWay, HasKept, HasPassedRow, IsPassing, IsSparing, IsLeftOut, IsOutside, no_pages, IsNextOutside, HasLost}
 use Rattle.cow_merge.proofs.CountLaws.{outside-other, outside-before}
 use Rattle.cow_merge.proofs.RangeLaws.{arrives-part, bare-more, bare-kept, bare-lost, lost-kept}
 
@@ -473,14 +473,13 @@ module _ {arena : Arena} {new : Rows Row} {after : Pool} {v first : ℕ} {skip :
   }
 
 -- where none is spared, all pages of the range are left out
-pub sparing-none : {arena : Arena} {old new : Rows Row} {before after : Pool} {v first : ℕ} {node : Node} → nodes_of arena v ≡ Some node →
-    HasLost arena old new before after v first → IsSparing arena new after v first None → HasLeftOut arena old new before after v node first
-sparing-none {arena} {old} {new} {before} {after} {v} {first} {node} at lost was =
+pub sparing-none : {arena : Arena} {new : Rows Row} {after : Pool} {v first : ℕ} {node : Node} → nodes_of arena v ≡ Some node →
+    IsSparing arena new after v first None → IsLeftOut arena new after v node first
+sparing-none {arena} {new} {after} {v} {first} {node} at was =
     let same : was.bare.has.node ≡ node = some_same (sym was.bare.has.visible.at ∙ at) in
     let none : (q tag : ℕ) → first ≤ q → q < node.count → was.bare.has.out v q ≡ false → frame_shown (tree_of arena new) v q ≡ Some tag → ⊥ =
     λ q tag from below. was.spares q tag from (subst (λ (n : Node). q < n.count) (sym same) below) in
     record {
-      moves = lost.moves;
       exact = range-exact arena (slots_of new) after v first node at was.bare.has.out was.bare.has.exact was.bare.has.only was.bare.within none;
       bare = λ p from. subst (λ (n : Node). slots_of new n.list.0 p ≡ None) same (was.bare.bare p from);
     }

@@ -16,11 +16,10 @@ use Rattle.cow_arena.specs.Walk.{Tree, frame_shown}
 use Rattle.cow_arena.specs.Forest.{IsForest}
 use Rattle.cow_arena.specs.Changes.{window_first, with_window}
 use Rattle.cow_arena.specs.Counts.{hidden_count, visible_count}
-use Rattle.cow_arena.specs.Ways.{IsPartOf}
 use Rattle.cow_split.specs.Trees.{tree_of}
 use Rattle.cow_split.specs.Sight.{IsPage}
 use Rattle.cow_split.specs.Exact.{IsExact, all_in_sight}
-use Rattle.cow_merge.specs.Ranges.{HasLeftOut}
+use Rattle.cow_merge.specs.Ranges.{HasLost, IsLeftOut}
 use Rattle.cow_merge.specs.Merging.{with_count, IsNarrowed, HasShrunk}
 use Rattle.cow_merge.proofs.CountLaws.{narrowed-page, narrowed-shows, exact-narrowed}
 
@@ -133,11 +132,11 @@ module _ (arena between new : Arena) (v count : ℕ) (node : Node) (visible : Is
       ∙ with_key-twice (nodes_of arena) v (with_window node node.first (min node.seen count)) (with_count node count))
 
   pub shrunk : (rows late : Rows Row) (before after : Pool) → count ≤ node.count →
-      HasLeftOut arena rows late before after v node count → IsPartOf (slots_of rows) (slots_of late) →
+      IsLeftOut arena late after v node count → HasLost arena rows late before after v count →
       ((node : Node) → nodes_of between v ≡ Some node → nodes_of new ≡ with_key (nodes_of between) v (record node { count = count })) →
       new.lists ≡ between.lists → hidden_count new ≡ hidden_count between → visible_count new ≡ visible_count between →
       IsForest (nodes_of new) new.lists → HasShrunk arena new rows late before after v count
-  shrunk rows late before after few left part counted lists hidden shown forest =
+  shrunk rows late before after few left lost counted lists hidden shown forest =
       let nodes = counted-nodes counted in
       let t : Tree = tree_of arena late in
       let same_lists : new.lists ≡ arena.lists = lists ∙ narrowed.lists in
@@ -154,9 +153,9 @@ module _ (arena between new : Arena) (v count : ℕ) (node : Node) (visible : Is
         shows = subst (λ (u : Tree). (w q : ℕ) → IsPage u w q → frame_shown u w q ≡ frame_shown (tree_of arena rows) w q) (sym now)
             (λ w q page.
             let was = narrowed-page t v count node visible few g w q page in
-            narrowed-shows t v count node visible few g left.exact.forest w q page ∙ left.moves.shows w q (rows-page w q was.0) was.1);
-        accounts = left.moves.accounts;
-        part = part;
+            narrowed-shows t v count node visible few g left.exact.forest w q page ∙ lost.moves.shows w q (rows-page w q was.0) was.1);
+        accounts = lost.moves.accounts;
+        part = lost.part;
       }
     where
       rows-page : (w q : ℕ) → IsPage (tree_of arena late) w q → IsPage (tree_of arena rows) w q

@@ -202,10 +202,8 @@ pub record HasPassedRow (arena : Arena) (old new : Rows Row) (before after : Poo
   pub came : Reaches (tree_of arena old) v p from h q → HasLeftPageOut arena old new before after v p
   pub stays : (Reaches (tree_of arena old) v p from h q → ⊥) → HasKept old new before after
 
--- The pages of the visible node v from `first` on are out of sight: rows that only they saw are gone, and the frames of
--- these rows are given back. The tree is exact with these pages left out, and the other visible nodes show what they
--- showed.
-pub record HasLeftOut (arena : Arena) (old new : Rows Row) (before after : Pool) (v : ℕ) (node : Node) (first : ℕ) : Type 0 where
-  pub moves : Moves arena old new before after v first
-  pub exact : IsExact (tree_of arena new) (leaving_range all_in_sight v first node.count) (is_taken after)
-  pub bare : (p : ℕ) → first ≤ p → slots_of new node.list.0 p ≡ None
+-- The pages of the visible node v from `first` on are out of sight: the tree is exact with them left out, and v has no
+-- rows there.
+pub record IsLeftOut (arena : Arena) (rows : Rows Row) (pool : Pool) (v : ℕ) (node : Node) (first : ℕ) : Type 0 where
+  pub exact : IsExact (tree_of arena rows) (leaving_range all_in_sight v first node.count) (is_taken pool)
+  pub bare : (p : ℕ) → first ≤ p → slots_of rows node.list.0 p ≡ None

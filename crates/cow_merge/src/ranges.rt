@@ -8,7 +8,7 @@ ghost use Rattle.cow_arena.specs.declared.node.Node.{Node};
 ghost use Rattle.cow_arena.specs.declared.node.NodeId.{NodeId};
 ghost use Rattle.cow_arena.specs.Nodes.{nodes_of};
 ghost use Rattle.cow_arena.specs.Walk.{frame_in};
-ghost use Rattle.cow_arena.specs.Ways.{HasRow, Reaches, IsPartOf};
+ghost use Rattle.cow_arena.specs.Ways.{HasRow, Reaches};
 ghost use Rattle.cow_split.specs.Trees.{tree_of};
 ghost use Rattle.cow_split.specs.Searching.{ComesTo};
 ghost use Rattle.cow_split.specs.Exact.{IsExact, all_in_sight};
@@ -17,7 +17,7 @@ ghost use Rattle.cow_split.specs.declared.answers.Cut.TheVariants as cut;
 ghost use Rattle.balanced_tree.specs.Pairs.{IsNext};
 ghost use Rattle.cow_jump.specs.Jumps.{MayJump};
 ghost use Rattle.cow_merge.specs.inside.Lifting.{IsFamilyOf};
-ghost use Rattle.cow_merge.specs.Ranges.{IsOutside, no_pages, IsNextOutside, bare_of, is_split, HasGiven, HasLost, IsLeftBare, IsPassing, IsOnItsWayUp, IsSparing, IsOnlyWay, HasPassedRow, KeepsList, KeepsOthers, HasLeftOut, IsExactFor};
+ghost use Rattle.cow_merge.specs.Ranges.{IsOutside, no_pages, IsNextOutside, bare_of, is_split, HasGiven, HasLost, IsLeftBare, IsPassing, IsOnItsWayUp, IsSparing, IsOnlyWay, HasPassedRow, KeepsList, KeepsOthers, IsLeftOut, IsExactFor};
 
 use crate::places::{Arrival, Family, Span};
 use crate::witness::leave_out_beside;
@@ -50,9 +50,8 @@ pub(crate) fn leave_out(
     requires exact { IsExact (tree_of arena.now lists.old) all_in_sight (is_taken frames.old) }
     requires leaf { IsSomeAnd (nodes_of arena.now leaf.0) (λ node. IsSome node.koid) }
     requires jumps { MayJump (tree_of arena.now lists.old) (option_copied jumps) }
-    ensures left { (node : Node) → nodes_of arena.now leaf.0 ≡ Some node →
-        HasLeftOut arena.now lists.old lists.new frames.old frames.new leaf.0 node first }
-    ensures part { IsPartOf (slots_of lists.old) (slots_of lists.new) }
+    ensures left { (node : Node) → nodes_of arena.now leaf.0 ≡ Some node → IsLeftOut arena.now lists.new frames.new leaf.0 node first }
+    ensures lost { HasLost arena.now lists.old lists.new frames.old frames.new leaf.0 first }
 {
     drop_rows(arena, lists, frames, leaf, first);
     let node = arena.node(leaf);

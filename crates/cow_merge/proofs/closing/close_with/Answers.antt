@@ -39,7 +39,7 @@ returns-in_default-clause-closed c =
       | in_default-via-in-Some+in_default w ↦
           root-of c.node.result c.sibling.result (c.sibling.ensures.root c.node.result c.node.ensures) w.in_default.is-1
       | in_default-via-in_default w ↦ w.in_default.is-0
-    ]) (c.leave_out.ensures.left c.node.result c.node.ensures) c.remove_root.ensures.nodes c.remove_root.ensures.lists
+    ]) (c.leave_out.ensures.left c.node.result c.node.ensures) c.leave_out.ensures.lost.moves c.remove_root.ensures.nodes c.remove_root.ensures.lists
     c.remove_root.ensures.visible c.remove_root.ensures.forest
 
 pub leave_out_above-requires-clause-leaf : goal.leave_out_above-requires-clause-leaf
@@ -65,7 +65,7 @@ returns-else-goes_over-clause-closed c =
     let of = was.now.of in
     let empty : (p : ℕ) → slots_of c.lift_rows.new.lists of.parent.list.0 p ≡ None = λ p. c.lift_rows.ensures.empty of.parent of.family.parent_at p (omega arith) tt in
     closed-spliced c.args.arena.now c.splice.new.self c.args.lists.now c.lift_rows.new.lists c.args.frames.now c.lift_rows.new.frames c.args.leaf.0
-    c.in-Some-Some.hidden.0 c.in-Some-Some.sibling.0 of.node of.parent of.sibling of.visible of.family (lifting-end was.now was.moves empty) empty
+    c.in-Some-Some.hidden.0 c.in-Some-Some.sibling.0 of.node of.parent of.sibling of.visible of.family (lifting-end was.now empty) was.moves empty
     (c.splice.ensures.nodes c.in-Some-Some.hidden.0 c.in-Some-Some.sibling.0 of.node of.parent of.sibling of.family) c.splice.ensures.lists c.splice.ensures.visible
 
 -- ---- the parent's list goes over
@@ -121,7 +121,7 @@ returns-in_default-clause-ways c =
       | in_default-via-in-Some+in_default w ↦
           root-of c.node.result c.sibling.result (c.sibling.ensures.root c.node.result c.node.ensures) w.in_default.is-1
       | in_default-via-in_default w ↦ w.in_default.is-0
-    ]) c.leave_out.ensures.part c.remove_root.ensures.nodes c.remove_root.ensures.lists c.remove_root.ensures.forest
+    ]) c.leave_out.ensures.lost.part c.remove_root.ensures.nodes c.remove_root.ensures.lists c.remove_root.ensures.forest
 
 pub returns-else-goes_over-clause-ways : goal.returns-else-goes_over-clause-ways
 returns-else-goes_over-clause-ways c =

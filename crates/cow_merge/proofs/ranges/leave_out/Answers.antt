@@ -14,18 +14,18 @@ use Rattle.cow_merge.proofs.ranges.leave_out.Goals as goal
 
 pub returns-in_default-clause-left : goal.returns-in_default-clause-left
 returns-in_default-clause-left c = λ node at.
-    sparing-none at c.drop_rows.ensures.lost (passing-top (passing-start c.drop_rows.ensures.bare c.node-node.ensures)
+    sparing-none at (passing-top (passing-start c.drop_rows.ensures.bare c.node-node.ensures)
     (λ parent is q from one two apart. no-parent c.node-node.result.parent parent
     (root-of c.node-node.result c.sibling.result (c.sibling.ensures.root c.node-node.result c.node-node.ensures) c.in_default.is-1) is))
 
 pub returns-in_default-2-clause-left : goal.returns-in_default-2-clause-left
 returns-in_default-2-clause-left c = λ node at.
-    sparing-none at c.drop_rows.ensures.lost (passing-top (passing-start c.drop_rows.ensures.bare c.node-node.ensures)
+    sparing-none at (passing-top (passing-start c.drop_rows.ensures.bare c.node-node.ensures)
     (λ parent is q from one two apart. absurd (let root = c.sibling.ensures.root c.node-node.result c.node-node.ensures in cc)))
 
 pub returns-then-node-first-clause-left : goal.returns-then-node-first-clause-left
 returns-then-node-first-clause-left c = λ node at.
-    sparing-none at c.drop_rows.ensures.lost (passing-top (passing-start c.drop_rows.ensures.bare c.node-node.ensures)
+    sparing-none at (passing-top (passing-start c.drop_rows.ensures.bare c.node-node.ensures)
     (λ parent is q from one two apart. absurd (omega arith)))
 
 pub node-above-requires : goal.node-above-requires
@@ -82,24 +82,14 @@ leave_out_further-requires-clause-end c = λ node at.
 
 pub returns-clause-left : goal.returns-clause-left
 returns-clause-left c = λ node at.
-    sparing-none at (lost-then (lost-then c.drop_rows.ensures.lost c.cut_rows.ensures.lost) c.leave_out_further.ensures.lost)
-    (c.leave_out_further.ensures.sparing None c.node-above.result c.node-above.ensures (c.cut_rows.ensures.passing None
+    sparing-none at (c.leave_out_further.ensures.sparing None c.node-above.result c.node-above.ensures (c.cut_rows.ensures.passing None
     (passing-parent c.drop_rows.ensures.bare c.node-node.ensures c.in-Some-Some.is-0 c.node-above.ensures)))
 
 -- ---- the rows that are left stood there
 
-pub returns-in_default-clause-part : goal.returns-in_default-clause-part
-returns-in_default-clause-part c = c.drop_rows.ensures.lost.part
-
-pub returns-in_default-2-clause-part : goal.returns-in_default-2-clause-part
-returns-in_default-2-clause-part c = c.drop_rows.ensures.lost.part
-
-pub returns-then-node-first-clause-part : goal.returns-then-node-first-clause-part
-returns-then-node-first-clause-part c = c.drop_rows.ensures.lost.part
-
-pub returns-clause-part : goal.returns-clause-part
-returns-clause-part c =
-    (lost-then (lost-then c.drop_rows.ensures.lost c.cut_rows.ensures.lost) c.leave_out_further.ensures.lost).part
+pub returns-clause-lost : goal.returns-clause-lost
+returns-clause-lost c =
+    lost-then (lost-then c.drop_rows.ensures.lost c.cut_rows.ensures.lost) c.leave_out_further.ensures.lost
 
 -- ---- the jumps
 

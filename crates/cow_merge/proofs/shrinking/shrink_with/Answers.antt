@@ -12,5 +12,5 @@ pub returns : goal.returns
 returns c =
     let leaf = shrinking-of c.args.arena.now c.args.leaf.0 c.args.count c.requires.leaf in
     shrunk c.args.arena.now c.narrow.new.arena c.set_count.new.self c.args.leaf.0 c.args.count leaf.node leaf.visible (c.narrow.ensures leaf.node leaf.visible.at)
-    c.args.lists.now c.leave_out.new.lists c.args.frames.now c.leave_out.new.frames leaf.few (c.leave_out.ensures.left leaf.node leaf.visible.at) c.leave_out.ensures.part
+    c.args.lists.now c.leave_out.new.lists c.args.frames.now c.leave_out.new.frames leaf.few (c.leave_out.ensures.left leaf.node leaf.visible.at) c.leave_out.ensures.lost
     c.set_count.ensures.nodes c.set_count.ensures.lists c.set_count.ensures.hidden c.set_count.ensures.visible c.set_count.ensures.forest
