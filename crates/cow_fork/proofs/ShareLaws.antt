@@ -15,17 +15,9 @@ use Rattle.cow_arena.specs.Counts.{hidden_count, visible_count}
 use Rattle.cow_split.specs.Trees.{tree_of}
 use Rattle.cow_split.specs.Sight.{StaysVisible}
 use Rattle.cow_split.specs.Exact.{IsExact, all_in_sight}
-use Rattle.cow_fork.specs.Snapshots.{split_slots, ArePlain}
+use Rattle.cow_fork.specs.Snapshots.{split_slots}
 use Rattle.cow_fork.specs.Sharing.{HasShared}
 use Rattle.cow_fork.proofs.SnapshotLaws.{exact-snapshot, snapshot-stays, snapshot-comes, snapshot-no_more, snapshot-shows, snapshot-child, snapshot-child_past}
-
--- the rows of a VMO's node
-pub exact-plain : (t : Tree) (out : ℕ → ℕ → Bool) (in_use : ℕ → Bool) → IsExact t out in_use → (v : ℕ) (node : Node) → IsVisible t.nodes v node →
-    ArePlain t.slots node.list.0 node.count
-exact-plain t out in_use exact v node visible = record {
-  plain = λ q tag left right e. exact.plain v q node tag left right visible e;
-  below = λ q row e. exact.below v q node row visible e;
-}
 
 -- the tree after a snapshot of node v
 abbrev snapshot_tree : Tree → (v : ℕ) → Node → (h c : ℕ) → Koid → (first seen pages : ℕ) → Tree

@@ -11,5 +11,5 @@ mod sharing;
 mod zeroing;
 
 pub use forking::{fork, fork_holder};
-pub use sharing::share;
+pub use sharing::{Snapshot, share};
 pub use zeroing::{mark_zero, zero_by_jumps};

@@ -13,33 +13,44 @@ use cow_arena::{CowArena, NodeId, Pair};
 use page_list::{ListId, PageLists, Slot};
 use vm_base::{HostMemory, Koid, PageNo};
 
-/// Puts a hidden node over the node of a VMO and the new node of a snapshot of it. The snapshot has `count` pages and
-/// sees `seen` pages of the VMO from page `first` on. Two nodes are added, and no row. The rows of the VMO's list
-/// become the hidden node's. Each is marked as seen from the left, and as seen from the right if the snapshot sees it.
-/// The call looks only at rows outside the pages that the snapshot sees.
+/// A snapshot of a VMO. It has `count` pages, and the first `seen` of them are those of the VMO from page `first` on.
+#[derive(Clone, Copy)]
+pub struct Snapshot {
+    pub koid: Koid,
+    pub first: PageNo,
+    pub seen: PageNo,
+    pub count: PageNo,
+}
+
+/// Puts a hidden node over the node of a VMO and the new node of a snapshot of it. Two nodes are added, and no row. The
+/// rows of the VMO's list become the hidden node's. Each is marked as seen from the left, and as seen from the right if
+/// the snapshot sees it. The call looks only at rows outside the pages that the snapshot sees.
 ///
 /// `HostMemory`, with nothing changed, if the host has too little memory. Fewer than 2^64 - 2 lists were given before.
 pub fn share(
     arena: &mut CowArena,
     lists: &mut PageLists,
     leaf: NodeId,
-    koid: Koid,
-    first: PageNo,
-    seen: PageNo,
-    count: PageNo,
+    snapshot: Snapshot,
 ) -> Result<Pair, HostMemory>
     requires exact { (in_use : ℕ → Bool) × IsExact (tree_of arena.old lists.old) all_in_sight in_use }
-    requires leaf { IsSomeAnd (nodes_of arena.old leaf.0) (λ node. IsSome node.koid × (first + seen ≤ node.count)) }
-    requires seen { seen ≤ count }
+    requires leaf { IsSomeAnd (nodes_of arena.old leaf.0) (λ node. IsSome node.koid × (snapshot.first + snapshot.seen ≤ node.count)) }
+    requires seen { snapshot.seen ≤ snapshot.count }
     requires lists { arena.old.lists + 2 < 2 ^ 64 }
     ensures ok { IfOk result (λ pair.
-        HasShared arena.old arena.new lists.old lists.new leaf.0 pair koid first seen count) }
+        HasShared arena.old arena.new lists.old lists.new leaf.0 pair snapshot.koid snapshot.first snapshot.seen snapshot.count) }
     ensures err { OnErr result (nodes_of arena.new ≡ nodes_of arena.old) }
     ensures err_lists { OnErr result (arena.new.lists ≡ arena.old.lists) }
     ensures err_hidden { OnErr result (hidden_count arena.new ≡ hidden_count arena.old) }
     ensures err_visible { OnErr result (visible_count arena.new ≡ visible_count arena.old) }
     ensures err_rows { OnErr result (lists.new ≡ lists.old) }
 {
+    let Snapshot {
+        koid,
+        first,
+        seen,
+        count,
+    } = snapshot;
     let node = arena.node(leaf);
     let pair = arena.add_pair(leaf, koid, first, seen, count)?;
     split_rows(lists, node.list, first, seen, node.count);
