@@ -30,8 +30,8 @@ use Rattle.cow_split.proofs.RowLaws.{left_out-in_sight}
 use Rattle.cow_split.proofs.PartLaws.{part-none}
 use Rattle.cow_merge.specs.declared.witness.Way.{Way}
 use Rattle.cow_merge.specs.inside.Lifting.{IsFamilyOf}
-use Rattle.cow_merge.specs.Ranges.{no_pages, CameTo, IsSpared, IsPassing, IsOnlyWay, HasPassedRow, HasLeftPageOut, IsExactFor, KeepsList, KeepsOthers, HasLost, HasKept}
-use Rattle.cow_merge.specs.inside.Witness.{IsWayWithin, IsEntered, ComesBeside, IsBeside, SeesRowOf, IsPageCut}
+use Rattle.cow_merge.specs.Ranges.{no_pages, CameTo, IsSpared, IsPassing, IsOnlyWay, IsCutOr, ComesNotTo, HasLeftPageOut, IsExactFor, KeepsList, KeepsOthers, HasLost, HasKept}
+use Rattle.cow_merge.specs.inside.Witness.{IsWayWithin, IsEntered, ComesBeside, IsBeside, SeesRowOf, ShowsOnlyOf}
 use Rattle.cow_arena.proofs.SpliceWalkLaws.{family-parent}
 use Rattle.cow_merge.proofs.LiftedLaws.{family-other}
 use Rattle.cow_merge.proofs.RangeLaws.{arrives-part, kept-same, bare-kept, bare-lost, bare-more, lost-kept}
@@ -174,8 +174,7 @@ module _ {arena : Arena} {mid : Rows Row} (new : Rows Row) {between : Pool} (aft
           ap (t.slots above.list.0) page ∙ (ap (λ (n : Node). t.slots n.list.0 sees.page) (sym node) ∙ sees.row.row) in
           absurd (let none = came.free came.below in cc)
 
-  beside-left : HasKept mid new between after × ((tag : ℕ) → frame_shown (tree_of arena mid) v own ≡ Some tag → SeesRowOf (tree_of arena mid) v own h) →
-      IsBeside arena new after v first spared h above base to s way (page + 1)
+  beside-left : HasKept mid new between after × ShowsOnlyOf (tree_of arena mid) v own h → IsBeside arena new after v first spared h above base to s way (page + 1)
   beside-left left =
       let kept = left.0 in
       record {
@@ -197,10 +196,10 @@ module _ {arena : Arena} {mid : Rows Row} (new : Rows Row) {between : Pool} (aft
             ];
       }
 
-  pub beside-cut : IsPageCut arena mid new between after v own h → IsBeside arena new after v first spared h above base to s way (page + 1)
+  pub beside-cut : IsCutOr arena mid new between after v own (ShowsOnlyOf (tree_of arena mid) v own h) → IsBeside arena new after v first spared h above base to s way (page + 1)
   beside-cut cut = elim cut [ inl out ↦ beside-out out | inr left ↦ beside-left left ]
 
-  pub beside-lost : IsPageCut arena mid new between after v own h → HasLost arena mid new between after v first
+  pub beside-lost : IsCutOr arena mid new between after v own (ShowsOnlyOf (tree_of arena mid) v own h) → HasLost arena mid new between after v first
   beside-lost cut = elim cut [
     | inl out ↦ bare-lost was.bare out (omega (arith, low))
     | inr left ↦ lost-kept left.0
@@ -245,7 +244,7 @@ module _ (arena : Arena) (old : Rows Row) (pool : Pool) (v p h : ℕ) (has : IsE
 
   -- no row is seen
   pub page-nothing : ((node : NodeId) (page : ℕ) (side : Side) (slot : Slot) → found ≡ holder.Above node page side slot → ⊥) →
-      IsPageCut arena old old pool pool v p h
+      IsCutOr arena old old pool pool v p (ShowsOnlyOf (tree_of arena old) v p h)
   page-nothing none = inr (kept-same, λ tag shown. absurd (no-frame found is none tag shown))
 
   module _ (node : NodeId) (page : ℕ) (side : Side) (slot : Slot) (above_is : found ≡ holder.Above node page side slot) where
@@ -265,7 +264,7 @@ module _ (arena : Arena) (old : Rows Row) (pool : Pool) (v p h : ℕ) (has : IsE
         subst (λ (n : Node). n.koid ≡ None) (some_same (sym it.1 ∙ at)) it.2
 
     -- the parent's row is seen
-    pub page-parent : node.0 ≡ h → IsPageCut arena old old pool pool v p h
+    pub page-parent : node.0 ≡ h → IsCutOr arena old old pool pool v p (ShowsOnlyOf (tree_of arena old) v p h)
     page-parent same = inr (
       kept-same,
       λ tag shown. record {
@@ -278,8 +277,9 @@ module _ (arena : Arena) (old : Rows Row) (pool : Pool) (v p h : ℕ) (has : IsE
     )
 
     -- a row further up is
-    pub page-other : (new : Rows Row) (after : Pool) → HasPassedRow arena old new pool after v p side node.0 page → IsPageCut arena old new pool after v p h
-    page-other new after passed = inl (passed.came page-way)
+    pub page-other : (new : Rows Row) (after : Pool) → IsCutOr arena old new pool after v p (ComesNotTo (tree_of arena old) v p node.0 page) →
+        IsCutOr arena old new pool after v p (ShowsOnlyOf (tree_of arena old) v p h)
+    page-other new after passed = elim passed [ inl out ↦ inl out | inr kept ↦ absurd (kept.1 (Some side) page-way) ]
 
     pub page-keeps : (new : Rows Row) → node.0 ≢ h → ((at : Node) → nodes_of arena node.0 ≡ Some at → KeepsOthers old new at.list.0) → (above : Node) →
         nodes_of arena h ≡ Some above → KeepsList old new above.list.0

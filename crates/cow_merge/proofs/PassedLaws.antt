@@ -1,5 +1,5 @@
 -- A row of a hidden node is passed on the way up: the page of v that comes to it is cut off there, or nothing changes.
-use Rattle.std.proofs.Common.{◌≡◌, ◌≢◌, ℕ, ◌+◌, ◌-◌, ◌<◌, ◌≤◌, Bool, true, Option, None, Some, inl, inr, IsSome}
+use Rattle.std.proofs.Common.{◌≡◌, ℕ, ◌+◌, ◌-◌, ◌<◌, ◌≤◌, Bool, true, Option, None, Some, inl, inr, IsSome}
 use Rattle.std.proofs.Common.{refl, sym, ap, subst, ◌∙◌, arith}
 use Rattle.std.specs.Prelude.{is_some}
 use Rattle.std.proofs.lemmas.Bool.{cases_Bool}
@@ -19,7 +19,7 @@ use Rattle.cow_arena.specs.Nodes.{Arena, nodes_of, IsVisible, side_of}
 use Rattle.cow_arena.specs.Walk.{Tree}
 use Rattle.cow_arena.specs.Forest.{IsForest}
 use Rattle.cow_arena.specs.Ways.{HasRow, Climbs, Reaches, Arrives, IsPartOf}
-use Rattle.cow_arena.proofs.ReachLaws.{reach-cases, reach-after, reach-apart, reach-deeper, reach-hidden, side-is, found-of-reach, arrives-or-not}
+use Rattle.cow_arena.proofs.ReachLaws.{reach-cases, reach-after, reach-apart, reach-hidden, side-is, found-of-reach, arrives-or-not}
 use Rattle.cow_split.specs.declared.answers.Cut.{Cut}
 use Rattle.cow_split.specs.declared.answers.Cut.TheVariants as cut
 use Rattle.cow_split.specs.Trees.{tree_of}
@@ -30,7 +30,7 @@ use Rattle.cow_split.specs.Cutting.{frame_left, HasCut, IsUnseenBy}
 use Rattle.cow_split.proofs.ExactLaws.{cases_place}
 use Rattle.cow_split.proofs.RowLaws.{left_out-here, left_out-other}
 use Rattle.cow_split.proofs.PartLaws.{part-same}
-use Rattle.cow_merge.specs.Ranges.{bare_of, bit_on, is_split, HasGiven, IsOnlyWay, HasPassedRow, IsExactFor}
+use Rattle.cow_merge.specs.Ranges.{bare_of, bit_on, is_split, HasGiven, IsOnlyWay, IsCutOr, ComesNotTo, IsExactFor}
 use Rattle.cow_merge.proofs.RangeLaws.{reach-part, given-none, cut-taken, cut-left_out, accounts-same, accounts-part, kept-same}
 
 -- ---- the ways through the windows
@@ -61,9 +61,6 @@ module _ (arena : Arena) (f : IsForest (nodes_of arena) arena.lists) where
         let it = reach-hidden (bare_of arena) f v first from h (first + shift) way in
         subst (λ (n : Node). n.koid ≡ None) (some_same (sym it.1 ∙ at)) it.2
 
-    pub bare-apart : h ≢ v
-    bare-apart same = let deeper = reach-deeper (bare_of arena) f v first from h (first + shift) way in let one = ap f.rank same in absurd (omega arith)
-
 -- ---- one row of a hidden node
 
 -- where no page of v but p can come to the row, and p does not, none does
@@ -76,7 +73,16 @@ unseen-by t out v p from h q above at hidden only none = record {
   none = λ x sight way. none (subst (λ x. Reaches t v x from h q) (only.only x from way).0 way);
 }
 
-module _ (arena : Arena) (old new : Rows Row) (v p : ℕ) (from : Side) (h q : ℕ) (slot : Slot) (pool : Pool) (answer : Cut)
+-- what comes to the row comes from this side
+from-there : (t : Tree) (v p : ℕ) (from : Side) (h q : ℕ) (node : Node) → IsVisible t.nodes v node →
+    ((above : Node) → t.nodes h ≡ Some above → above.koid ≡ None) → IsOnlyWay t v p from h q → (side : Option Side) → Arrives t v p side h q → Reaches t v p from h q
+from-there t v p from h q node visible hidden only None way =
+    let none = ap is_some (hidden node (ap t.nodes (sym way.0) ∙ visible.at)) in
+    let shown = visible.koid in
+    absurd (cc)
+from-there t v p from h q node visible hidden only (Some side) way = subst (λ s. Reaches t v p s h q) (only.only p side way).1 way
+
+module _ {arena : Arena} {old new : Rows Row} {v p : ℕ} {from : Side} {h q : ℕ} {slot : Slot} {pool : Pool} {answer : Cut}
     (has : IsExactFor arena old pool v) (bare : slots_of old has.node.list.0 p ≡ None)
     (row : HasRow (tree_of arena old) h q slot) (hidden : (above : Node) → nodes_of arena h ≡ Some above → above.koid ≡ None)
     (only : IsOnlyWay (tree_of arena old) v p from h q)
@@ -85,40 +91,32 @@ module _ (arena : Arena) (old new : Rows Row) (v p : ℕ) (from : Side) (h q : �
   stayed : (Reaches (tree_of arena old) v p from h q → ⊥) → (slots_of new ≡ slots_of old) × (frame_left answer ≡ None)
   stayed none = unseen (unseen-by (tree_of arena old) has.out v p from h q row.node row.at (hidden row.node row.at) only none)
 
+  comes : (side : Option Side) → Arrives (tree_of arena old) v p side h q → Reaches (tree_of arena old) v p from h q
+  comes = from-there (tree_of arena old) v p from h q has.node has.visible hidden only
+
   -- the frame that is to be given back is taken
   pub row-taken : (tag : Tag) → answer ≡ cut.LastViewer tag → IsSome (taken_frames pool tag.0)
   row-taken tag is = elim (arrives-or-not (tree_of arena old) has.exact.forest h q v p) [
-    | inl way ↦ on_way way.0 way.1
-    | inr none ↦ not_there (stayed (λ way. none (Some from) way))
+    | inl way ↦ cut-taken arena old new v p has.node has.visible pool has.out answer tag has.exact has.only bare (seen (comes way.0 way.1)) is
+    | inr none ↦ absurd (let stays = stayed (λ way. none (Some from) way) in let left = ap frame_left is in let nothing = stays.1 in cc)
   ]
-    where
-      not_there : (slots_of new ≡ slots_of old) × (frame_left answer ≡ None) → IsSome (taken_frames pool tag.0)
-      not_there stays = let left = ap frame_left is in let none = stays.1 in absurd (cc)
-
-      on_way : (side : Option Side) → Arrives (tree_of arena old) v p side h q → IsSome (taken_frames pool tag.0)
-      on_way None way =
-          let same : row.node ≡ has.node = some_same (sym row.at ∙ (ap (nodes_of arena) (sym way.0) ∙ has.visible.at)) in
-          let none = ap is_some (ap (λ (n : Node). n.koid) (sym same) ∙ hidden row.node row.at) in
-          let shown = has.visible.koid in
-          absurd (cc)
-      on_way (Some side) way =
-          let same = (only.only p side way).1 in
-          cut-taken arena old new v p has.node has.visible pool has.out answer tag has.exact has.only bare
-          (seen (subst (λ s. Reaches (tree_of arena old) v p s h q) same way)) is
 
   pub row-passed : (after : Pool) → HasGiven pool after (frame_left answer) → old.spare ≤ new.spare → row_count new ≤ row_count old →
-      HasPassedRow arena old new pool after v p from h q
-  row-passed after given spare count = record {
-    came = λ way. cut-left_out arena old new v p has.node has.visible pool after answer has.exact.forest bare (seen way) given;
-    stays = λ none.
-        let stays = stayed none in
+      IsCutOr arena old new pool after v p (ComesNotTo (tree_of arena old) v p h q)
+  row-passed after given spare count = elim (arrives-or-not (tree_of arena old) has.exact.forest h q v p) [
+    | inl way ↦ inl (cut-left_out arena old new v p has.node has.visible pool after answer has.exact.forest bare (seen (comes way.0 way.1)) given)
+    | inr none ↦
+        let stays = stayed (λ way. none (Some from) way) in
         let same = subst (λ o. HasGiven pool after o) stays.1 given in
-        record {
-          rows = stays.0;
-          taken = λ t. same.taken t ∙ kept t;
-          accounts = accounts-part old new pool after None (subst (λ s. IsPartOf (slots_of old) s) (sym stays.0) (part-same (slots_of old))) same spare count;
-        };
-  }
+        inr (
+          record {
+            rows = stays.0;
+            taken = λ t. same.taken t ∙ kept t;
+            accounts = accounts-part old new pool after None (subst (λ s. IsPartOf (slots_of old) s) (sym stays.0) (part-same (slots_of old))) same spare count;
+          },
+          none,
+        )
+  ]
     where
       kept : (t : ℕ) → without_frame (is_taken pool) None t ≡ is_taken pool t
       kept t = sym ((given-none pool).taken t)
@@ -172,17 +170,19 @@ out-again out v p gone w r = elim (cases_place v p w r) [
 ]
 
 -- so nothing has to change
-pub split-passed : (arena : Arena) (rows : Rows Row) (pool : Pool) (v p : ℕ) (node : Node) (from : Side) (h q : ℕ) (slot : Slot) →
-    IsVisible (nodes_of arena) v node → HasRow (tree_of arena rows) h q slot → ((above : Node) → nodes_of arena h ≡ Some above → above.koid ≡ None) →
-    is_split from slot ≡ true → HasPassedRow arena rows rows pool pool v p from h q
-split-passed arena rows pool v p node from h q slot visible row hidden split = record {
-  came = λ way. record {
-    exact = λ out exact only.
-        let gone = split-out (tree_of arena rows) out (is_taken pool) exact v p node visible from h q way row.node slot row.at (hidden row.node row.at) row.row split in
+pub split-passed : (arena : Arena) (rows : Rows Row) (pool : Pool) (v p : ℕ) (from : Side) (h q : ℕ) (slot : Slot) (has : IsExactFor arena rows pool v) →
+    HasRow (tree_of arena rows) h q slot → ((above : Node) → nodes_of arena h ≡ Some above → above.koid ≡ None) → IsOnlyWay (tree_of arena rows) v p from h q →
+    is_split from slot ≡ true → IsCutOr arena rows rows pool pool v p (ComesNotTo (tree_of arena rows) v p h q)
+split-passed arena rows pool v p from h q slot has row hidden only split = elim (arrives-or-not (tree_of arena rows) has.exact.forest h q v p) [
+  | inl way ↦ inl (record {
+    exact = λ out exact only_of.
+        let reaches = from-there (tree_of arena rows) v p from h q has.node has.visible hidden only way.0 way.1 in
+        let gone = split-out (tree_of arena rows) out (is_taken pool) exact v p has.node has.visible from h q reaches row.node slot row.at
+        (hidden row.node row.at) row.row split in
         subst (λ o. IsExact (tree_of arena rows) o (is_taken pool)) (λ i w r. out-again out v p gone w r i) exact;
-    shows = λ out exact only w r page sight. refl;
+    shows = λ out exact only_of w r page sight. refl;
     part = part-same (slots_of rows);
     accounts = accounts-same rows pool;
-  };
-  stays = λ none. kept-same;
-}
+  })
+  | inr none ↦ inr (kept-same, none)
+]

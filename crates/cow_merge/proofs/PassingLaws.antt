@@ -20,9 +20,9 @@ use Rattle.cow_arena.specs.declared.node.Side.{Side}
 use Rattle.cow_arena.specs.Nodes.{Arena, Nodes, nodes_of, IsVisible, link_to}
 use Rattle.cow_arena.specs.Walk.{Slots, Tree, tree_with, Found, walk, frame_in, frame_found, frame_shown, from_side}
 use Rattle.cow_arena.specs.Forest.{IsForest}
-use Rattle.cow_arena.specs.Ways.{Climbs, Reaches, Arrives, IsPartOf}
+use Rattle.cow_arena.specs.Ways.{Climbs, Arrives, IsPartOf}
 use Rattle.cow_arena.proofs.WalkLaws.{walk-past}
-use Rattle.cow_arena.proofs.ReachLaws.{reach-one, reach-after, climb-side, walk-from, walk-ends, found-of-reach, arrives-or-not}
+use Rattle.cow_arena.proofs.ReachLaws.{reach-one, reach-after, climb-side, walk-from, walk-ends, found-of-reach}
 use Rattle.cow_split.specs.Trees.{tree_of}
 use Rattle.cow_split.specs.Cost.{nodes_up}
 use Rattle.cow_split.specs.Sight.{IsPage, Sees}
@@ -32,7 +32,7 @@ use Rattle.cow_split.proofs.ExactLaws.{exact-seen_alike, seen-carried}
 use Rattle.cow_split.proofs.RowLaws.{left_out-in_sight, frame-shown}
 use Rattle.cow_split.proofs.PartLaws.{part-same, part-none}
 use Rattle.cow_merge.specs.declared.ranges.Pages.{Pages}
-use Rattle.cow_merge.specs.Ranges.{leaving_range, HasLeftPageOut, IsLeftBare, CameTo, IsHeldBy, IsSpared, IsParent, IsOnlyWay, HasKept, HasPassedRow, IsPassing, IsSparing, IsLeftOut, IsOutside, no_pages, IsNextOutside, HasLost}
+use Rattle.cow_merge.specs.Ranges.{leaving_range, HasLeftPageOut, IsLeftBare, CameTo, IsHeldBy, IsSpared, IsParent, HasKept, IsCutOr, ComesNotTo, IsPassing, IsSparing, IsLeftOut, IsOutside, no_pages, IsNextOutside, HasLost}
 use Rattle.cow_merge.proofs.CountLaws.{outside-other, outside-before}
 use Rattle.cow_merge.proofs.RangeLaws.{arrives-part, bare-more, bare-kept, bare-lost, lost-kept}
 
@@ -327,38 +327,21 @@ module _ {arena : Arena} {mid : Rows Row} (new : Rows Row) {between : Pool} (aft
   }
 
   -- what went, went from the pages of v
-  pub passing-lost : (h : ℕ) (from : Side) → nodes_of arena h ≡ Some above → h ≢ v → IsOnlyWay (tree_of arena mid) v (row - shift) from h row →
-      HasPassedRow arena mid new between after v (row - shift) from h row → HasLost arena mid new between after v first
-  passing-lost h from at apart only step = elim (arrives-or-not (tree_of arena mid) was.bare.has.exact.forest h row v (row - shift)) [
-    | inl way ↦ on_way way.0 way.1
-    | inr none ↦ lost-kept (step.stays (λ way. none (Some from) way))
+  pub passing-lost : (h : ℕ) → IsCutOr arena mid new between after v (row - shift) (ComesNotTo (tree_of arena mid) v (row - shift) h row) →
+      HasLost arena mid new between after v first
+  passing-lost h step = elim step [ inl out ↦ bare-lost was.bare out row-past | inr kept ↦ lost-kept kept.0 ]
+
+  pub passing-cut : (h : ℕ) → nodes_of arena h ≡ Some above →
+      IsCutOr arena mid new between after v (row - shift) (ComesNotTo (tree_of arena mid) v (row - shift) h row) →
+      IsPassing arena new after v first skip spared above shift to (row + 1)
+  passing-cut h at step = elim step [
+    | inl out ↦ passing-out out
+    | inr kept ↦ passing-kept kept.0
+        (λ q side e way. kept.1 side (subst (λ x. Arrives (tree_of arena mid) v x side h row) e (subst (λ i. Arrives (tree_of arena mid) v q side i row) here way)))
   ]
     where
-      on_way : (side : Option Side) → Arrives (tree_of arena mid) v (row - shift) side h row → HasLost arena mid new between after v first
-      on_way None way = absurd (apart (sym way.0))
-      on_way (Some side) way = bare-lost was.bare
-          (step.came (subst (λ s. Reaches (tree_of arena mid) v (row - shift) s h row) (only.only (row - shift) side way).1 way)) row-past
-
-  pub passing-cut : (h : ℕ) (from : Side) → nodes_of arena h ≡ Some above → h ≢ v → IsOnlyWay (tree_of arena mid) v (row - shift) from h row →
-      HasPassedRow arena mid new between after v (row - shift) from h row → IsPassing arena new after v first skip spared above shift to (row + 1)
-  passing-cut h from at apart only step = elim (arrives-or-not t f h row v (row - shift)) [
-    | inl way ↦ on_way way.0 way.1
-    | inr none ↦ passing-kept (step.stays (λ way. none (Some from) way))
-        (λ q side e way. none side (subst (λ x. Arrives t v x side h row) e (subst (λ i. Arrives t v q side i row) here way)))
-  ]
-    where
-      t : Tree
-      t = tree_of arena mid
-
-      f : IsForest (nodes_of arena) arena.lists
-      f = was.bare.has.exact.forest
-
       here : was.h ≡ h
-      here = f.by.own was.h h above above was.at at refl
-
-      on_way : (side : Option Side) → Arrives t v (row - shift) side h row → IsPassing arena new after v first skip spared above shift to (row + 1)
-      on_way None way = absurd (apart (sym way.0))
-      on_way (Some side) way = passing-out (step.came (subst (λ s. Reaches t v (row - shift) s h row) (only.only (row - shift) side way).1 way))
+      here = was.bare.has.exact.forest.by.own was.h h above above was.at at refl
 
 module _ {arena : Arena} {new : Rows Row} {after : Pool} {v first : ℕ} {skip : Pages} {spared : Option NodeId} {above : Node} {shift to upto : ℕ} where
   -- no row is left that they could come to

@@ -196,11 +196,13 @@ pub record HasKept (old new : Rows Row) (before after : Pool) : Type 0 where
   pub taken : (t : ℕ) → is_taken after t ≡ is_taken before t
   pub accounts : Accounts old new before after
 
--- The row of page q of node h is passed. If page p of v comes to the row, it is left out of sight. Otherwise nothing
--- has changed.
-pub record HasPassedRow (arena : Arena) (old new : Rows Row) (before after : Pool) (v p : ℕ) (from : Side) (h q : ℕ) : Type 0 where
-  pub came : Reaches (tree_of arena old) v p from h q → HasLeftPageOut arena old new before after v p
-  pub stays : (Reaches (tree_of arena old) v p from h q → ⊥) → HasKept old new before after
+-- Page p of v is left out of sight. Or nothing has changed, and this holds of the page.
+abbrev pub IsCutOr : Arena → (old new : Rows Row) → (before after : Pool) → (v p : ℕ) → Type 0 → Type 0
+IsCutOr arena old new before after v p Holds = HasLeftPageOut arena old new before after v p ⊎ HasKept old new before after × Holds
+
+-- no walk from page p of v comes to page q of node h
+abbrev pub ComesNotTo : Tree → (v p h q : ℕ) → Type 0
+ComesNotTo t v p h q = (side : Option Side) → Arrives t v p side h q → ⊥
 
 -- The pages of the visible node v from `first` on are out of sight: the tree is exact with them left out, and v has no
 -- rows there.

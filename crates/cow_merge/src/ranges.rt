@@ -17,7 +17,7 @@ ghost use Rattle.cow_split.specs.declared.answers.Cut.TheVariants as cut;
 ghost use Rattle.balanced_tree.specs.Pairs.{IsNext};
 ghost use Rattle.cow_jump.specs.Jumps.{MayJump};
 ghost use Rattle.cow_merge.specs.inside.Lifting.{IsFamilyOf};
-ghost use Rattle.cow_merge.specs.Ranges.{IsOutside, no_pages, IsNextOutside, bare_of, is_split, HasGiven, HasLost, IsLeftBare, IsPassing, IsOnItsWayUp, IsSparing, IsOnlyWay, HasPassedRow, KeepsList, KeepsOthers, IsLeftOut, IsExactFor};
+ghost use Rattle.cow_merge.specs.Ranges.{IsOutside, no_pages, IsNextOutside, bare_of, is_split, HasGiven, HasLost, IsLeftBare, IsPassing, IsOnItsWayUp, IsSparing, IsOnlyWay, IsCutOr, ComesNotTo, KeepsList, KeepsOthers, IsLeftOut, IsExactFor};
 
 use crate::places::{Arrival, Family, Span};
 use crate::witness::leave_out_beside;
@@ -355,7 +355,8 @@ pub(crate) fn cut_off(
     requires row { HasRow (tree_of arena.now lists.old) row.node.0 row.page row.slot }
     requires hidden { (above : Node) → nodes_of arena.now row.node.0 ≡ Some above → above.koid ≡ None }
     requires only { IsOnlyWay (tree_of arena.now lists.old) leaf.0 own row.side row.node.0 row.page }
-    ensures passed { HasPassedRow arena.now lists.old lists.new frames.old frames.new leaf.0 own row.side row.node.0 row.page }
+    ensures passed { IsCutOr arena.now lists.old lists.new frames.old frames.new leaf.0 own
+        (ComesNotTo (tree_of arena.now lists.old) leaf.0 own row.node.0 row.page) }
     ensures others { (above : Node) → nodes_of arena.now row.node.0 ≡ Some above → KeepsOthers lists.old lists.new above.list.0 }
 {
     if is_split(row.side, row.slot) {

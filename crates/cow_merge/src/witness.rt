@@ -10,8 +10,8 @@ ghost use Rattle.cow_arena.specs.Forest.{IsForest, IsChild};
 ghost use Rattle.cow_split.specs.Trees.{tree_of};
 ghost use Rattle.cow_jump.specs.Jumps.{MayJump};
 ghost use Rattle.cow_merge.specs.inside.Lifting.{IsFamilyOf};
-ghost use Rattle.cow_merge.specs.Ranges.{no_pages, HasLost, IsPassing, IsOnItsWayUp, IsExactFor, KeepsList};
-ghost use Rattle.cow_merge.specs.inside.Witness.{IsGoingDown, IsBeside, IsEntered, IsPageCut};
+ghost use Rattle.cow_merge.specs.Ranges.{no_pages, HasLost, IsPassing, IsOnItsWayUp, IsExactFor, KeepsList, IsCutOr};
+ghost use Rattle.cow_merge.specs.inside.Witness.{IsGoingDown, IsBeside, IsEntered, ShowsOnlyOf};
 
 use crate::places::{Family, Span, Window};
 use crate::ranges::{Pages, cut_off, next_below};
@@ -199,7 +199,8 @@ fn cut_page(
     requires exact { IsExactFor arena.now lists.old frames.old window.leaf.0 }
     requires bare { (node : Node) → nodes_of arena.now window.leaf.0 ≡ Some node → slots_of lists.old node.list.0 own ≡ None }
     requires jumps { MayJump (tree_of arena.now lists.old) (option_copied jumps) }
-    ensures cut { IsPageCut arena.now lists.old lists.new frames.old frames.new window.leaf.0 own window.hidden.0 }
+    ensures cut { IsCutOr arena.now lists.old lists.new frames.old frames.new window.leaf.0 own
+        (ShowsOnlyOf (tree_of arena.now lists.old) window.leaf.0 own window.hidden.0) }
     ensures kept { (above : Node) → nodes_of arena.now window.hidden.0 ≡ Some above → KeepsList lists.old lists.new above.list.0 }
 {
     let found = above_with(arena, lists, jumps, window.leaf, own);

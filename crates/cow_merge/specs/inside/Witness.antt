@@ -14,7 +14,7 @@ use Rattle.cow_arena.specs.Walk.{Tree, frame_shown}
 use Rattle.cow_arena.specs.Ways.{HasRow, Reaches, Arrives}
 use Rattle.cow_split.specs.Trees.{tree_of}
 use Rattle.cow_merge.specs.declared.witness.Way.{Way}
-use Rattle.cow_merge.specs.Ranges.{no_pages, CameTo, IsLeftBare, IsParent, IsSpared, HasLeftPageOut, HasKept}
+use Rattle.cow_merge.specs.Ranges.{no_pages, CameTo, IsLeftBare, IsParent, IsSpared}
 
 -- The pages of a way lie in the window of its node, and belong to pages of the leaf from `first` on. The leaf's pages
 -- come to pages of its parent `base` further on, below `to`.
@@ -81,8 +81,6 @@ pub record SeesRowOf (t : Tree) (v p h : ℕ) : Type 0 where
   pub way : Reaches t v p side h page
   pub row : HasRow t h page slot
 
--- page p of v is left out of sight. Or nothing has changed, and the page shows no frame but one of node h
-abbrev pub IsPageCut : Arena → (old new : Rows Row) → (before after : Pool) → (v p h : ℕ) → Type 0
-IsPageCut arena old new before after v p h =
-    HasLeftPageOut arena old new before after v p
-    ⊎ HasKept old new before after × ((tag : ℕ) → frame_shown (tree_of arena old) v p ≡ Some tag → SeesRowOf (tree_of arena old) v p h)
+-- page p of v shows no frame but one of node h
+abbrev pub ShowsOnlyOf : Tree → (v p h : ℕ) → Type 0
+ShowsOnlyOf t v p h = (tag : ℕ) → frame_shown t v p ≡ Some tag → SeesRowOf t v p h

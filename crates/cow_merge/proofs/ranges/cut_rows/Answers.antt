@@ -1,9 +1,7 @@
 -- Each row that is passed has cut off the page that came to it.
 use Rattle.std.proofs.Common.{◌-◌, refl, sym, ◌∙◌, arith}
-use Rattle.cow_arena.specs.Nodes.{nodes_of}
-use Rattle.cow_arena.specs.Forest.{IsForest}
 use Rattle.cow_merge.proofs.PassingLaws.{passing-bare, passing-cut, passing-end, passing-lost}
-use Rattle.cow_merge.proofs.PassedLaws.{bare-only, bare-hidden, bare-apart}
+use Rattle.cow_merge.proofs.PassedLaws.{bare-only, bare-hidden}
 use Rattle.cow_merge.proofs.ranges.cut_rows.Goals as goal
 use Rattle.cow_merge.proofs.RangeLaws.{lost-same, lost-then}
 
@@ -50,20 +48,14 @@ loop-row-smaller c = let next = c.in-Some.ensures.next in omega (arith, next.lea
 pub loop-row-preserved : goal.loop-row-preserved
 loop-row-preserved c =
     let next = c.in-Some.ensures.next in
-    let f : IsForest (nodes_of c.args.arena.now) c.args.arena.now.lists = c.requires.passing.passing.bare.has.exact.forest in
     record {
       from = omega (arith, next.least);
       below = omega (arith, next.below);
       passing = λ spared was.
-          passing-cut _ _ (c.loop-row.invariant.passing spared was) c.loop-row.invariant.from next c.args.arrival.at.0 c.args.arrival.side c.requires.node
-          (bare-apart c.args.arena.now f c.args.arrival.leaf.0 c.args.span.first c.args.span.shift c.args.arrival.at.0 c.args.arrival.side c.requires.way)
-          (bare-only c.args.arena.now f c.args.arrival.leaf.0 c.args.span.first c.args.span.shift c.args.arrival.at.0 c.args.arrival.side c.requires.way
-          c.loop-row.lists c.in-Some.row (omega (arith, next.least))) c.cut_off.ensures.passed;
+          passing-cut _ _ (c.loop-row.invariant.passing spared was) c.loop-row.invariant.from next c.args.arrival.at.0 c.requires.node c.cut_off.ensures.passed;
       lost =
           let under = c.requires.passing in
           lost-then c.loop-row.invariant.lost (passing-lost _ _ (c.loop-row.invariant.passing under.spared under.passing) c.loop-row.invariant.from next
-          c.args.arrival.at.0 c.args.arrival.side c.requires.node (bare-apart c.args.arena.now f c.args.arrival.leaf.0 c.args.span.first c.args.span.shift c.args.arrival.at.0 c.args.arrival.side c.requires.way)
-          (bare-only c.args.arena.now f c.args.arrival.leaf.0 c.args.span.first c.args.span.shift c.args.arrival.at.0 c.args.arrival.side c.requires.way
-          c.loop-row.lists c.in-Some.row (omega (arith, next.least))) c.cut_off.ensures.passed);
+          c.args.arrival.at.0 c.cut_off.ensures.passed);
       others = λ l apart q. c.cut_off.ensures.others c.args.arrival.node c.requires.node l apart q ∙ c.loop-row.invariant.others l apart q;
     }
