@@ -37,6 +37,7 @@ use Rattle.cow_merge.proofs.SpliceLaws.{IsWithout, without-page, without-showed,
 use Rattle.cow_merge.proofs.PassingLaws.{inside-range}
 use Rattle.cow_merge.proofs.ShrinkLaws.{tree-now}
 use Rattle.cow_merge.proofs.LiftedLaws.{lifted-exact}
+use Rattle.cow_merge.proofs.RangeLaws.{page-over}
 
 -- ---- all pages are out of sight
 
@@ -141,9 +142,6 @@ kept-list t nodes v without k was now at there =
     let it = without.came k now there in
     inl (ap (λ (n : Node). n.list) (some_same (sym there ∙ it.3.at)) ∙ (it.3.list ∙ ap (λ (n : Node). n.list) (some_same (sym it.1 ∙ at))))
 
-page-before : (arena : Arena) (rows : Rows Row) (slots : Slots) (w q : ℕ) → IsPage (tree_with (nodes_of arena) arena.lists slots) w q → IsPage (tree_of arena rows) w q
-page-before arena rows slots w q page = record { node = page.node; visible = page.visible; below = page.below }
-
 -- the node has no parent
 pub closed-root : (arena new : Arena) (rows late : Rows Row) (before after : Pool) (v : ℕ) (node : Node) → IsVisible (nodes_of arena) v node →
     node.parent ≡ None → IsLeftOut arena late after v node 0 → Moves arena rows late before after v 0 → nodes_of new ≡ without_key (nodes_of arena) v → new.lists ≡ arena.lists →
@@ -161,7 +159,7 @@ closed-root arena new rows late before after v node visible root left moves is l
     (λ s is. absurd (let none = rw (visible.at, root) at is in cc))
     (exact-removed_root t f v node visible g (leaving_range all_in_sight v 0 node.count) (is_taken after)
     (λ p. left.bare p (omega arith)) left.exact (out-only v node) (out-all arena (slots_of late) v node visible))
-    (λ w q page apart. moves.shows w q (page-before arena rows (slots_of late) w q page) (λ same. absurd (apart same))))
+    (λ w q page apart. moves.shows w q (page-over t (slots_of rows) w q page) (λ same. absurd (apart same))))
     (kept-list t (without_key (nodes_of arena) v) v without) lists shown moves.accounts
 
 -- The node and its parent go: all its pages are out of sight in the tree with these slots, in which neither has rows.
@@ -198,7 +196,7 @@ module _ (arena : Arena) (rows : Rows Row) (slots : Slots) (in_use : ℕ → Boo
       (λ e. apart.0 (sym e)) (λ e. apart.1 (sym e))).at))
       (exact-spliced t exact.forest v h s node parent sibling family visible empty spliced-forest (leaving_range all_in_sight v 0 node.count) in_use bare exact
       (out-only v node) (out-all arena slots v node visible))
-      (λ w q page apart. shows w q (page-before arena rows slots w q page) (λ same. absurd (apart same)))
+      (λ w q page apart. shows w q (page-over t (slots_of rows) w q page) (λ same. absurd (apart same)))
 
 -- the sibling keeps its list
 pub closed-spliced : (arena new : Arena) (rows late : Rows Row) (before after : Pool) (v h s : ℕ) (node parent sibling : Node)

@@ -34,10 +34,9 @@ use Rattle.cow_merge.specs.inside.Lifting.{IsLifting, IsBefore, AreLifted, SeesR
 use Rattle.cow_merge.specs.declared.ranges.Pages.{Pages}
 use Rattle.cow_merge.specs.inside.Sharing.{AreShared}
 use Rattle.cow_merge.specs.inside.HandingOver.{frame_there, HasDroppedRow, HasRowPut, AreSeenFrom, IsHandingOver, IsHandedUpTo, HasHandedOver}
-use Rattle.cow_merge.proofs.RangeLaws.{gives-then, given-none, accounts-same, accounts-then}
+use Rattle.cow_merge.proofs.RangeLaws.{gives-then, given-none, accounts-same, accounts-then, page-over}
 use Rattle.cow_merge.proofs.LiftedLaws.{has-frame, of-has-frame, link-same, family-lists, row-sees, row-bit, row-bit_below, without-none, lifted-gone, lifted-moved, HasLiftedOn}
 use Rattle.cow_merge.proofs.SharingLaws.{some-left, reached-below, reached-found}
-use Rattle.cow_merge.proofs.LiftLaws.{page-over}
 use Rattle.cow_split.proofs.PartLaws.{part-none}
 
 -- both bits are clear

@@ -31,12 +31,9 @@ use Rattle.cow_split.proofs.RowLaws.{exact-in_use_alike, with_row-twice}
 use Rattle.cow_merge.specs.Ranges.{ShowsSame}
 use Rattle.cow_merge.specs.inside.Lifting.{IsMoved, IsAside}
 use Rattle.cow_merge.proofs.SpliceLaws.{family-apart}
+use Rattle.cow_merge.proofs.RangeLaws.{page-over}
 
 -- ---- rows that are moved
-
--- a page is one over other rows too
-pub page-over : (t : Tree) (slots : Slots) (v p : ℕ) → IsPage t v p → IsPage (record t { slots = slots }) v p
-page-over t slots v p page = record { node = page.node; visible = page.visible; below = page.below }
 
 -- A walk that ends at a row stays, where another row becomes another.
 seen-stays : (t : Tree) → IsForest t.nodes t.lists → (slots : Slots) (h q : ℕ) (node : Node) (row : Slot) → t.nodes h ≡ Some node →

@@ -44,8 +44,8 @@ use Rattle.cow_merge.specs.Ranges.{bit_on, leaving_range, ShowsSame, AreLinked, 
 use Rattle.cow_merge.specs.inside.Lifting.{IsAside, AreLifted, IsLifting, IsBefore, IsFamilyOf, SeesRow, IsMoved, TellsSeen, HasLiftedRow, HasSettled, is_row_of_frame, HasLifted}
 use Rattle.cow_merge.proofs.PassingLaws.{range-exact}
 use Rattle.cow_merge.proofs.SpliceLaws.{family-apart}
-use Rattle.cow_merge.proofs.LiftLaws.{page-over, lists-apart, leaf-step, hidden, not-below, dropped-shows, dropped-exact, moved-shows, moved-exact}
-use Rattle.cow_merge.proofs.RangeLaws.{moves-then, accounts-same}
+use Rattle.cow_merge.proofs.LiftLaws.{lists-apart, leaf-step, hidden, not-below, dropped-shows, dropped-exact, moved-shows, moved-exact}
+use Rattle.cow_merge.proofs.RangeLaws.{moves-then, accounts-same, page-over}
 
 -- a slot that has a frame, by the test
 pub has-frame : (t : ℕ) (row : Slot) → frame_in row ≡ Some t → is_row_of_frame t row ≡ true

@@ -99,14 +99,14 @@ accounts-part old new before after frame part given spare count =
 -- ---- the tree moves on
 
 -- a page is one whatever the rows are
-page-there : (arena : Arena) (old new : Rows Row) (w q : ℕ) → IsPage (tree_of arena old) w q → IsPage (tree_of arena new) w q
-page-there arena old new w q page = record { node = page.node; visible = page.visible; below = page.below }
+pub page-over : (t : Tree) (slots : Slots) (v p : ℕ) → IsPage t v p → IsPage (record t { slots = slots }) v p
+page-over t slots v p page = record { node = page.node; visible = page.visible; below = page.below }
 
 pub moves-then : {arena : Arena} {old mid new : Rows Row} {before between after : Pool} {v first : ℕ} → Moves arena old mid before between v first →
     Moves arena mid new between after v first → Moves arena old new before after v first
 moves-then {arena} {old} {mid} {new} {before} {between} {after} {v} {first} one two = record {
   accounts = accounts-then one.accounts two.accounts;
-  shows = λ w q page sight. two.shows w q (page-there arena old mid w q page) sight ∙ one.shows w q page sight;
+  shows = λ w q page sight. two.shows w q (page-over (tree_of arena old) (slots_of mid) w q page) sight ∙ one.shows w q page sight;
 }
 
 pub lost-same : {arena : Arena} {rows : Rows Row} {pool : Pool} {v first : ℕ} → HasLost arena rows rows pool pool v first

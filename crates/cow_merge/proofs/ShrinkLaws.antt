@@ -22,6 +22,7 @@ use Rattle.cow_split.specs.Exact.{IsExact, all_in_sight}
 use Rattle.cow_merge.specs.Ranges.{HasLost, IsLeftOut}
 use Rattle.cow_merge.specs.Merging.{with_count, IsNarrowed, HasShrunk}
 use Rattle.cow_merge.proofs.CountLaws.{narrowed-page, narrowed-shows, exact-narrowed}
+use Rattle.cow_merge.proofs.RangeLaws.{page-over}
 
 -- the tree of other nodes
 pub tree-now : (old new : Arena) (rows : Rows Row) (nodes : Nodes) → nodes_of new ≡ nodes → new.lists ≡ old.lists →
@@ -153,10 +154,7 @@ module _ (arena between new : Arena) (v count : ℕ) (node : Node) (visible : Is
         shows = subst (λ (u : Tree). (w q : ℕ) → IsPage u w q → frame_shown u w q ≡ frame_shown (tree_of arena rows) w q) (sym now)
             (λ w q page.
             let was = narrowed-page t v count node visible few g w q page in
-            narrowed-shows t v count node visible few g left.exact.forest w q page ∙ lost.moves.shows w q (rows-page w q was.0) was.1);
+            narrowed-shows t v count node visible few g left.exact.forest w q page ∙ lost.moves.shows w q (page-over t (slots_of rows) w q was.0) was.1);
         accounts = lost.moves.accounts;
         part = lost.part;
       }
-    where
-      rows-page : (w q : ℕ) → IsPage (tree_of arena late) w q → IsPage (tree_of arena rows) w q
-      rows-page w q page = record { node = page.node; visible = page.visible; below = page.below }
