@@ -28,7 +28,7 @@ use crate::ranges::{PageRun, zero_in_turn, zero_pages};
 use crate::tables::{disown, leave_other, make_room, renew_merged};
 use crate::viewing::{elder_for, least_koid_of, lesser_koid_of, viewer_count_of};
 use cow_arena::{CowArena, NodeId};
-use cow_fork::{share, zero_by_jumps};
+use cow_fork::{Snapshot, share, zero_by_jumps};
 use cow_jump::{JumpTable, note_pair, retire_pair};
 use cow_merge::{close_by_jumps, shrink_by_jumps};
 use frame_pool::FramePool;
@@ -257,15 +257,13 @@ impl PageStore for CowForest {
         make_room(&mut self.nodes, &mut self.owners, 3)?;
         let koid = Koid(self.next);
         let node = self.nodes.get(of.0);
-        let pair = share(
-            &mut self.arena,
-            &mut self.lists,
-            node,
+        let snapshot = Snapshot {
             koid,
             first,
             seen,
             count,
-        )?;
+        };
+        let pair = share(&mut self.arena, &mut self.lists, node, snapshot)?;
         self.jumps.grow(self.arena.capacity());
         self.jumps.move_up(node, pair.hidden, pair.child, koid.0);
         note_pair(
