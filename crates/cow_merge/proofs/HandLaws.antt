@@ -33,8 +33,8 @@ use Rattle.cow_merge.specs.Ranges.{bit_on, AreLinked, HasGiven, Accounts, HasLos
 use Rattle.cow_merge.specs.inside.Lifting.{IsLifting, IsBefore, AreLifted, SeesRow, IsMoved, is_row_of_frame, HasLifted}
 use Rattle.cow_merge.specs.declared.ranges.Pages.{Pages}
 use Rattle.cow_merge.specs.inside.Sharing.{AreShared}
-use Rattle.cow_merge.specs.inside.HandingOver.{frame_there, HasDroppedRow, HasRowPut, AreSeenFrom, IsHandingOver, IsHandedUpTo, HasHandedOver}
-use Rattle.cow_merge.proofs.RangeLaws.{gives-then, given-none, accounts-same, accounts-then, page-over}
+use Rattle.cow_merge.specs.inside.HandingOver.{frame_there, HasRowPut, AreSeenFrom, IsHandingOver, IsHandedUpTo, HasHandedOver}
+use Rattle.cow_merge.proofs.RangeLaws.{gives-then, accounts-same, accounts-then, page-over}
 use Rattle.cow_merge.proofs.LiftedLaws.{has-frame, of-has-frame, link-same, family-lists, row-sees, row-bit, row-bit_below, without-none, lifted-gone, lifted-moved, HasLiftedOn}
 use Rattle.cow_merge.proofs.SharingLaws.{some-left, reached-below, reached-found}
 use Rattle.cow_split.proofs.PartLaws.{part-none}
@@ -597,7 +597,7 @@ lost-handed {arena} {old} {mid} {new} {before} {between} {after} {k} {h} {s} los
 -- ---- one row that is put
 
 -- no row changes where there is none
-without-none-there : (slots : Slots) (l q : ℕ) → slots l q ≡ None → slots ≡ with_pair slots l q None
+pub without-none-there : (slots : Slots) (l q : ℕ) → slots l q ≡ None → slots ≡ with_pair slots l q None
 without-none-there slots l q none = λ i m r. each m r i
   where
     each : (m r : ℕ) → slots m r ≡ with_pair slots l q None m r
@@ -608,15 +608,6 @@ without-none-there slots l q none = λ i m r. each m r i
       | inr differs ↦ sym (with_pair-other slots l q None m r (λ x y. differs (x, y)))
     ]
 
--- there was none
-pub no-row : (rows : Rows Row) (pool : Pool) (l q : ℕ) → slots_of rows l q ≡ None → HasDroppedRow rows rows pool pool l q
-no-row rows pool l q none = record {
-  slots = without-none-there (slots_of rows) l q none;
-  given = subst (HasGiven pool pool) (sym (ap frame_there none)) (given-none pool);
-  spare = omega arith;
-  count = omega arith;
-}
-
 -- a frame that did not go is still in use
 still-used : (in_use : ℕ → Bool) (frame : Option ℕ) (tag : ℕ) → in_use tag ≡ true → (frame ≡ Some tag → ⊥) → without_frame in_use frame tag ≡ true
 unfolding without_frame
@@ -625,29 +616,29 @@ still-used in_use (Some other) tag used apart =
     and_from (not (tag == other)) (in_use tag) (ap not (ne_eqb tag other (λ same. apart (ap Some (sym same))))) used
 
 -- the frame of the row that is put is taken
-pub put-taken : (old mid : Rows Row) (before between : Pool) (l q tag : ℕ) → HasDroppedRow old mid before between l q → IsSome (taken_frames before tag) →
-    (frame_there (slots_of old l q) ≡ Some tag → ⊥) → IsSome (taken_frames between tag)
-put-taken old mid before between l q tag gone taken apart =
-    gone.given.taken tag ∙ still-used (is_taken before) (frame_there (slots_of old l q)) tag taken apart
+pub put-taken : (before between : Pool) (frame : Option ℕ) (tag : ℕ) → HasGiven before between frame → IsSome (taken_frames before tag) →
+    (frame ≡ Some tag → ⊥) → IsSome (taken_frames between tag)
+put-taken before between frame tag given taken apart = given.taken tag ∙ still-used (is_taken before) frame tag taken apart
 
 -- the page has no row then, so that one can be put
-pub put-free : (old mid : Rows Row) (before between : Pool) (l q : ℕ) → HasDroppedRow old mid before between l q → slots_of mid l q ≡ None
-put-free old mid before between l q gone = ap (λ (x : Slots). x l q) gone.slots ∙ with_pair-same (slots_of old) l q None
+pub put-free : (old mid : Slots) (l q : ℕ) → mid ≡ with_pair old l q None → mid l q ≡ None
+put-free old mid l q gone = ap (λ (x : Slots). x l q) gone ∙ with_pair-same old l q None
 
 -- of two slots of a page the second stays
 put-twice : (slots : Slots) (l q : ℕ) (first second : Option Slot) → with_pair (with_pair slots l q first) l q second ≡ with_pair slots l q second
 put-twice slots l q first second = ap (λ (u : Tree). u.slots) (with_row-twice (tree_with (λ k. None) 0 slots) l q first second)
 
-pub row-put : (old mid new : Rows Row) (before between after : Pool) (l q : ℕ) (row : Slot) → HasDroppedRow old mid before between l q →
-    slots_of new ≡ with_pair (slots_of mid) l q (Some row) → row_count new ≡ row_count mid + 1 → new.spare + 1 ≡ mid.spare →
+pub row-put : (old mid new : Rows Row) (before between after : Pool) (l q : ℕ) (row : Slot) →
+    slots_of mid ≡ with_pair (slots_of old) l q None → HasGiven before between (frame_there (slots_of old l q)) → old.spare ≤ mid.spare →
+    row_count mid ≤ row_count old → slots_of new ≡ with_pair (slots_of mid) l q (Some row) → row_count new ≡ row_count mid + 1 → new.spare + 1 ≡ mid.spare →
     taken_frames after ≡ taken_frames between → after.frames ≡ between.frames →
     ((t : ℕ) → links_of after t ≡ (if is_row_of_frame t row then record { list = l; page = q } else links_of between t)) →
     HasRowPut old new before after l q row
-row-put old mid new before between after l q row gone slots count spare taken frames links = record {
-  slots = slots ∙ (ap (λ (x : Slots). with_pair x l q (Some row)) gone.slots ∙ put-twice (slots_of old) l q None (Some row));
-  taken = λ t. ap (λ f. is_some (f t)) taken ∙ gone.given.taken t;
-  gives = gives-then before between after gone.given.gives (record { frames = frames; kept = λ t. inl (ap (λ f. f t) taken) });
-  links = λ t. links t ∙ ap (λ f. if is_row_of_frame t row then record { list = l; page = q } else f t) gone.given.links;
-  spare = omega (arith, gone.spare);
-  count = omega (arith, gone.count);
+row-put old mid new before between after l q row gone given room fewer slots count spare taken frames links = record {
+  slots = slots ∙ (ap (λ (x : Slots). with_pair x l q (Some row)) gone ∙ put-twice (slots_of old) l q None (Some row));
+  taken = λ t. ap (λ f. is_some (f t)) taken ∙ given.taken t;
+  gives = gives-then before between after given.gives (record { frames = frames; kept = λ t. inl (ap (λ f. f t) taken) });
+  links = λ t. links t ∙ ap (λ f. if is_row_of_frame t row then record { list = l; page = q } else f t) given.links;
+  spare = omega arith;
+  count = omega arith;
 }

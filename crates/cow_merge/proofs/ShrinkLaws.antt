@@ -20,7 +20,7 @@ use Rattle.cow_split.specs.Trees.{tree_of}
 use Rattle.cow_split.specs.Sight.{IsPage}
 use Rattle.cow_split.specs.Exact.{IsExact, all_in_sight}
 use Rattle.cow_merge.specs.Ranges.{HasLost, IsLeftOut}
-use Rattle.cow_merge.specs.Merging.{with_count, IsNarrowed, HasShrunk}
+use Rattle.cow_merge.specs.Merging.{with_count, narrowed_nodes, HasShrunk}
 use Rattle.cow_merge.proofs.CountLaws.{narrowed-page, narrowed-shows, exact-narrowed}
 use Rattle.cow_merge.proofs.RangeLaws.{page-over}
 
@@ -54,7 +54,7 @@ with_key-twice {A} map k a b = λ i n. here n i
 
 -- a node without a parent has no window
 pub narrowed-root : (arena : Arena) (v : ℕ) (node : Node) (count : ℕ) → IsForest (nodes_of arena) arena.lists →
-    nodes_of arena v ≡ Some node → node.parent ≡ None → IsNarrowed arena arena v node count
+    nodes_of arena v ≡ Some node → node.parent ≡ None → nodes_of arena ≡ narrowed_nodes (nodes_of arena) v node count
 narrowed-root arena v node count f at root =
     let seen = f.by.root v node at root in
     let first = f.by.empty v node at seen in
@@ -62,17 +62,12 @@ narrowed-root arena v node count f at root =
     let same : with_window node node.first (min node.seen count) ≡ node =
     ap (λ s. with_window node node.first s) none
     ∙ (ap (λ p. record node { first = p; seen = 0 }) (sym first) ∙ ap (λ s. record node { seen = s }) (sym seen)) in
-    record {
-      nodes = sym (ap (with_key (nodes_of arena) v) same ∙ with_key-self (nodes_of arena) v node at);
-      lists = refl;
-      hidden = refl;
-      visible = refl;
-    }
+    sym (ap (with_key (nodes_of arena) v) same ∙ with_key-self (nodes_of arena) v node at)
 
 pub narrowed-none : (arena : Arena) (v : ℕ) (own : Node) (count : ℕ) → IsForest (nodes_of arena) arena.lists → nodes_of arena v ≡ Some own →
-    (none : Bool) → is_some own.parent ≡ not none → none ≡ true → (node : Node) → nodes_of arena v ≡ Some node → IsNarrowed arena arena v node count
+    (none : Bool) → is_some own.parent ≡ not none → none ≡ true → (node : Node) → nodes_of arena v ≡ Some node → nodes_of arena ≡ narrowed_nodes (nodes_of arena) v node count
 narrowed-none arena v own count f at none is told node also =
-    subst (λ n. IsNarrowed arena arena v n count) (some_same (sym at ∙ also)) (narrowed-root arena v own count f at (go own.parent refl))
+    subst (λ n. nodes_of arena ≡ narrowed_nodes (nodes_of arena) v n count) (some_same (sym at ∙ also)) (narrowed-root arena v own count f at (go own.parent refl))
   where
     go : (up : Option NodeId) → own.parent ≡ up → own.parent ≡ None
     go None e = e
@@ -114,9 +109,9 @@ shrinking-of arena v count some = go (nodes_of arena v) refl some
     go (Some node) at some = record { node = node; visible = record { at = at; koid = some.0 }; few = some.1 }
 
 module _ (arena between new : Arena) (v count : ℕ) (node : Node) (visible : IsVisible (nodes_of arena) v node)
-    (narrowed : IsNarrowed arena between v node count) where
+    (window : nodes_of between ≡ narrowed_nodes (nodes_of arena) v node count) where
   narrowed-at : nodes_of between v ≡ Some (with_window node node.first (min node.seen count))
-  narrowed-at = ap (λ f. f v) narrowed.nodes ∙ with_key-same (nodes_of arena) v (with_window node node.first (min node.seen count))
+  narrowed-at = ap (λ f. f v) window ∙ with_key-same (nodes_of arena) v (with_window node node.first (min node.seen count))
 
   pub narrowed-ready : IsSomeAnd (nodes_of between v) (λ (node : Node). IsSome node.koid × (node.seen ≤ count))
   narrowed-ready =
@@ -129,28 +124,27 @@ module _ (arena between new : Arena) (v count : ℕ) (node : Node) (visible : Is
       nodes_of new ≡ with_key (nodes_of arena) v (with_count node count)
   counted-nodes counted =
       counted (with_window node node.first (min node.seen count)) narrowed-at
-      ∙ (ap (λ f. with_key f v (with_count node count)) narrowed.nodes
+      ∙ (ap (λ f. with_key f v (with_count node count)) window
       ∙ with_key-twice (nodes_of arena) v (with_window node node.first (min node.seen count)) (with_count node count))
 
   pub shrunk : (rows late : Rows Row) (before after : Pool) → count ≤ node.count →
       IsLeftOut arena late after v node count → HasLost arena rows late before after v count →
       ((node : Node) → nodes_of between v ≡ Some node → nodes_of new ≡ with_key (nodes_of between) v (record node { count = count })) →
-      new.lists ≡ between.lists → hidden_count new ≡ hidden_count between → visible_count new ≡ visible_count between →
+      new.lists ≡ arena.lists → hidden_count new ≡ hidden_count arena → visible_count new ≡ visible_count arena →
       IsForest (nodes_of new) new.lists → HasShrunk arena new rows late before after v count
   shrunk rows late before after few left lost counted lists hidden shown forest =
       let nodes = counted-nodes counted in
       let t : Tree = tree_of arena late in
-      let same_lists : new.lists ≡ arena.lists = lists ∙ narrowed.lists in
-      let now = tree-now arena new late (with_key (nodes_of arena) v (with_count node count)) nodes same_lists in
+      let now = tree-now arena new late (with_key (nodes_of arena) v (with_count node count)) nodes lists in
       let g : IsForest (with_key (nodes_of arena) v (with_count node count)) arena.lists =
-      subst (λ l. IsForest (with_key (nodes_of arena) v (with_count node count)) l) same_lists (subst (λ f. IsForest f new.lists) nodes forest) in
+      subst (λ l. IsForest (with_key (nodes_of arena) v (with_count node count)) l) lists (subst (λ f. IsForest f new.lists) nodes forest) in
       record {
         exact = subst (λ (u : Tree). IsExact u all_in_sight (is_taken after)) (sym now)
             (exact-narrowed t v count node visible few g (is_taken after) left.exact left.bare);
         nodes = λ other at. nodes ∙ ap (λ n. with_key (nodes_of arena) v (with_count n count)) (some_same (sym visible.at ∙ at));
-        lists = same_lists;
-        hidden = hidden ∙ narrowed.hidden;
-        visible = shown ∙ narrowed.visible;
+        lists = lists;
+        hidden = hidden;
+        visible = shown;
         shows = subst (λ (u : Tree). (w q : ℕ) → IsPage u w q → frame_shown u w q ≡ frame_shown (tree_of arena rows) w q) (sym now)
             (λ w q page.
             let was = narrowed-page t v count node visible few g w q page in

@@ -21,12 +21,9 @@ use Rattle.cow_merge.specs.Ranges.{Accounts}
 abbrev pub with_count : Node → ℕ → Node
 with_count node count = record (with_window node node.first (min node.seen count)) { count = count }
 
--- the window of node v has at most `count` pages; `node` is v as it was
-pub record IsNarrowed (old new : Arena) (v : ℕ) (node : Node) (count : ℕ) : Type 0 where
-  pub nodes : nodes_of new ≡ with_key (nodes_of old) v (with_window node node.first (min node.seen count))
-  pub lists : new.lists ≡ old.lists
-  pub hidden : hidden_count new ≡ hidden_count old
-  pub visible : visible_count new ≡ visible_count old
+-- the nodes, where the window of node v, which was `node`, has at most `count` pages
+abbrev pub narrowed_nodes : Nodes → (v : ℕ) → Node → (count : ℕ) → Nodes
+narrowed_nodes nodes v node count = with_key nodes v (with_window node node.first (min node.seen count))
 
 -- The visible node v has `count` of the pages that it had, and shows the same there. Every other VMO shows the same
 -- everywhere.

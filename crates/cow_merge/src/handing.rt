@@ -1,13 +1,15 @@
 //! Handing the list of a hidden node over to one of its children, before the two nodes are merged.
 
-ghost use Rattle.std.specs.Prelude.{◌≡◌, ◌+◌, ◌≤◌, ℕ, true, Some, IsSome};
-ghost use Rattle.page_list.specs.Lists.{slots_of};
+ghost use Rattle.std.specs.Prelude.{◌≡◌, ◌+◌, ◌≤◌, ℕ, true, None, Some, IsSome};
+ghost use Rattle.balanced_tree.specs.Pairs.{with_pair};
+ghost use Rattle.page_list.specs.Lists.{slots_of, row_count};
 ghost use Rattle.cow_arena.specs.declared.node.Node.{Node};
 ghost use Rattle.cow_arena.specs.Nodes.{nodes_of};
 ghost use Rattle.cow_arena.specs.Walk.{frame_in};
 ghost use Rattle.frame_pool.specs.Pool.{taken_frames};
+ghost use Rattle.cow_merge.specs.Ranges.{HasGiven};
 ghost use Rattle.cow_merge.specs.inside.Lifting.{IsLifting};
-ghost use Rattle.cow_merge.specs.inside.HandingOver.{frame_there, HasDroppedRow, HasRowPut, AreSeenFrom, IsHandingOver, HasHandedOver};
+ghost use Rattle.cow_merge.specs.inside.HandingOver.{frame_there, HasRowPut, AreSeenFrom, IsHandingOver, HasHandedOver};
 
 use crate::lifting::{lift_rows, note_place};
 use crate::places::Family;
@@ -105,7 +107,10 @@ fn put_row(lists: &mut PageLists, frames: &mut FramePool, list: ListId, page: Pa
 /// Removes the row of a page of a list, if it has one, and gives its frame back.
 fn clear_page(lists: &mut PageLists, frames: &mut FramePool, list: ListId, page: PageNo)
     requires { (tag : ℕ) → frame_there (slots_of lists.old list.0 page) ≡ Some tag → IsSome (taken_frames frames.old tag) }
-    ensures { HasDroppedRow lists.old lists.new frames.old frames.new list.0 page }
+    ensures slots { slots_of lists.new ≡ with_pair (slots_of lists.old) list.0 page None }
+    ensures given { HasGiven frames.old frames.new (frame_there (slots_of lists.old list.0 page)) }
+    ensures spare { lists.old.spare ≤ lists.new.spare }
+    ensures count { row_count lists.new ≤ row_count lists.old }
 {
     let Some(slot) = lists.find(list, page) else {
         return;

@@ -4,11 +4,12 @@ ghost use Rattle.std.specs.Prelude.{◌≡◌, ◌≤◌, ℕ, Some, IsSomeAnd, 
 ghost use Rattle.cow_arena.specs.declared.node.Node.{Node};
 ghost use Rattle.cow_arena.specs.Nodes.{nodes_of};
 ghost use Rattle.cow_arena.specs.Forest.{IsForest};
+ghost use Rattle.cow_arena.specs.Counts.{hidden_count, visible_count};
 ghost use Rattle.cow_split.specs.Trees.{tree_of};
 ghost use Rattle.cow_split.specs.Exact.{IsExact, all_in_sight};
 ghost use Rattle.frame_pool.specs.Pool.{is_taken};
 ghost use Rattle.cow_jump.specs.Jumps.{AreJumps, MayJump};
-ghost use Rattle.cow_merge.specs.Merging.{HasShrunk, IsNarrowed};
+ghost use Rattle.cow_merge.specs.Merging.{HasShrunk, narrowed_nodes};
 
 use crate::ranges::leave_out;
 use cow_arena::{CowArena, NodeId, window_first};
@@ -81,7 +82,11 @@ fn shrink_with(
 fn narrow(arena: &mut CowArena, leaf: NodeId, count: PageNo)
     requires forest { IsForest (nodes_of arena.old) arena.old.lists }
     requires leaf { IsSome (nodes_of arena.old leaf.0) }
-    ensures { (node : Node) → nodes_of arena.old leaf.0 ≡ Some node → IsNarrowed arena.old arena.new leaf.0 node count }
+    ensures nodes { (node : Node) → nodes_of arena.old leaf.0 ≡ Some node →
+        nodes_of arena.new ≡ narrowed_nodes (nodes_of arena.old) leaf.0 node count }
+    ensures lists { arena.new.lists ≡ arena.old.lists }
+    ensures hidden { hidden_count arena.new ≡ hidden_count arena.old }
+    ensures visible { visible_count arena.new ≡ visible_count arena.old }
 {
     let node = arena.node(leaf);
     if node.parent.is_none() {

@@ -17,7 +17,7 @@ use Rattle.cow_arena.specs.Walk.{Slots, tree_with, frame_in}
 use Rattle.cow_arena.specs.Ways.{KeepsBelow}
 use Rattle.cow_split.specs.Trees.{tree_of}
 use Rattle.cow_split.specs.Exact.{without_frame}
-use Rattle.cow_merge.specs.Ranges.{bit_on, ShowsBut, Accounts, GivesBack, HasGiven}
+use Rattle.cow_merge.specs.Ranges.{bit_on, ShowsBut, Accounts, GivesBack}
 use Rattle.cow_merge.specs.inside.Lifting.{IsFamilyOf, AreLifted, is_row_of_frame}
 use Rattle.cow_merge.specs.inside.Sharing.{IsReached}
 
@@ -25,13 +25,6 @@ use Rattle.cow_merge.specs.inside.Sharing.{IsReached}
 abbrev pub frame_there : Option Slot → Option ℕ
 frame_there None = None
 frame_there (Some row) = frame_in row
-
--- the page of the list has no row, and the frame of the row that it had is free
-pub record HasDroppedRow (old new : Rows Row) (before after : Pool) (l q : ℕ) : Type 0 where
-  pub slots : slots_of new ≡ with_pair (slots_of old) l q None
-  pub given : HasGiven before after (frame_there (slots_of old l q))
-  pub spare : old.spare ≤ new.spare
-  pub count : row_count new ≤ row_count old
 
 -- the page of the list has this row, the backlink of the row's frame leads to it, and the frame of the row that it had
 -- is free

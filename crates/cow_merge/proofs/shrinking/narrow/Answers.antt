@@ -2,8 +2,8 @@
 use Rattle.cow_merge.proofs.ShrinkLaws.{narrowed-none, narrowed-inside}
 use Rattle.cow_merge.proofs.shrinking.narrow.Goals as goal
 
-pub returns-then-is_none : goal.returns-then-is_none
-returns-then-is_none c =
+pub returns-then-is_none-clause-nodes : goal.returns-then-is_none-clause-nodes
+returns-then-is_none-clause-nodes c =
     narrowed-none c.args.arena.now c.args.leaf.0 c.node-node.result c.args.count c.requires.forest c.node-node.ensures c.is_none.result c.is_none.ensures
     c.if-is_none.true
 
