@@ -52,10 +52,10 @@ fn has_fewer(lists: &PageLists, list: ListId, other: ListId) -> bool {
     false
 }
 
-/// Hands the list of a hidden node over to one child. The other child is a VMO's node that goes: it has no rows, and
-/// its pages show frames of the hidden node alone. Rows outside its window and outside the pages that the child shares
-/// (`share_rows`) are settled one by one, and rows under rows of the child go. The other rows stay as they are: no
-/// split bit of them is set, since both children see them, and if the child is hidden, VMOs on both sides of it do.
+/// Hands the list of the hidden node over to the sibling. The VMO's node goes: it has no rows, and its pages show
+/// frames of the hidden node alone. Rows outside its window and outside the pages that the sibling shares
+/// (`share_rows`) are settled one by one, and rows under rows of the sibling go. The other rows stay as they are: no
+/// split bit of them is set, since both children see them, and if the sibling is hidden, VMOs on both sides of it do.
 pub(crate) fn hand_over(
     arena: &CowArena,
     lists: &mut PageLists,
@@ -77,7 +77,7 @@ pub(crate) fn hand_over(
     hand_rows(arena, lists, frames, family);
 }
 
-/// Puts each row of a node into the list of its parent, in place of the row there. The other child of the parent goes.
+/// Puts each row of the sibling into the list of the hidden node, in place of the row there. The VMO's node goes.
 fn hand_rows(arena: &CowArena, lists: &mut PageLists, frames: &mut FramePool, family: Family)
     requires { IsHandingOver arena.now lists.old lists.old frames.old frames.old family.leaf.0 family.hidden.0 family.sibling.0 0 }
     ensures { HasHandedOver arena.now lists.old lists.new frames.old frames.new family.leaf.0 family.hidden.0 family.sibling.0 }

@@ -30,11 +30,10 @@ struct Branch {
     node: Node,
 }
 
-/// Empties the list of a hidden node from page `from` on, to below page `to` if there is one. Rows that are seen
-/// through the child move into the child's list, and the frames of the other rows are given back. The hidden node's
-/// other child is a VMO's node that goes: it has no rows, and its pages show frames of the hidden node alone. The split
-/// bits say whether a row with a frame is seen through the child, so the pages of the other child need not be cut off
-/// before.
+/// Empties the list of the hidden node from page `from` on, to below page `to` if there is one. Rows that are seen
+/// through the sibling move into the sibling's list, and the frames of the other rows are given back. The VMO's node
+/// goes: it has no rows, and its pages show frames of the hidden node alone. The split bits say whether a row with a
+/// frame is seen through the sibling, so the pages of the VMO's node need not be cut off before.
 pub(crate) fn lift_rows(
     arena: &CowArena,
     lists: &mut PageLists,

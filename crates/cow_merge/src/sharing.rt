@@ -20,9 +20,9 @@ use frame_pool::FramePool;
 use page_list::{ListId, PageLists};
 use vm_base::PageNo;
 
-/// Settles rows of a hidden node until a child shares all that are left in the answered pages (`lift_rows`). If the
-/// child is a VMO's node, these are the pages of its window. If it is hidden, they are pages that come to it from a
-/// VMO's node on each of its sides. The child sees its parent from page 0 on.
+/// Settles rows of the hidden node until the sibling shares all that are left in the answered pages (`lift_rows`). If
+/// the sibling is a VMO's node, these are the pages of its window. If it is hidden, they are pages that come to it from
+/// a VMO's node on each of its sides. The sibling sees its parent from page 0 on.
 pub(crate) fn share_rows(
     arena: &CowArena,
     lists: &mut PageLists,
@@ -57,9 +57,9 @@ pub(crate) fn share_rows(
     }
 }
 
-/// Settles rows of a hidden node until all that are left in the answered pages come to a VMO's node at or below
-/// `below`, which is a child of the hidden node's child. The call goes down to this VMO's node, at each node to the
-/// child with the widest window. Rows are settled whose pages come under rows of the nodes on the way.
+/// Settles rows of the hidden node until all that are left in the answered pages come to a VMO's node at or below
+/// `below`, which is a child of the sibling. The call goes down to this VMO's node, at each node to the child with the
+/// widest window. Rows are settled whose pages come under rows of the nodes on the way.
 fn share_side(
     arena: &CowArena,
     lists: &mut PageLists,
@@ -92,7 +92,7 @@ fn share_side(
     Pages { from: 0, to: 0 }
 }
 
-/// Settles the rows of a hidden node to whose pages pages of the way come under rows of this list, which is the list of
+/// Settles the rows of the hidden node to whose pages pages of the way come under rows of this list. It is the list of
 /// the way's node.
 fn settle_under(
     arena: &CowArena,
