@@ -2,7 +2,7 @@
 use Rattle.std.proofs.Common.{◌≡◌, ◌≢◌, ℕ, zero, suc, ◌+◌, ◌-◌, ◌<◌, ◌≤◌, Bool, true, false, if◌then◌else◌, Option, None, Some, IsSome}
 use Rattle.std.proofs.Common.{◌⊎◌, refl, sym, ap, subst, ◌∙◌, inl, inr, arith}
 use Rattle.std.specs.Prelude.{is_some, not, ◌==◌}
-use Rattle.std.proofs.lemmas.Bool.{and_from, ne_eqb, cases_Bool, cases_eq, cases_lt, cond-true, cond-false}
+use Rattle.std.proofs.lemmas.Bool.{and_from, ne_eqb, cases_Bool, cases_eq, cases_lt}
 use Rattle.balanced_tree.specs.Pairs.{with_pair, IsNext}
 use Rattle.balanced_tree.specs.Rows.{Rows}
 use Rattle.vm_base.specs.declared.names.Koid.{Koid}
@@ -27,7 +27,6 @@ use Rattle.cow_split.specs.Search.{reached_from}
 use Rattle.cow_split.specs.Exact.{without_frame}
 use Rattle.cow_split.proofs.ExactLaws.{cases_place}
 use Rattle.cow_split.proofs.RowLaws.{exact-in_use_alike, with_row-twice}
-use Rattle.frame_pool.specs.declared.frame_pool.Backlink.{Backlink}
 use Rattle.frame_pool.specs.Pool.{Pool, taken_frames, is_taken, links_of}
 use Rattle.cow_merge.specs.Ranges.{bit_on, AreLinked, HasGiven, Accounts, HasLost, Moves}
 use Rattle.cow_merge.specs.inside.Lifting.{IsLifting, IsBefore, AreLifted, SeesRow, IsMoved, is_row_of_frame, HasLifted}
@@ -35,7 +34,7 @@ use Rattle.cow_merge.specs.declared.ranges.Pages.{Pages}
 use Rattle.cow_merge.specs.inside.Sharing.{AreShared}
 use Rattle.cow_merge.specs.inside.HandingOver.{frame_there, HasRowPut, AreSeenFrom, IsHandingOver, IsHandedUpTo, HasHandedOver}
 use Rattle.cow_merge.proofs.RangeLaws.{gives-then, accounts-same, accounts-then, page-over}
-use Rattle.cow_merge.proofs.LiftedLaws.{has-frame, of-has-frame, link-same, family-lists, row-sees, row-bit, row-bit_below, without-none, lifted-gone, lifted-moved, HasLiftedOn}
+use Rattle.cow_merge.proofs.LiftedLaws.{linked-placed, family-lists, row-sees, row-bit, row-bit_below, without-none, lifted-gone, lifted-moved, HasLiftedOn}
 use Rattle.cow_merge.proofs.SharingLaws.{some-left, reached-below, reached-found}
 use Rattle.cow_split.proofs.PartLaws.{part-none}
 
@@ -257,22 +256,7 @@ module _ (arena : Arena) (old new : Rows Row) (before after : Pool) (k h s q : �
     ]
 
     put-linked : AreLinked new after → AreLinked late last
-    put-linked linked = record {
-      linked = λ m r other tag e frame. elim (put-or-was m r other e) [
-        | inl here ↦
-            let on = has-frame tag row (ap frame_in (sym here.2) ∙ frame) in
-            put.links tag ∙ (cond-true _ _ _ on ∙ link-same up m q r (sym here.0) (sym here.1))
-        | inr there ↦
-            let was_linked = linked.linked m r other tag there.1 frame in
-            elim (cases_Bool (is_row_of_frame tag row)) [
-              | inr off ↦ put.links tag ∙ (cond-false _ _ _ off ∙ was_linked)
-              | inl on ↦
-                  let one = linked.linked own q row tag has (of-has-frame tag row on) in
-                  let same = sym was_linked ∙ one in
-                  absurd (there.0 (ap (λ (b : Backlink). b.list) same, ap (λ (b : Backlink). b.page) same))
-            ]
-      ];
-    }
+    put-linked = linked-placed new late after last up q own q row row has refl put.links put-or-was
 
     -- a row of the parent under it goes
     covers : (other : Slot) → SeesRow was.slots was.of.sibling q → ⊥

@@ -39,7 +39,7 @@ use Rattle.cow_split.proofs.RowLaws.{left_out-in_sight, only-more, exact-in_use_
 use Rattle.cow_split.proofs.ExactLaws.{cases_place}
 use Rattle.cow_split.proofs.CutLaws.{exact-cut, cut-shows}
 use Rattle.frame_pool.specs.declared.frame_pool.Backlink.{Backlink}
-use Rattle.frame_pool.specs.Pool.{Pool, taken_frames, is_taken}
+use Rattle.frame_pool.specs.Pool.{Pool, taken_frames, is_taken, links_of}
 use Rattle.cow_merge.specs.Ranges.{bit_on, leaving_range, ShowsSame, AreLinked, IsLeftOut, IsHeldBy, IsSparing, Accounts, HasLost, ShowsBut, HasGiven}
 use Rattle.cow_merge.specs.inside.Lifting.{IsAside, AreLifted, IsLifting, IsBefore, IsFamilyOf, SeesRow, IsMoved, TellsSeen, HasLiftedRow, HasSettled, is_row_of_frame, HasLifted}
 use Rattle.cow_merge.proofs.PassingLaws.{range-exact}
@@ -714,6 +714,29 @@ module _ (arena : Arena) (first : Slots) (between after : Pool) (k h s : ℕ) (o
           (row-there first_tree k h s of.node of.parent of.sibling of.family of.visible q row has was.out (is_taken between) was.exact was.only was.bare tag left right e
           (bit tag left right e))
 
+-- A row stands at page p of list l with the frame that stood at page q of list `own`, and the frame's backlink leads there. Each other
+-- row stood where it stands.
+pub linked-placed : (old new : Rows Row) (before after : Pool) (l p own q : ℕ) (was now : Slot) → slots_of old own q ≡ Some was → frame_in now ≡ frame_in was →
+    ((t : ℕ) → links_of after t ≡ (if is_row_of_frame t now then record { list = l; page = p } else links_of before t)) →
+    ((m r : ℕ) (other : Slot) → slots_of new m r ≡ Some other →
+    ((m ≡ l) × (r ≡ p) × (other ≡ now)) ⊎ (((m ≡ own) × (r ≡ q) → ⊥) × (slots_of old m r ≡ Some other))) → AreLinked old before → AreLinked new after
+linked-placed old new before after l p own q was now has frame_same links each linked = record {
+  linked = λ m r other tag e frame. elim (each m r other e) [
+    | inl here ↦
+        let on = has-frame tag now (ap frame_in (sym here.2) ∙ frame) in
+        links tag ∙ (cond-true _ _ _ on ∙ link-same l m p r (sym here.0) (sym here.1))
+    | inr there ↦
+        let was_linked = linked.linked m r other tag there.1 frame in
+        elim (cases_Bool (is_row_of_frame tag now)) [
+          | inr off ↦ links tag ∙ (cond-false _ _ _ off ∙ was_linked)
+          | inl on ↦
+              let one = linked.linked own q was tag has (sym frame_same ∙ of-has-frame tag now on) in
+              let same = sym was_linked ∙ one in
+              absurd (there.0 (ap (λ (b : Backlink). b.list) same, ap (λ (b : Backlink). b.page) same))
+        ]
+  ];
+}
+
 -- A row of the parent was taken out, and is gone, or has moved.
 module _ (arena : Arena) (first mid new : Rows Row) (between after : Pool) (k h s : ℕ) (of : IsFamilyOf arena k h s) (q : ℕ) (row : Slot)
     (has : slots_of first of.parent.list.0 q ≡ Some row) (taken_out : slots_of mid ≡ with_pair (slots_of first) of.parent.list.0 q None) where
@@ -758,22 +781,7 @@ module _ (arena : Arena) (first mid new : Rows Row) (between after : Pool) (k h 
         ]
 
     pub moved-linked : AreLinked first between → AreLinked new after
-    moved-linked linked = record {
-      linked = λ m r other tag e frame. elim (came-or-was m r other e) [
-        | inl here ↦
-            let on = has-frame tag moved.now (ap frame_in (sym here.2) ∙ frame) in
-            moved.links tag ∙ (cond-true _ _ _ on ∙ link-same beside_it.list.0 m to r (sym here.0) (sym here.1))
-        | inr there ↦
-            let was_linked = linked.linked m r other tag there.1 frame in
-            elim (cases_Bool (is_row_of_frame tag moved.now)) [
-              | inr off ↦ moved.links tag ∙ (cond-false _ _ _ off ∙ was_linked)
-              | inl on ↦
-                  let one = linked.linked above.list.0 q row tag has (sym moved.moved.frame ∙ of-has-frame tag moved.now on) in
-                  let same = sym was_linked ∙ one in
-                  absurd (there.0 (ap (λ (b : Backlink). b.list) same, ap (λ (b : Backlink). b.page) same))
-            ]
-      ];
-    }
+    moved-linked = linked-placed first new between after beside_it.list.0 to above.list.0 q row moved.now has moved.moved.frame moved.links came-or-was
 
   -- the parent's list has lost this row alone
   pub settled-list : (above.list.0 ≢ beside_it.list.0) → HasSettled arena mid new between after above s beside_it q row → (p : ℕ) →

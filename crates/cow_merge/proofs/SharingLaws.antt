@@ -30,6 +30,24 @@ some-left old (Some row) was some = ap is_some (was row refl)
 
 -- ---- rows of the parent went, or moved into the list of its child s
 
+-- the way has come as far as page `end` of its node
+down-with : (t : Tree) (list s seen : ℕ) (from : Side) (way : Way) (upto end : ℕ) (was : IsDown t list s seen from way upto) →
+    ((p : ℕ) → way.from ≤ p → p < way.to → p < end → IsSome (t.slots list (p + way.shift)) → t.slots was.node.list.0 p ≡ None) →
+    IsDown t list s seen from way end
+down-with t list s seen from way upto end was free = record {
+  node = was.node;
+  node_at = was.node_at;
+  e = was.e;
+  up = was.up;
+  deeper = was.deeper;
+  from = was.from;
+  side_is = was.side_is;
+  inside = was.inside;
+  high = was.high;
+  comes = was.comes;
+  free = free;
+}
+
 module _ (t : Tree) (f : IsForest t.nodes t.lists) (slots : Slots) (parent sibling : Node) (s : ℕ) (at : t.nodes s ≡ Some sibling)
     (keeps : KeepsBelow t.slots slots parent sibling) where
   abbrev now : Tree
@@ -105,25 +123,13 @@ module _ (t : Tree) (f : IsForest t.nodes t.lists) (slots : Slots) (parent sibli
       pub down-row : (page : ℕ) → IsNext (t.slots was.node.list.0) upto (Some page) → slots parent.list.0 (page + way.shift) ≡ None →
           IsDown now parent.list.0 s seen from way (page + 1)
       unfolding down-kept
-      down-row page next empty = record {
-        node = was.node;
-        node_at = was.node_at;
-        e = was.e;
-        up = was.up;
-        deeper = was.deeper;
-        from = was.from;
-        side_is = was.side_is;
-        inside = was.inside;
-        high = was.high;
-        comes = down-kept.comes;
-        free = λ p low less before some. elim (cases_eq p page) [
-          | inl same ↦ absurd (let none = ap is_some (ap (λ x. slots parent.list.0 (x + way.shift)) same ∙ empty) in cc)
-          | inr apart ↦ elim (cases_lt p upto) [
-            | inl earlier ↦ down-kept.free p low less earlier some
-            | inr past ↦ free-kept p ((next.least page refl).2 p past (omega arith))
-          ]
-        ];
-      }
+      down-row page next empty = down-with now parent.list.0 s seen from way upto (page + 1) down-kept (λ p low less before some. elim (cases_eq p page) [
+        | inl same ↦ absurd (let none = ap is_some (ap (λ x. slots parent.list.0 (x + way.shift)) same ∙ empty) in cc)
+        | inr apart ↦ elim (cases_lt p upto) [
+          | inl earlier ↦ down-kept.free p low less earlier some
+          | inr past ↦ free-kept p ((next.least page refl).2 p past (omega arith))
+        ]
+      ])
 
 -- ---- the way down
 
@@ -134,22 +140,10 @@ side-there t f h k child = let it = side-of-parent t.nodes t.lists f h k child.n
 -- no row is left on this node
 pub down-end : (t : Tree) (list s seen : ℕ) (from : Side) (way : Way) (upto : ℕ) (was : IsDown t list s seen from way upto) →
     ((p : ℕ) → upto ≤ p → p < way.to → t.slots was.node.list.0 p ≡ None) → IsDown t list s seen from way way.to
-down-end t list s seen from way upto was none = record {
-  node = was.node;
-  node_at = was.node_at;
-  e = was.e;
-  up = was.up;
-  deeper = was.deeper;
-  from = was.from;
-  side_is = was.side_is;
-  inside = was.inside;
-  high = was.high;
-  comes = was.comes;
-  free = λ p low less before some. elim (cases_lt p upto) [
-    | inl earlier ↦ was.free p low less earlier some
-    | inr past ↦ none p past less
-  ];
-}
+down-end t list s seen from way upto was none = down-with t list s seen from way upto way.to was (λ p low less before some. elim (cases_lt p upto) [
+  | inl earlier ↦ was.free p low less earlier some
+  | inr past ↦ none p past less
+])
 
 module _ (t : Tree) (f : IsForest t.nodes t.lists) (list s seen : ℕ) (fits : seen < 2 ^ 64) (from : Side) where
   -- it begins at a child of s
