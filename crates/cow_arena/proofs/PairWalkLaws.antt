@@ -10,7 +10,7 @@ use Rattle.cow_arena.specs.declared.node.NodeId.{NodeId}
 use Rattle.cow_arena.specs.declared.node.Node.{Node}
 use Rattle.cow_arena.specs.declared.node.Side.{Side}
 use Rattle.cow_arena.specs.declared.node.Side.TheVariants as side
-use Rattle.cow_arena.specs.Nodes.{Nodes, IsVisible, link_to, child_on, side_in}
+use Rattle.cow_arena.specs.Nodes.{IsVisible, link_to, child_on, side_in}
 use Rattle.cow_arena.specs.Walk.{Tree, from_side, walk, frame_found, frame_shown}
 use Rattle.cow_arena.specs.Forest.{IsForest, IsListed, HasListedRows}
 use Rattle.cow_arena.specs.Changes.{relinked, hidden_over, below_hidden, snapshot_node, paired}
@@ -19,6 +19,7 @@ use Rattle.cow_arena.proofs.WalkLaws.{climb_below, walk-own, walk-past}
 use Rattle.cow_arena.proofs.ReachLaws.{reach-one, reach-more, reach-cases, climbs-same, side-of-child, hidden-of-child, side-kept, hidden-apart, walk-reach}
 use Rattle.cow_arena.proofs.MovedLaws.{SameStep, step-back, same-side, climbs-moved, step-free, walk-moved, reach-moved, reach-back}
 use Rattle.cow_arena.proofs.RelinkLaws.{relinked-stays, relinked-here}
+use Rattle.cow_arena.proofs.ForestLaws.{held_apart}
 
 -- the tree after a snapshot of node k, which was this leaf
 abbrev pub paired_tree : Tree → (k : ℕ) → Node → (h c : ℕ) → Koid → (first seen count : ℕ) → Tree
@@ -27,10 +28,6 @@ paired_tree t k leaf h c koid first seen count = record {
   slots = t.slots;
   lists = t.lists + 2;
 }
-
--- what is there is not a key without a node
-held-apart : (nodes : Nodes) (j k : ℕ) (a : Node) → nodes j ≡ Some a → nodes k ≡ None → j ≢ k
-held-apart nodes j k a here free same = absurd (let there = ap nodes same in cc)
 
 module _ (t : Tree) (f : IsForest t.nodes t.lists) (rows : HasListedRows t) where
   -- a list that was not given yet has no rows
@@ -84,10 +81,10 @@ module _ (t : Tree) (f : IsForest t.nodes t.lists) (k : ℕ) (leaf : Node) (visi
   -- ---- the nodes
 
   k_h : k ≢ h
-  k_h = held-apart t.nodes k h leaf visible.at no_h
+  k_h = held_apart t.nodes k h leaf visible.at no_h
 
   k_c : k ≢ c
-  k_c = held-apart t.nodes k c leaf visible.at no_c
+  k_c = held_apart t.nodes k c leaf visible.at no_c
 
   pub child-at : after.nodes c ≡ Some (snapshot_node koid h (t.lists + 1) first seen count)
   unfolding paired
@@ -104,8 +101,8 @@ module _ (t : Tree) (f : IsForest t.nodes t.lists) (k : ℕ) (leaf : Node) (visi
   pub other-at : (j : ℕ) (node : Node) → t.nodes j ≡ Some node → j ≢ k → after.nodes j ≡ relinked t.nodes leaf.parent k h j
   unfolding paired
   other-at j node at other =
-      with_key-other _ c _ j (held-apart t.nodes j c node at no_c)
-      ∙ (with_key-other _ k _ j other ∙ with_key-other _ h _ j (held-apart t.nodes j h node at no_h))
+      with_key-other _ c _ j (held_apart t.nodes j c node at no_c)
+      ∙ (with_key-other _ k _ j other ∙ with_key-other _ h _ j (held_apart t.nodes j h node at no_h))
 
   -- ---- the steps that stay
 

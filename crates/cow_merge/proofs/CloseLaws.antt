@@ -37,7 +37,7 @@ use Rattle.cow_merge.proofs.SpliceLaws.{IsWithout, without-page, without-showed,
 use Rattle.cow_merge.proofs.PassingLaws.{inside-range}
 use Rattle.cow_merge.proofs.ShrinkLaws.{tree-now}
 use Rattle.cow_merge.proofs.LiftedLaws.{lifted-exact}
-use Rattle.cow_merge.proofs.RangeLaws.{page-over}
+use Rattle.cow_split.proofs.CutLaws.{page-over}
 
 -- ---- all pages are out of sight
 

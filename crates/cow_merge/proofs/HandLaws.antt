@@ -33,10 +33,11 @@ use Rattle.cow_merge.specs.inside.Lifting.{IsLifting, IsBefore, AreLifted, SeesR
 use Rattle.cow_merge.specs.declared.ranges.Pages.{Pages}
 use Rattle.cow_merge.specs.inside.Sharing.{AreShared}
 use Rattle.cow_merge.specs.inside.HandingOver.{frame_there, HasRowPut, AreSeenFrom, IsHandingOver, IsHandedUpTo, HasHandedOver}
-use Rattle.cow_merge.proofs.RangeLaws.{gives-then, accounts-same, accounts-then, page-over}
+use Rattle.cow_merge.proofs.RangeLaws.{gives-then, accounts-same, accounts-then}
 use Rattle.cow_merge.proofs.LiftedLaws.{linked-placed, family-lists, row-sees, row-bit, row-bit_below, without-none, lifted-gone, lifted-moved, HasLiftedOn}
 use Rattle.cow_merge.proofs.SharingLaws.{some-left, reached-below, reached-found}
 use Rattle.cow_split.proofs.PartLaws.{part-none}
+use Rattle.cow_split.proofs.CutLaws.{page-over}
 
 -- both bits are clear
 both-clear : (from : Side) (left right : Bool) → bit_on from left right ≡ false → bit_on (other_side from) left right ≡ false → (left ≡ false) × (right ≡ false)

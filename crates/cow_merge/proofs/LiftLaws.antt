@@ -31,7 +31,7 @@ use Rattle.cow_split.proofs.RowLaws.{exact-in_use_alike, with_row-twice}
 use Rattle.cow_merge.specs.Ranges.{ShowsSame}
 use Rattle.cow_merge.specs.inside.Lifting.{IsMoved, IsAside}
 use Rattle.cow_merge.proofs.SpliceLaws.{family-apart}
-use Rattle.cow_merge.proofs.RangeLaws.{page-over}
+use Rattle.cow_split.proofs.CutLaws.{page-over}
 
 -- ---- rows that are moved
 

@@ -37,7 +37,7 @@ use Rattle.cow_split.proofs.PartLaws.{part-none}
 use Rattle.cow_split.proofs.SearchLaws.{leaf-alone}
 use Rattle.cow_split.proofs.RowLaws.{left_out-in_sight, only-more, exact-in_use_alike, with_row-twice}
 use Rattle.cow_split.proofs.ExactLaws.{cases_place}
-use Rattle.cow_split.proofs.CutLaws.{exact-cut, cut-shows}
+use Rattle.cow_split.proofs.CutLaws.{exact-cut, cut-shows, page-over}
 use Rattle.frame_pool.specs.declared.frame_pool.Backlink.{Backlink}
 use Rattle.frame_pool.specs.Pool.{Pool, taken_frames, is_taken, links_of}
 use Rattle.cow_merge.specs.Ranges.{bit_on, leaving_range, ShowsSame, AreLinked, IsLeftOut, IsHeldBy, IsSparing, Accounts, HasLost, ShowsBut, HasGiven}
@@ -45,7 +45,7 @@ use Rattle.cow_merge.specs.inside.Lifting.{IsAside, AreLifted, IsLifting, IsBefo
 use Rattle.cow_merge.proofs.PassingLaws.{range-exact}
 use Rattle.cow_merge.proofs.SpliceLaws.{family-apart}
 use Rattle.cow_merge.proofs.LiftLaws.{lists-apart, leaf-step, hidden, not-below, dropped-shows, dropped-exact, moved-shows, moved-exact}
-use Rattle.cow_merge.proofs.RangeLaws.{moves-then, accounts-same, page-over}
+use Rattle.cow_merge.proofs.RangeLaws.{moves-then, accounts-same}
 
 -- a slot that has a frame, by the test
 pub has-frame : (t : ℕ) (row : Slot) → frame_in row ≡ Some t → is_row_of_frame t row ≡ true

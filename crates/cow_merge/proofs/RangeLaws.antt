@@ -23,11 +23,10 @@ use Rattle.cow_arena.proofs.ReachLaws.{reach-one, reach-more, reach-each}
 use Rattle.cow_split.specs.declared.answers.Cut.{Cut}
 use Rattle.cow_split.specs.declared.answers.Cut.TheVariants as cut
 use Rattle.cow_split.specs.Trees.{tree_of}
-use Rattle.cow_split.specs.Sight.{IsPage}
 use Rattle.cow_split.specs.Exact.{IsExact, IsOnlyOf, all_in_sight, leaving_out, without_frame}
 use Rattle.cow_split.specs.Cutting.{cut_slots, frame_left, HasCut}
 use Rattle.cow_split.proofs.RowLaws.{left_out-in_sight, left_out-other, only-more, only-none, exact-in_use_alike, exact-own_gone, own-shows, frame-in_use}
-use Rattle.cow_split.proofs.CutLaws.{exact-cut, cut-last, cut-shows}
+use Rattle.cow_split.proofs.CutLaws.{exact-cut, cut-last, cut-shows, page-over}
 use Rattle.cow_split.proofs.PartLaws.{part-same, part-with_pair, part-then, part-none, part-cut}
 use Rattle.cow_merge.specs.Ranges.{AreLinked, GivesBack, HasGiven, Accounts, Moves, HasLost, HasLeftPageOut, IsDropping, IsLeftBare, HasKept}
 
@@ -97,10 +96,6 @@ accounts-part old new before after frame part given spare count =
     record { gives = given.gives; linked = linked-part old new before after part given.links; spare = spare; count = count }
 
 -- ---- the tree moves on
-
--- a page is one whatever the rows are
-pub page-over : (t : Tree) (slots : Slots) (v p : ℕ) → IsPage t v p → IsPage (record t { slots = slots }) v p
-page-over t slots v p page = record { node = page.node; visible = page.visible; below = page.below }
 
 pub moves-then : {arena : Arena} {old mid new : Rows Row} {before between after : Pool} {v first : ℕ} → Moves arena old mid before between v first →
     Moves arena mid new between after v first → Moves arena old new before after v first

@@ -22,7 +22,7 @@ use Rattle.cow_split.specs.Exact.{IsExact, all_in_sight}
 use Rattle.cow_merge.specs.Ranges.{HasLost, IsLeftOut}
 use Rattle.cow_merge.specs.Merging.{with_count, narrowed_nodes, HasShrunk}
 use Rattle.cow_merge.proofs.CountLaws.{narrowed-page, narrowed-shows, exact-narrowed}
-use Rattle.cow_merge.proofs.RangeLaws.{page-over}
+use Rattle.cow_split.proofs.CutLaws.{page-over}
 
 -- the tree of other nodes
 pub tree-now : (old new : Arena) (rows : Rows Row) (nodes : Nodes) → nodes_of new ≡ nodes → new.lists ≡ old.lists →

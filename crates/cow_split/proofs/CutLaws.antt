@@ -212,18 +212,19 @@ record OthersAlike (t : Tree) (slots : Slots) (v p : ℕ) : Type 0 where
       Sees (record t { slots = slots }) w r from h q → Sees t w r from h q
   frames : OthersShowSame t (record t { slots = slots }) v p
 
-page-now : (t : Tree) (slots : Slots) (w r : ℕ) → IsPage t w r → IsPage (record t { slots = slots }) w r
-page-now t slots w r page = record { node = page.node; visible = page.visible; below = page.below }
+-- a page is one whatever the rows are
+pub page-over : (t : Tree) (slots : Slots) (w r : ℕ) → IsPage t w r → IsPage (record t { slots = slots }) w r
+page-over t slots w r page = record { node = page.node; visible = page.visible; below = page.below }
 
 -- rows that show the same frames
 same-frames : (t : Tree) (slots : Slots) (v p : ℕ) → IsForest t.nodes t.lists → SameFrames t.slots slots → OthersAlike t slots v p
 same-frames t slots v p forest alike = record {
   forth = λ w r from h q other sees.
       let found = found-alike t slots alike forest w r _ sees.found in
-      record { page = page-now t slots w r sees.page; slot = found.0; found = found.1 };
+      record { page = page-over t slots w r sees.page; slot = found.0; found = found.1 };
   back = λ w r from h q other sees.
       let found = found-alike (record t { slots = slots }) t.slots (frames-back alike) forest w r _ sees.found in
-      record { page = page-now (record t { slots = slots }) t.slots w r sees.page; slot = found.0; found = found.1 };
+      record { page = page-over (record t { slots = slots }) t.slots w r sees.page; slot = found.0; found = found.1 };
   frames = λ w r page other. frame-alike t slots alike forest w r;
 }
 
@@ -232,12 +233,12 @@ same-walks : (t : Tree) (slots : Slots) (v p : ℕ) → ((w r : ℕ) → IsPage 
     walk (record t { slots = slots }) w r ≡ walk t w r) → OthersAlike t slots v p
 same-walks t slots v p same = record {
   forth = λ w r from h q other sees. record {
-    page = page-now t slots w r sees.page;
+    page = page-over t slots w r sees.page;
     slot = sees.slot;
     found = same w r sees.page other ∙ sees.found;
   };
   back = λ w r from h q other sees.
-      let page = page-now (record t { slots = slots }) t.slots w r sees.page in
+      let page = page-over (record t { slots = slots }) t.slots w r sees.page in
       record { page = page; slot = sees.slot; found = sym (same w r page other) ∙ sees.found };
   frames = λ w r page other. ap frame_found (same w r page other);
 }

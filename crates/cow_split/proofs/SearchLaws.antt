@@ -19,7 +19,6 @@ use Rattle.cow_arena.specs.Walk.{Slots, Tree}
 use Rattle.cow_arena.specs.Forest.{IsForest}
 use Rattle.cow_arena.specs.Ways.{Climbs, Reaches}
 use Rattle.cow_arena.proofs.ReachLaws.{hidden-of-child, reach-one, reach-each, reach-on, child-there, climb-from-child, side-of-child, climb-side, found-of-reach, walk-ends}
-use Rattle.cow_split.specs.Trees.{with_row}
 use Rattle.cow_split.specs.Search.{in_window, ends, meets, viewers_over, viewers_from, has_some, reached_from}
 use Rattle.cow_split.specs.Searching.{viewers_at, IsLeafOn}
 use Rattle.cow_split.specs.Sight.{IsPage, Sees}
