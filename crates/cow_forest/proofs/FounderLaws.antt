@@ -1,11 +1,11 @@
 -- The founders of hidden nodes say who sees a row, and stay right where a VMO comes, changes its page count or goes, and where a
 -- snapshot is made.
-use Rattle.std.proofs.Common.{◌≡◌, ◌≢◌, ◌⊎◌, min, ℕ, zero, suc, ◌+◌, ◌<◌, ◌≤◌, ◌==◌, if◌then◌else◌, Bool, Option, None, Some, IsSome, inl, inr, refl, sym, ap, subst, ◌∙◌, arith}
+use Rattle.std.proofs.Common.{◌≡◌, ◌≢◌, ◌⊎◌, min, ℕ, zero, suc, ◌+◌, ◌≤◌, ◌==◌, if◌then◌else◌, Bool, Option, None, Some, inl, inr, refl, sym, ap, subst, ◌∙◌, arith}
 use Rattle.std.specs.Prelude.{List, [], ◌∷◌, ◌++◌, is_some, slice_index_or}
 use Rattle.std.proofs.lemmas.Bool.{cases_eq}
 use Rattle.vm_base.specs.declared.names.Koid.{Koid}
 use Rattle.vm_base.specs.Entries.{with_key}
-use Rattle.vm_base.proofs.EntryLaws.{some_same, with_key-same, with_key-other, with_key-cases}
+use Rattle.vm_base.proofs.EntryLaws.{some_same, with_key-cases}
 use Rattle.vm_base.proofs.SearchLaws.{eqb_same, eqb_apart}
 use Rattle.balanced_tree.specs.Rows.{Rows}
 use Rattle.page_list.specs.declared.row.Row.{Row}
@@ -20,7 +20,7 @@ use Rattle.cow_arena.specs.Changes.{root_node, paired, hidden_over, below_hidden
 use Rattle.cow_arena.proofs.WalkLaws.{link_same}
 use Rattle.cow_arena.proofs.RelinkLaws.{relinked-was}
 use Rattle.cow_fork.specs.Sharing.{HasShared}
-use Rattle.cow_merge.specs.Merging.{with_count, StaysUnder, IsRaised, KeepsParents}
+use Rattle.cow_merge.specs.Merging.{with_count, IsRaised, KeepsParents}
 use Rattle.cow_merge.proofs.ParentLaws.{window_first-zero}
 use Rattle.cow_forest.specs.declared.founders.Founders.{Founders}
 use Rattle.cow_forest.specs.declared.founders.FounderTable.{FounderTable}

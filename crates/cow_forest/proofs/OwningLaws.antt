@@ -1,5 +1,5 @@
 -- A page that a VMO's node shows alone is owned, and one that was forked is, once its frame's backlink leads to its row.
-use Rattle.std.proofs.Common.{◌≡◌, ℕ, ◌≤◌, Bool, false, Option, None, Some, IsSome, refl, sym, ap, cond, ◌∙◌, inl, inr, arith}
+use Rattle.std.proofs.Common.{◌≡◌, ℕ, ◌≤◌, Bool, false, None, Some, IsSome, refl, sym, ap, cond, ◌∙◌, inl, inr, arith}
 use Rattle.std.specs.Prelude.{◌==◌, if◌then◌else◌}
 use Rattle.std.proofs.lemmas.Bool.{cases_eq, eq-eqb, ne_eqb, cond-true, cond-false}
 use Rattle.balanced_tree.specs.Rows.{Rows}
