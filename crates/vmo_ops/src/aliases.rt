@@ -14,40 +14,41 @@ ghost use Rattle.pages.specs.Names.{IsInside};
 ghost use Rattle.vmo_table.specs.Table.{names_of, lineage_in, keepers_of, with_vmos, AreParts, IsNamed};
 ghost use Rattle.vmo_ops.specs.Targets.{IsRefusalOfChild};
 
+use crate::requests::ChildShape;
 use pages::{Pages, size_of_name};
 use vm_base::{Koid, PAGE, PageNo, Refusal, VmoName, in_page, page_of, round_up};
 use vmo_table::{NameKind, Target, VmoTable};
 
-/// Lets a name stand for a part of what `t` stands for: `bytes` bytes, rounded up to whole pages, from `offset` bytes
-/// into it on. The new name is another name of the same pages, and may not resize the VMO.
+/// Lets a name stand for a part of what `t` stands for: the bytes that are asked for, rounded up to whole pages. The new
+/// name is another name of the same pages, and may not resize the VMO.
 pub(crate) fn slice<P: Pages>(
     store: &P,
     vmos: &mut VmoTable,
     name: VmoName,
     t: &Target,
-    offset: u64,
-    bytes: u64,
-    resizable: bool,
-    no_write: bool,
+    shape: ChildShape,
 ) -> Result<Option<Koid>, Refusal>
     requires parts { AreParts (P.content store.now) vmos.old }
     requires named { IsNamed (names_of vmos.old) t.now }
     requires closed { names_of vmos.old name.0 ≡ None }
     ensures step { (s : State) (parent : VmoName) → names_of vmos.old parent.0 ≡ Some t.now →
         Step (with_vmos s (P.content store.now) vmos.old)
-        (Command.VmoChild name parent Slice offset bytes resizable no_write)
+        (Command.VmoChild name parent Slice shape.offset shape.size shape.resizable shape.no_write)
         (reply_of (λ _. Reply.Done) result) (with_vmos s (P.content store.now) vmos.new) }
     ensures keepers { keepers_of vmos.new ≡ keepers_of vmos.old }
     ensures koid { IfOk result (λ koid. koid ≡ None) }
 {
-    let pages = match ask_to_slice(store, vmos, t, offset, bytes, resizable) {
+    let pages = match ask_to_slice(store, vmos, t, shape.offset, shape.size, shape.resizable) {
         Ok(pages) => pages,
         Err(refusal) => return Err(refusal),
     };
     let Ok(()) = vmos.reserve() else {
         return Err(Refusal::HostMemory);
     };
-    vmos.alias(name, slice_target(t, page_of(offset), pages, no_write));
+    vmos.alias(
+        name,
+        slice_target(t, page_of(shape.offset), pages, shape.no_write),
+    );
     Ok(None)
 }
 
@@ -120,28 +121,25 @@ pub(crate) fn reference(
     vmos: &mut VmoTable,
     name: VmoName,
     t: &Target,
-    offset: u64,
-    bytes: u64,
-    resizable: bool,
-    no_write: bool,
+    shape: ChildShape,
 ) -> Result<Option<Koid>, Refusal>
     requires named { IsNamed (names_of vmos.old) t.now }
     requires vmo { IsSome (lineage_in vmos.old t.now.koid.0) }
     requires closed { names_of vmos.old name.0 ≡ None }
     ensures step { (c : Content) (s : State) (parent : VmoName) → names_of vmos.old parent.0 ≡ Some t.now →
-        Step (with_vmos s c vmos.old) (Command.VmoChild name parent Reference offset bytes resizable no_write)
+        Step (with_vmos s c vmos.old) (Command.VmoChild name parent Reference shape.offset shape.size shape.resizable shape.no_write)
         (reply_of (λ _. Reply.Done) result) (with_vmos s c vmos.new) }
     ensures keepers { keepers_of vmos.new ≡ keepers_of vmos.old }
     ensures koid { IfOk result (λ koid. koid ≡ None) }
 {
-    match ask_to_reference(t, offset, bytes, resizable, no_write) {
+    match ask_to_reference(t, shape.offset, shape.size, shape.resizable, shape.no_write) {
         Ok(()) => {}
         Err(refusal) => return Err(refusal),
     }
     let Ok(()) = vmos.reserve() else {
         return Err(Refusal::HostMemory);
     };
-    vmos.alias(name, reference_target(t, resizable, no_write));
+    vmos.alias(name, reference_target(t, shape.resizable, shape.no_write));
     Ok(None)
 }
 

@@ -11,6 +11,7 @@ ghost use Rattle.vmo_table.specs.Table.{names_of, keepers_of, IsNamed};
 ghost use Rattle.vmo_ops.specs.Targets.{AreTogether, with_tables, koid_given};
 
 use crate::aliases::{reference, slice};
+use crate::requests::ChildShape;
 use crate::snapshots::snapshot;
 use pages::Pages;
 use pin_table::PinTable;
@@ -53,11 +54,15 @@ pub fn create_child<P: Pages>(
     ensures keepers { keepers_of vmos.new ≡ keepers_of vmos.old }
     ensures koid { IfOk result (λ koid. koid ≡ koid_given kind (P.content store.old).next) }
 {
+    let shape = ChildShape {
+        offset,
+        size,
+        resizable,
+        no_write,
+    };
     match kind {
-        ChildKind::Snapshot => snapshot(
-            store, vmos, pins, name, t, offset, size, resizable, no_write,
-        ),
-        ChildKind::Slice => slice(store, vmos, name, t, offset, size, resizable, no_write),
-        ChildKind::Reference => reference(vmos, name, t, offset, size, resizable, no_write),
+        ChildKind::Snapshot => snapshot(store, vmos, pins, name, t, shape),
+        ChildKind::Slice => slice(store, vmos, name, t, shape),
+        ChildKind::Reference => reference(vmos, name, t, shape),
     }
 }

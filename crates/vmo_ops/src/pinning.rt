@@ -23,6 +23,7 @@ ghost use Rattle.vmo_ops.specs.Targets.{with_pins, with_tables, IsRefusalIn};
 
 use crate::ranges::{is_whole, place_in_vmo, touched_pages};
 use crate::ready::{RangeToChange, room_to_own, rows_to_own};
+use crate::requests::VmoRange;
 use pages::{Pages, drop_gone};
 use pin_table::PinTable;
 use vm_base::{HostMemory, Koid, PAGE, PIN_PAGES, PinName, Refusal, page_of};
@@ -97,7 +98,12 @@ pub fn pin_into<'a, P: Pages>(
     let Ok(()) = room_to_pin(store, pins, t.koid, range, len) else {
         return Err(Refusal::HostMemory);
     };
-    Ok(add_pin(store, vmos, pins, pin, t.koid, range.at, len, room))
+    let pinned = VmoRange {
+        koid: t.koid,
+        at: range.at,
+        len,
+    };
+    Ok(add_pin(store, vmos, pins, pin, pinned, room))
 }
 
 /// Finds a range of a name that is to be pinned. Refusals as for `pin`, without `HostMemory`. Nothing changes.
@@ -158,37 +164,35 @@ fn add_pin<'a, P: Pages>(
     vmos: &mut VmoTable,
     pins: &mut PinTable,
     pin: PinName,
-    v: Koid,
-    at: u64,
-    len: u64,
+    range: VmoRange,
     room: &'a mut [u64],
 ) -> LentNumbers<'a>
     requires good { IsGood (P.content store.old) }
-    requires inside { at + len ≤ pages_of (P.content store.old) v.0 * PAGE }
-    requires range { IsPinRange at len }
-    requires rows { HasRows (P.content store.old) v.0 (touched at len) (P.spare store.old) }
-    requires frames { used (P.content store.old) + need (P.content store.old) v.0 (touched at len)
+    requires inside { range.at + range.len ≤ pages_of (P.content store.old) range.koid.0 * PAGE }
+    requires whole { IsPinRange range.at range.len }
+    requires rows { HasRows (P.content store.old) range.koid.0 (touched range.at range.len) (P.spare store.old) }
+    requires frames { used (P.content store.old) + need (P.content store.old) range.koid.0 (touched range.at range.len)
         ≤ (P.content store.old).frames }
     requires free { pins_of pins.old pin.0 ≡ None }
     requires pins { 1 ≤ pin_room pins.old }
     requires numbers { PIN_PAGES ≤ length room.old }
-    requires koid { IsSome (lineage_in vmos.old v.0) }
-    requires few { keepers_of vmos.old v.0 + 1 < 2 ^ 128 }
-    ensures owns { OwnsAll (P.content store.old) v.0 (touched at len) (P.content store.new) }
-    ensures numbers { result ≡ frames_of (P.content store.new) (pin_in v.0 at len) }
-    ensures pins { pins_of pins.new ≡ with_key (pins_of pins.old) pin.0 (pin_in v.0 at len) }
+    requires koid { IsSome (lineage_in vmos.old range.koid.0) }
+    requires few { keepers_of vmos.old range.koid.0 + 1 < 2 ^ 128 }
+    ensures owns { OwnsAll (P.content store.old) range.koid.0 (touched range.at range.len) (P.content store.new) }
+    ensures numbers { result ≡ frames_of (P.content store.new) (pin_in range.koid.0 range.at range.len) }
+    ensures pins { pins_of pins.new ≡ with_key (pins_of pins.old) pin.0 (pin_in range.koid.0 range.at range.len) }
     ensures pin { pin.0 < NAMES }
     ensures names { names_of vmos.new ≡ names_of vmos.old }
     ensures lineage { lineage_in vmos.new ≡ lineage_in vmos.old }
-    ensures keepers { (w : ℕ) → keepers_of vmos.new w ≡ keepers_of vmos.old w + (if w == v.0 then 1 else 0) }
+    ensures keepers { (w : ℕ) → keepers_of vmos.new w ≡ keepers_of vmos.old w + (if w == range.koid.0 then 1 else 0) }
 {
     // A VMO has no more pins than there are names: this rests on the range of the names.
     prove!(pin.0 <= u32::MAX);
-    let count = page_of(len);
+    let count = page_of(range.len);
     let numbers = &mut room[..count as usize];
-    own_frames(store, v, at, len, numbers);
-    pins.add(pin, v, page_of(at), count);
-    vmos.keep(v, 1);
+    own_frames(store, range.koid, range.at, range.len, numbers);
+    pins.add(pin, range.koid, page_of(range.at), count);
+    vmos.keep(range.koid, 1);
     LentNumbers::new(numbers)
 }
 

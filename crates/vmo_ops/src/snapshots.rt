@@ -19,13 +19,14 @@ ghost use Rattle.vmo_ops.specs.inside.Copies.{copies_of, IsSeenPart};
 ghost use Rattle.vmo_ops.specs.Targets.{AreTogether, with_pins, with_tables, koid_given, IsRefusalOfChild};
 
 use crate::copies::{count_copies, own_copies};
+use crate::requests::ChildShape;
 use crate::sizes::pages_within;
 use pages::{Pages, pages_of_name};
 use pin_table::PinTable;
 use vm_base::{HostMemory, Koid, PAGE, PageNo, Refusal, VMO_PAGES, VmoName, in_page, page_of};
 use vmo_table::{Origin, Target, VmoTable};
 
-/// Makes a VMO that shows the pages of what `t` stands for, from `offset` bytes into it on, as they are now
+/// Makes a VMO that shows the pages of a part of what `t` stands for as they are now
 /// (`ZX_VMO_CHILD_SNAPSHOT`). A page is copied when one of the two VMOs is written to. A pinned page is copied at once,
 /// so that it keeps its frame for itself. Pages past the end of the name are zero.
 pub(crate) fn snapshot<P: Pages>(
@@ -34,10 +35,7 @@ pub(crate) fn snapshot<P: Pages>(
     pins: &PinTable,
     name: VmoName,
     t: &Target,
-    offset: u64,
-    size: u64,
-    resizable: bool,
-    no_write: bool,
+    shape: ChildShape,
 ) -> Result<Option<Koid>, Refusal>
     requires parts { AreTogether (P.content store.old) vmos.old pins.now }
     requires named { IsNamed (names_of vmos.old) t.now }
@@ -45,12 +43,20 @@ pub(crate) fn snapshot<P: Pages>(
     requires next { (P.content store.old).next < KOIDS }
     ensures step { (s : State) (parent : VmoName) → names_of vmos.old parent.0 ≡ Some t.now →
         Step (with_tables s (P.content store.old) vmos.old pins.now)
-        (Command.VmoChild name parent Snapshot offset size resizable no_write)
+        (Command.VmoChild name parent Snapshot shape.offset shape.size shape.resizable shape.no_write)
         (reply_of (λ _. Reply.Done) result) (with_tables s (P.content store.new) vmos.new pins.now) }
     ensures keepers { keepers_of vmos.new ≡ keepers_of vmos.old }
     ensures koid { IfOk result (λ koid. koid ≡ koid_given Snapshot (P.content store.old).next) }
 {
-    let part = match ask_to_snapshot(store, pins, t, offset, size, resizable, no_write) {
+    let part = match ask_to_snapshot(
+        store,
+        pins,
+        t,
+        shape.offset,
+        shape.size,
+        shape.resizable,
+        shape.no_write,
+    ) {
         Ok(part) => part,
         Err(refusal) => return Err(refusal),
     };
@@ -64,10 +70,10 @@ pub(crate) fn snapshot<P: Pages>(
     vmos.enter(
         name,
         koid,
-        resizable,
+        shape.resizable,
         Origin::Snapshot,
         Some(t.koid),
-        !no_write,
+        !shape.no_write,
     );
     Ok(Some(koid))
 }

@@ -27,7 +27,7 @@ returns-clause-step c = λ d s parent named.
     let old = with_vmos s d c.args.vmos.now in
     let names = rw (c.reserve.ensures.names, c.reference_target.ensures) at c.alias.ensures.names in
     let lineage = rw c.reserve.ensures.lineage at c.alias.ensures.lineage in
-    Step-done old (VmoChild c.args.name parent Reference c.args.offset c.args.bytes c.args.resizable c.args.no_write) Done _
+    Step-done old (VmoChild c.args.name parent Reference c.args.shape.offset c.args.shape.size c.args.shape.resizable c.args.shape.no_write) Done _
     (sym (c.in-Ok.ensures (λ (r : State). with_vmos r d c.args.vmos.now) s c.args.name parent named c.requires.closed))
-    (subst (λ (t : Target). (Done ≡ Done) × (with_vmos s d c.alias.new.self ≡ with_alias old c.args.name.0 (reference_of t c.args.resizable c.args.no_write)))
+    (subst (λ (t : Target). (Done ≡ Done) × (with_vmos s d c.alias.new.self ≡ with_alias old c.args.name.0 (reference_of t c.args.shape.resizable c.args.shape.no_write)))
     (sym (target_of-at old parent.0 c.args.t.now named)) (refl, λ i. record old { names = names i; lineage = lineage i }))

@@ -11,9 +11,9 @@ pub returns-clause-lineage : goal.returns-clause-lineage
 returns-clause-lineage g c = c.keep.ensures.lineage
 
 pub own_frames-requires-clause-whole : goal.own_frames-requires-clause-whole
-own_frames-requires-clause-whole g c = (c.requires.range.0, c.requires.range.1)
+own_frames-requires-clause-whole g c = (c.requires.whole.0, c.requires.whole.1)
 
 pub add-requires-clause-few : goal.add-requires-clause-few
 add-requires-clause-few g c =
-    let range = c.requires.range in
+    let range = c.requires.whole in
     (omega (arith, c.page_of-count.ensures, range.1, range.2), omega (arith, c.page_of-count.ensures, range.3))

@@ -31,8 +31,8 @@ add_pin-requires-clause-good g c = rw c.room_to_pin.ensures.content c.requires.p
 pub add_pin-requires-clause-inside : goal.add_pin-requires-clause-inside
 add_pin-requires-clause-inside g c = rw c.room_to_pin.ensures.content c.in-Ok.ensures.ok.placed.inside
 
-pub add_pin-requires-clause-range : goal.add_pin-requires-clause-range
-add_pin-requires-clause-range g c = placed_range _ _ _ _ _ c.in-Ok.ensures.ok.placed c.in-Ok.ensures.ok.range
+pub add_pin-requires-clause-whole : goal.add_pin-requires-clause-whole
+add_pin-requires-clause-whole g c = placed_range _ _ _ _ _ c.in-Ok.ensures.ok.placed c.in-Ok.ensures.ok.range
 
 pub add_pin-requires-clause-rows : goal.add_pin-requires-clause-rows
 add_pin-requires-clause-rows g c = rw c.room_to_pin.ensures.content c.in-Ok-room_to_pin.ensures.rows
