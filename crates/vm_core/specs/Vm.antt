@@ -1,5 +1,5 @@
 -- What a `Vm` is to its callers, and the machine that it and its store stand for.
-use Rattle.std.specs.Prelude.{◌≡◌, ℕ, None}
+use Rattle.std.specs.Prelude.{None}
 use Rattle.vm_model.specs.Contents.Content.{Content}
 use Rattle.vm_model.specs.Machine.State.{State, empty_state, IsGoodState}
 use Rattle.vm_model.specs.Machine.Machine.{Machine}

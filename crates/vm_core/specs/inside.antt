@@ -1,4 +1,5 @@
 pub mod VmFields
 pub mod Calls
 pub mod Groups
+pub mod Held
 pub mod Resets

@@ -13,26 +13,25 @@ use page_store::PageStore;
 use pages::size_of_name;
 use vm_base::{Refusal, VmoName};
 use vm_model::Answer;
+use vmo_ops::NameRange;
 use vmo_table::VmoTable;
 
-/// Reads `len` bytes from `offset` bytes into the name on, into `room`, which has at least `DATA_BYTES` bytes.
+/// Reads the bytes of a range into `room`, which has at least `DATA_BYTES` bytes.
 pub(crate) fn vmo_read<'a, P: PageStore>(
     store: &P,
     vmos: &VmoTable,
-    name: VmoName,
-    offset: u64,
-    len: u64,
+    range: NameRange,
     room: &'a mut [u8],
 ) -> Answer<'a>
     requires parts { AreParts (P.content store.now) vmos.now }
     requires room { DATA_BYTES ≤ length room.old }
-    ensures { StepsVmos (P.content store.now) vmos.now (Command.VmoRead name offset len)
+    ensures { StepsVmos (P.content store.now) vmos.now (Command.VmoRead range.name range.offset range.len)
         (reply_for result) (P.content store.now) vmos.now }
 {
-    let Some(target) = vmos.resolve(name) else {
+    let Some(target) = vmos.resolve(range.name) else {
         return Answer::Refused(Refusal::BadHandle);
     };
-    match vmo_ops::read_into(store, &target, offset, len, room) {
+    match vmo_ops::read_into(store, &target, range.offset, range.len, room) {
         Ok(bytes) => Answer::Bytes(bytes),
         Err(refusal) => Answer::Refused(refusal),
     }

@@ -19,6 +19,7 @@ use page_store::PageStore;
 use pin_table::PinTable;
 use vm_base::{Refusal, VmoName};
 use vm_model::{Answer, Target};
+use vmo_ops::NameRange;
 use vmo_table::VmoTable;
 
 /// Writes bytes from `offset` bytes into the name on.
@@ -57,21 +58,26 @@ pub(crate) fn vmo_fill<P: PageStore>(
     store: &mut P,
     vmos: &VmoTable,
     translations: &mut Translations,
-    name: VmoName,
-    offset: u64,
-    len: u64,
+    range: NameRange,
     byte: u8,
 ) -> Answer<'static>
     requires { AreParts (P.content store.old) vmos.now }
-    ensures step { StepsVmos (P.content store.old) vmos.now (Command.VmoFill name offset len byte) (reply_for result)
+    ensures step { StepsVmos (P.content store.old) vmos.now (Command.VmoFill range.name range.offset range.len byte) (reply_for result)
         (P.content store.new) vmos.now }
-    ensures left { LeavesVmos (P.content store.old) vmos.now (translations_of translations.old) (Command.VmoFill name offset len byte) (reply_for result)
+    ensures left { LeavesVmos (P.content store.old) vmos.now (translations_of translations.old) (Command.VmoFill range.name range.offset range.len byte) (reply_for result)
         (P.content store.new) (translations_of translations.new) }
 {
-    match vmos.resolve(name) {
+    match vmos.resolve(range.name) {
         Some(target) => {
-            let outcome = vmo_ops::fill(store, &target, offset, len, byte);
-            changed(translations, store, &target, offset, len, outcome)
+            let outcome = vmo_ops::fill(store, &target, range.offset, range.len, byte);
+            changed(
+                translations,
+                store,
+                &target,
+                range.offset,
+                range.len,
+                outcome,
+            )
         }
         None => Answer::Refused(Refusal::BadHandle),
     }
@@ -82,20 +88,25 @@ pub(crate) fn vmo_commit<P: PageStore>(
     store: &mut P,
     vmos: &VmoTable,
     translations: &mut Translations,
-    name: VmoName,
-    offset: u64,
-    len: u64,
+    range: NameRange,
 ) -> Answer<'static>
     requires { AreParts (P.content store.old) vmos.now }
-    ensures step { StepsVmos (P.content store.old) vmos.now (Command.VmoCommit name offset len) (reply_for result)
+    ensures step { StepsVmos (P.content store.old) vmos.now (Command.VmoCommit range.name range.offset range.len) (reply_for result)
         (P.content store.new) vmos.now }
-    ensures left { LeavesVmos (P.content store.old) vmos.now (translations_of translations.old) (Command.VmoCommit name offset len) (reply_for result)
+    ensures left { LeavesVmos (P.content store.old) vmos.now (translations_of translations.old) (Command.VmoCommit range.name range.offset range.len) (reply_for result)
         (P.content store.new) (translations_of translations.new) }
 {
-    match vmos.resolve(name) {
+    match vmos.resolve(range.name) {
         Some(target) => {
-            let outcome = vmo_ops::commit(store, &target, offset, len);
-            changed(translations, store, &target, offset, len, outcome)
+            let outcome = vmo_ops::commit(store, &target, range.offset, range.len);
+            changed(
+                translations,
+                store,
+                &target,
+                range.offset,
+                range.len,
+                outcome,
+            )
         }
         None => Answer::Refused(Refusal::BadHandle),
     }
@@ -107,20 +118,25 @@ pub(crate) fn vmo_zero<P: PageStore>(
     vmos: &VmoTable,
     pins: &PinTable,
     translations: &mut Translations,
-    name: VmoName,
-    offset: u64,
-    len: u64,
+    range: NameRange,
 ) -> Answer<'static>
     requires { AreTogether (P.content store.old) vmos.now pins.now }
-    ensures step { Steps (P.content store.old) vmos.now pins.now (Command.VmoZero name offset len) (reply_for result)
+    ensures step { Steps (P.content store.old) vmos.now pins.now (Command.VmoZero range.name range.offset range.len) (reply_for result)
         (P.content store.new) vmos.now pins.now }
-    ensures left { LeavesVmos (P.content store.old) vmos.now (translations_of translations.old) (Command.VmoZero name offset len) (reply_for result)
+    ensures left { LeavesVmos (P.content store.old) vmos.now (translations_of translations.old) (Command.VmoZero range.name range.offset range.len) (reply_for result)
         (P.content store.new) (translations_of translations.new) }
 {
-    match vmos.resolve(name) {
+    match vmos.resolve(range.name) {
         Some(target) => {
-            let outcome = vmo_ops::zero(store, pins, &target, offset, len);
-            changed(translations, store, &target, offset, len, outcome)
+            let outcome = vmo_ops::zero(store, pins, &target, range.offset, range.len);
+            changed(
+                translations,
+                store,
+                &target,
+                range.offset,
+                range.len,
+                outcome,
+            )
         }
         None => Answer::Refused(Refusal::BadHandle),
     }
@@ -132,20 +148,25 @@ pub(crate) fn vmo_decommit<P: PageStore>(
     vmos: &VmoTable,
     pins: &PinTable,
     translations: &mut Translations,
-    name: VmoName,
-    offset: u64,
-    len: u64,
+    range: NameRange,
 ) -> Answer<'static>
     requires { AreTogether (P.content store.old) vmos.now pins.now }
-    ensures step { Steps (P.content store.old) vmos.now pins.now (Command.VmoDecommit name offset len) (reply_for result)
+    ensures step { Steps (P.content store.old) vmos.now pins.now (Command.VmoDecommit range.name range.offset range.len) (reply_for result)
         (P.content store.new) vmos.now pins.now }
-    ensures left { LeavesVmos (P.content store.old) vmos.now (translations_of translations.old) (Command.VmoDecommit name offset len) (reply_for result)
+    ensures left { LeavesVmos (P.content store.old) vmos.now (translations_of translations.old) (Command.VmoDecommit range.name range.offset range.len) (reply_for result)
         (P.content store.new) (translations_of translations.new) }
 {
-    match vmos.resolve(name) {
+    match vmos.resolve(range.name) {
         Some(target) => {
-            let outcome = vmo_ops::decommit(store, vmos, pins, &target, offset, len);
-            changed(translations, store, &target, offset, len, outcome)
+            let outcome = vmo_ops::decommit(store, vmos, pins, &target, range.offset, range.len);
+            changed(
+                translations,
+                store,
+                &target,
+                range.offset,
+                range.len,
+                outcome,
+            )
         }
         None => Answer::Refused(Refusal::BadHandle),
     }

@@ -3,8 +3,7 @@
 //! for.
 
 ghost use Rattle.std.specs.Prelude.{◌≡◌, ◌<◌, ◌≤◌, length};
-ghost use Rattle.mapping_set.specs.Tables.{table_of, places_of as notes_of};
-ghost use Rattle.region_tree.specs.Tree.{regions_of, spaces_of, AreNoted};
+ghost use Rattle.mapping_set.specs.Tables.{table_of};
 ghost use Rattle.vm_base.specs.declared.limits.TheConstants.{DATA_BYTES, KOIDS, PIN_PAGES};
 ghost use Rattle.vm_model.specs.Machine.Lent.{command_of, reply_for};
 ghost use Rattle.region_ops.specs.Spaces.{AreAllWell};
@@ -12,24 +11,26 @@ ghost use Rattle.mapping_set.specs.Backed.{AreBacked};
 ghost use Rattle.fault.specs.Table.{translations_of, AreTrue};
 ghost use Rattle.vm_core.specs.inside.Calls.{AreCounted, DoesTables, DoesSpaces, DoesAccess, StepsSame};
 ghost use Rattle.vm_core.specs.inside.Groups.{group_of};
+ghost use Rattle.vm_core.specs.inside.Held.{spaces_held, AreNotedIn};
 ghost use Rattle.vm_core.specs.declared.groups.Group.{Group};
 
 use crate::accessing::{mem_read, mem_write};
+use crate::address_spaces::AddressSpaces;
 use crate::asking::{vmo_info, vmo_read, vmo_size};
 use crate::changing::{vmo_commit, vmo_decommit, vmo_fill, vmo_set_size, vmo_write, vmo_zero};
 use crate::mappings::{list_maps, vmar_map, vmar_protect, vmar_unmap};
 use crate::naming::{vmo_close, vmo_create, vmo_create_child};
 use crate::pinning::{vmo_pin, vmo_unpin};
+use crate::requests::{ChildRequest, PinRequest, range_of};
 use crate::spaces::{root_create, vmar_allocate, vmar_destroy};
 use attribution::stat;
 use fault::Translations;
-use mapping_set::MappingSet;
 use page_store::PageStore;
 use pin_table::PinTable;
 use region_ops::{AllocateRequest, MapRequest, RegionRange};
-use region_tree::Regions;
 use std::alloc::Global;
 use vm_model::{Answer, Call};
+use vmo_ops::ChildShape;
 use vmo_table::VmoTable;
 
 /// Hands a command on a VMO as a whole to its handler.
@@ -61,9 +62,20 @@ pub(crate) fn on_vmo<P: PageStore>(
             size,
             resizable,
             no_write,
-        } => vmo_create_child(
-            store, vmos, pins, ready, *name, *parent, *kind, *offset, *size, *resizable, *no_write,
-        ),
+        } => {
+            let shape = ChildShape {
+                offset: *offset,
+                size: *size,
+                resizable: *resizable,
+                no_write: *no_write,
+            };
+            let request = ChildRequest {
+                parent: *parent,
+                kind: *kind,
+                shape,
+            };
+            vmo_create_child(store, vmos, pins, ready, *name, request)
+        }
         Call::VmoClose { name } => vmo_close(store, vmos, *name),
         Call::VmoSize { name } => vmo_size(store, vmos, *name),
         Call::VmoSetSize { name, size } => vmo_set_size(store, vmos, pins, ready, *name, *size),
@@ -89,7 +101,12 @@ pub(crate) fn on_pages<'a, P: PageStore>(
         (reply_for result) (P.content store.new) vmos.now pins.now (translations_of ready.new) }
 {
     match call {
-        Call::VmoRead { name, offset, len } => vmo_read(store, vmos, *name, *offset, *len, bytes),
+        Call::VmoRead { name, offset, len } => vmo_read(
+            store,
+            vmos,
+            range_of(name, offset, len),
+            bytes,
+        ),
         Call::VmoWrite {
             name,
             offset,
@@ -100,15 +117,26 @@ pub(crate) fn on_pages<'a, P: PageStore>(
             offset,
             len,
             byte,
-        } => vmo_fill(store, vmos, ready, *name, *offset, *len, *byte),
+        } => vmo_fill(store, vmos, ready, range_of(name, offset, len), *byte),
         Call::VmoCommit { name, offset, len } => vmo_commit(
-            store, vmos, ready, *name, *offset, *len,
+            store,
+            vmos,
+            ready,
+            range_of(name, offset, len),
         ),
         Call::VmoZero { name, offset, len } => vmo_zero(
-            store, vmos, pins, ready, *name, *offset, *len,
+            store,
+            vmos,
+            pins,
+            ready,
+            range_of(name, offset, len),
         ),
         Call::VmoDecommit { name, offset, len } => vmo_decommit(
-            store, vmos, pins, ready, *name, *offset, *len,
+            store,
+            vmos,
+            pins,
+            ready,
+            range_of(name, offset, len),
         ),
         _ => unreachable!(),
     }
@@ -135,9 +163,11 @@ pub(crate) fn on_pin<'a, P: PageStore>(
             name,
             offset,
             len,
-        } => vmo_pin(
-            store, vmos, pins, ready, *pin, *name, *offset, *len, numbers,
-        ),
+        } => {
+            let range = range_of(name, offset, len);
+            let request = PinRequest { pin: *pin, range };
+            vmo_pin(store, vmos, pins, ready, request, numbers)
+        }
         Call::VmoUnpin { pin } => vmo_unpin(store, vmos, pins, *pin),
         _ => unreachable!(),
     }
@@ -148,21 +178,20 @@ pub(crate) fn on_region<P: PageStore>(
     alloc: Global,
     store: &mut P,
     vmos: &mut VmoTable,
-    regions: &mut Regions,
-    maps: &mut MappingSet,
+    spaces: &mut AddressSpaces,
     ready: &mut Translations,
     call: &Call<'_>,
 ) -> Answer<'static>
     requires group { group_of call.now ≡ Group.Region }
-    requires well { AreAllWell (P.content store.old) vmos.old (spaces_of (regions_of regions.old) (table_of maps.old)) }
-    requires noted { AreNoted (regions_of regions.old) (notes_of maps.old) }
-    ensures does { DoesSpaces (P.content store.old) vmos.old (spaces_of (regions_of regions.old) (table_of maps.old))
+    requires well { AreAllWell (P.content store.old) vmos.old (spaces_held spaces.old) }
+    requires noted { AreNotedIn spaces.old }
+    ensures does { DoesSpaces (P.content store.old) vmos.old (spaces_held spaces.old)
         (translations_of ready.old) (command_of call.now) (reply_for result) (P.content store.new) vmos.new
-        (spaces_of (regions_of regions.new) (table_of maps.new)) (translations_of ready.new) }
-    ensures noted { AreNoted (regions_of regions.new) (notes_of maps.new) }
+        (spaces_held spaces.new) (translations_of ready.new) }
+    ensures noted { AreNotedIn spaces.new }
 {
     match call {
-        Call::RootCreate { region } => root_create(regions, maps, *region),
+        Call::RootCreate { region } => root_create(spaces, *region),
         Call::VmarAllocate {
             region,
             parent,
@@ -178,7 +207,7 @@ pub(crate) fn on_region<P: PageStore>(
                 flags: *flags,
                 caps: *caps,
             };
-            vmar_allocate(regions, maps, *region, request)
+            vmar_allocate(spaces, *region, request)
         }
         Call::VmarMap {
             region,
@@ -198,7 +227,7 @@ pub(crate) fn on_region<P: PageStore>(
                 perm: *perm,
                 flags: *flags,
             };
-            vmar_map(store, vmos, regions, maps, ready, request)
+            vmar_map(store, vmos, spaces, ready, request)
         }
         Call::VmarUnmap { region, addr, len } => {
             let range = RegionRange {
@@ -206,7 +235,7 @@ pub(crate) fn on_region<P: PageStore>(
                 addr: *addr,
                 len: *len,
             };
-            vmar_unmap(store, vmos, regions, maps, ready, range)
+            vmar_unmap(store, vmos, spaces, ready, range)
         }
         Call::VmarProtect {
             region,
@@ -219,10 +248,10 @@ pub(crate) fn on_region<P: PageStore>(
                 addr: *addr,
                 len: *len,
             };
-            vmar_protect(regions, maps, ready, range, *perm)
+            vmar_protect(spaces, ready, range, *perm)
         }
-        Call::VmarDestroy { region } => vmar_destroy(store, vmos, regions, maps, ready, *region),
-        Call::Maps { region } => list_maps(alloc, regions, maps, *region),
+        Call::VmarDestroy { region } => vmar_destroy(store, vmos, spaces, ready, *region),
+        Call::Maps { region } => list_maps(alloc, spaces, *region),
         _ => unreachable!(),
     }
 }
@@ -241,17 +270,16 @@ pub(crate) fn on_machine<P: PageStore>(store: &P, call: &Call<'_>) -> Answer<'st
 /// Hands an access through mappings to its handler. A read writes its bytes to `bytes`.
 pub(crate) fn on_memory<'a, P: PageStore>(
     store: &mut P,
-    regions: &Regions,
-    maps: &MappingSet,
+    spaces: &AddressSpaces,
     translations: &mut Translations,
     call: &Call<'_>,
     bytes: &'a mut [u8],
 ) -> Answer<'a>
     requires group { group_of call.now ≡ Group.Memory }
-    requires backed { AreBacked (P.content store.old) (table_of maps.now) }
-    requires translations { AreTrue (P.content store.old) (table_of maps.now) (translations_of translations.old) }
+    requires backed { AreBacked (P.content store.old) (table_of spaces.now.maps) }
+    requires translations { AreTrue (P.content store.old) (table_of spaces.now.maps) (translations_of translations.old) }
     requires bytes { DATA_BYTES ≤ length bytes.old }
-    ensures { DoesAccess (spaces_of (regions_of regions.now) (table_of maps.now)) (P.content store.old)
+    ensures { DoesAccess (spaces_held spaces.now) (P.content store.old)
         (translations_of translations.old) (command_of call.now) (reply_for result) (P.content store.new)
         (translations_of translations.new) }
 {
@@ -262,7 +290,7 @@ pub(crate) fn on_memory<'a, P: PageStore>(
                 addr: *addr,
                 len: *len,
             };
-            mem_read(store, regions, maps, translations, range, bytes)
+            mem_read(store, spaces, translations, range, bytes)
         }
         Call::MemWrite {
             region,
@@ -270,8 +298,7 @@ pub(crate) fn on_memory<'a, P: PageStore>(
             bytes: written,
         } => mem_write(
             store,
-            regions,
-            maps,
+            spaces,
             translations,
             *region,
             *addr,

@@ -9,6 +9,7 @@
 #![tactic(auto)]
 
 mod accessing;
+mod address_spaces;
 mod asking;
 mod changing;
 mod dispatching;
@@ -16,6 +17,7 @@ mod groups;
 mod mappings;
 mod naming;
 mod pinning;
+mod requests;
 mod resets;
 mod sending;
 mod spaces;

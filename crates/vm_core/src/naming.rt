@@ -11,12 +11,13 @@ ghost use Rattle.vmo_ops.specs.Targets.{AreTogether};
 ghost use Rattle.fault.specs.Table.{translations_of};
 ghost use Rattle.vm_core.specs.inside.Calls.{LeavesTables, Steps, StepsVmos};
 
+use crate::requests::ChildRequest;
 use crate::resets::child_made;
 use fault::Translations;
 use page_store::PageStore;
 use pin_table::PinTable;
 use vm_base::{Refusal, VmoName};
-use vm_model::{Answer, ChildKind};
+use vm_model::Answer;
 use vmo_table::VmoTable;
 
 /// Makes a VMO. `NameInUse` if the name is open.
@@ -43,7 +44,7 @@ pub(crate) fn vmo_create<P: PageStore>(
     }
 }
 
-/// Makes a child of what `parent` stands for. `BadHandle` if `parent` is not open, `NameInUse` if `name` is open. The
+/// Makes a child of what the parent's name stands for. `BadHandle` if that name is not open, `NameInUse` if `name` is open. The
 /// translations of pages that a snapshot shows are left for reading alone, except those of pinned pages.
 pub(crate) fn vmo_create_child<P: PageStore>(
     store: &mut P,
@@ -51,35 +52,40 @@ pub(crate) fn vmo_create_child<P: PageStore>(
     pins: &PinTable,
     translations: &mut Translations,
     name: VmoName,
-    parent: VmoName,
-    kind: ChildKind,
-    offset: u64,
-    size: u64,
-    resizable: bool,
-    no_write: bool,
+    request: ChildRequest,
 ) -> Answer<'static>
     requires good { AreTogether (P.content store.old) vmos.old pins.now }
     requires next { (P.content store.old).next < KOIDS }
     ensures step { Steps (P.content store.old) vmos.old pins.now
-        (Command.VmoChild name parent kind offset size resizable no_write) (reply_for result)
-        (P.content store.new) vmos.new pins.now }
+        (Command.VmoChild name request.parent request.kind request.shape.offset request.shape.size request.shape.resizable
+        request.shape.no_write) (reply_for result) (P.content store.new) vmos.new pins.now }
     ensures left { LeavesTables (P.content store.old) vmos.old pins.now (translations_of translations.old)
-        (Command.VmoChild name parent kind offset size resizable no_write) (reply_for result)
-        (P.content store.new) (translations_of translations.new) }
+        (Command.VmoChild name request.parent request.kind request.shape.offset request.shape.size request.shape.resizable
+        request.shape.no_write) (reply_for result) (P.content store.new) (translations_of translations.new) }
     ensures keepers { keepers_of vmos.new ≡ keepers_of vmos.old }
     ensures name { name.0 < NAMES }
 {
-    let Some(target) = vmos.resolve(parent) else {
+    let Some(target) = vmos.resolve(request.parent) else {
         return Answer::Refused(Refusal::BadHandle);
     };
     if vmos.resolve(name).is_some() {
         return Answer::Refused(Refusal::NameInUse);
     }
+    let shape = request.shape;
     match vmo_ops::create_child(
-        store, vmos, pins, name, &target, kind, offset, size, resizable, no_write,
+        store,
+        vmos,
+        pins,
+        name,
+        &target,
+        request.kind,
+        shape.offset,
+        shape.size,
+        shape.resizable,
+        shape.no_write,
     ) {
         Ok(_) => {
-            child_made(translations, store, pins, &target, kind, offset, size);
+            child_made(translations, store, pins, &target, request);
             Answer::Done
         }
         Err(refusal) => Answer::Refused(refusal),

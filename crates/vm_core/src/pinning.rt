@@ -8,11 +8,12 @@ ghost use Rattle.vm_model.specs.Machine.Lent.{reply_for};
 ghost use Rattle.fault.specs.Table.{translations_of};
 ghost use Rattle.vm_core.specs.inside.Calls.{AreCounted, KeepsCounts, LeavesVmos, Steps};
 
+use crate::requests::PinRequest;
 use crate::resets::forget_changed;
 use fault::Translations;
 use page_store::PageStore;
 use pin_table::PinTable;
-use vm_base::{PinName, Refusal, VmoName};
+use vm_base::{PinName, Refusal};
 use vm_model::Answer;
 use vmo_table::VmoTable;
 
@@ -23,30 +24,37 @@ pub(crate) fn vmo_pin<'a, P: PageStore>(
     vmos: &mut VmoTable,
     pins: &mut PinTable,
     translations: &mut Translations,
-    pin: PinName,
-    name: VmoName,
-    offset: u64,
-    len: u64,
+    request: PinRequest,
     room: &'a mut [u64],
 ) -> Answer<'a>
     requires counted { AreCounted (P.content store.old) vmos.old pins.old }
     requires room { PIN_PAGES ≤ length room.old }
-    ensures step { Steps (P.content store.old) vmos.old pins.old (Command.VmoPin pin name offset len)
-        (reply_for result) (P.content store.new) vmos.new pins.new }
+    ensures step { Steps (P.content store.old) vmos.old pins.old (Command.VmoPin request.pin request.range.name
+        request.range.offset request.range.len) (reply_for result) (P.content store.new) vmos.new pins.new }
     ensures counted { KeepsCounts vmos.old pins.old vmos.new pins.new }
-    ensures left { LeavesVmos (P.content store.old) vmos.old (translations_of translations.old) (Command.VmoPin pin name offset len)
-        (reply_for result) (P.content store.new) (translations_of translations.new) }
-    ensures pin { pin.0 < NAMES }
+    ensures left { LeavesVmos (P.content store.old) vmos.old (translations_of translations.old) (Command.VmoPin request.pin request.range.name
+        request.range.offset request.range.len) (reply_for result) (P.content store.new) (translations_of translations.new) }
+    ensures pin { request.pin.0 < NAMES }
 {
-    let Some(target) = vmos.resolve(name) else {
+    let range = request.range;
+    let Some(target) = vmos.resolve(range.name) else {
         return Answer::Refused(Refusal::BadHandle);
     };
-    if pins.get(pin).is_some() {
+    if pins.get(request.pin).is_some() {
         return Answer::Refused(Refusal::NameInUse);
     }
-    match vmo_ops::pin_into(store, vmos, pins, pin, &target, offset, len, room) {
+    match vmo_ops::pin_into(
+        store,
+        vmos,
+        pins,
+        request.pin,
+        &target,
+        range.offset,
+        range.len,
+        room,
+    ) {
         Ok(numbers) => {
-            forget_changed(translations, store, &target, offset, len);
+            forget_changed(translations, store, &target, range.offset, range.len);
             Answer::Pins(numbers)
         }
         Err(refusal) => Answer::Refused(refusal),

@@ -11,6 +11,7 @@ ghost use Rattle.pin_table.specs.Table.{pins_of};
 ghost use Rattle.fault.specs.Table.{translations_of};
 ghost use Rattle.vm_core.specs.inside.Resets.{shared_by, without_changed, without_pages, without_past, with_read_only_but, with_shared, IsFirstBelow, IsRangeInVmo, IsShared};
 
+use crate::requests::ChildRequest;
 use fault::Translations;
 use page_store::PageStore;
 use pages::pages_of_name;
@@ -70,16 +71,16 @@ pub(crate) fn child_made<P: PageStore>(
     store: &P,
     pins: &PinTable,
     target: &Target,
-    kind: ChildKind,
-    offset: u64,
-    size: u64,
+    request: ChildRequest,
 )
-    requires { kind ≡ Snapshot → IsShared (P.content store.now) target.now offset size }
+    requires { request.kind ≡ Snapshot → IsShared (P.content store.now) target.now request.shape.offset request.shape.size }
     ensures { translations_of translations.new
-        ≡ shared_by kind (pins_of pins.now) (P.content store.now) target.now offset size (translations_of translations.old) }
+        ≡ shared_by request.kind (pins_of pins.now) (P.content store.now) target.now request.shape.offset request.shape.size
+        (translations_of translations.old) }
 {
-    match kind {
-        ChildKind::Snapshot => share(translations, store, pins, target, offset, size),
+    let shape = request.shape;
+    match request.kind {
+        ChildKind::Snapshot => share(translations, store, pins, target, shape.offset, shape.size),
         ChildKind::Slice | ChildKind::Reference => {}
     }
 }

@@ -4,6 +4,7 @@ ghost use Rattle.std.specs.Prelude.{◌≡◌, ◌+◌, ◌<◌, ◌≤◌, leng
 ghost use Rattle.vm_base.specs.declared.limits.TheConstants.{DATA_BYTES, KOIDS, PIN_PAGES};
 ghost use Rattle.vm_model.specs.Machine.Lent.{command_of, reply_for};
 
+use crate::address_spaces::AddressSpaces;
 use crate::dispatching::{on_machine, on_memory, on_pages, on_pin, on_region, on_vmo};
 use crate::groups::{Group, group_of};
 use fault::Translations;
@@ -25,10 +26,7 @@ pub struct Vm {
     vmos: VmoTable,
     /// The pins. Each is counted in `vmos` as a keeper of its VMO.
     pins: PinTable,
-    /// The regions of all address spaces.
-    regions: Regions,
-    /// The mappings: what each page of each address space shows.
-    maps: MappingSet,
+    spaces: AddressSpaces,
     /// The pages that are ready for an access.
     translations: Translations,
 }
@@ -63,8 +61,10 @@ impl Vm {
             alloc,
             vmos: VmoTable::new(alloc),
             pins: PinTable::new(alloc),
-            regions: Regions::new(alloc),
-            maps: MappingSet::new(alloc),
+            spaces: AddressSpaces {
+                regions: Regions::new(alloc),
+                maps: MappingSet::new(alloc),
+            },
             translations: Translations::new(alloc),
         }
     }
@@ -135,19 +135,11 @@ impl Vm {
                 self.alloc,
                 store,
                 &mut self.vmos,
-                &mut self.regions,
-                &mut self.maps,
+                &mut self.spaces,
                 &mut self.translations,
                 call,
             ),
-            Group::Memory => on_memory(
-                store,
-                &self.regions,
-                &self.maps,
-                &mut self.translations,
-                call,
-                bytes,
-            ),
+            Group::Memory => on_memory(store, &self.spaces, &mut self.translations, call, bytes),
             Group::Machine => on_machine(store, call),
         }
     }

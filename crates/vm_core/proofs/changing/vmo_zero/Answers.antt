@@ -9,17 +9,17 @@ use Rattle.vm_core.proofs.LeavesLaws.{asked_range, left_changed}
 use Rattle.vm_core.proofs.changing.vmo_zero.Goals as goal
 
 pub zero-outcome-requires-clause-inside : goal.zero-outcome-requires-clause-inside
-zero-outcome-requires-clause-inside g c = inside_named c.args.vmos.now c.args.name (parts_of c.requires) c.in-Some.ensures
+zero-outcome-requires-clause-inside g c = inside_named c.args.vmos.now c.args.range.name (parts_of c.requires) c.in-Some.ensures
 
 pub changed-requires : goal.changed-requires
 changed-requires g c = λ done.
     let s = with_tables c.requires.rest (g.P.PageStore.content c.args.store.now) c.args.vmos.now c.args.pins.now in
-    asked_range s c.args.name.0 (VmoZero c.args.name c.args.offset c.args.len) c.requires.good (c.zero-outcome.ensures s c.args.name (sym c.in-Some.ensures)) c.args.offset c.args.len c.in-Some.ensures (λ refusal e. cc) (λ asked. asked)
+    asked_range s c.args.range.name.0 (VmoZero c.args.range.name c.args.range.offset c.args.range.len) c.requires.good (c.zero-outcome.ensures s c.args.range.name (sym c.in-Some.ensures)) c.args.range.offset c.args.range.len c.in-Some.ensures (λ refusal e. cc) (λ asked. asked)
 
 pub returns-in-Some-clause-step : goal.returns-in-Some-clause-step
 returns-in-Some-clause-step g c =
-    let command = λ (name : VmoName). VmoZero name c.args.offset c.args.len in
-    rw c.changed.ensures.reply (steps_named_with command c.args.vmos.now c.args.pins.now c.args.name c.zero-outcome.ensures c.in-Some.ensures)
+    let command = λ (name : VmoName). VmoZero name c.args.range.offset c.args.range.len in
+    rw c.changed.ensures.reply (steps_named_with command c.args.vmos.now c.args.pins.now c.args.range.name c.zero-outcome.ensures c.in-Some.ensures)
 
 pub returns-in-Some-clause-left : goal.returns-in-Some-clause-left
-returns-in-Some-clause-left g c = record { left = left_changed _ (g.P.PageStore.content c.zero-outcome.new.store) c.args.vmos.now c.args.name (reply_for c.changed.result) c.args.offset c.args.len (translations_of c.args.translations.now) c.in-Some.ensures c.changed.ensures.left }
+returns-in-Some-clause-left g c = record { left = left_changed _ (g.P.PageStore.content c.zero-outcome.new.store) c.args.vmos.now c.args.range.name (reply_for c.changed.result) c.args.range.offset c.args.range.len (translations_of c.args.translations.now) c.in-Some.ensures c.changed.ensures.left }

@@ -1,15 +1,14 @@
 use Rattle.std.proofs.Common.{refl}
 use Rattle.region_ops.specs.Spaces.{with_all}
-use Rattle.mapping_set.specs.Tables.{table_of}
-use Rattle.region_tree.specs.Tree.{regions_of, spaces_of}
+use Rattle.vm_core.specs.inside.Held.{spaces_held}
 use Rattle.vm_core.proofs.CallLaws.{does_regions, does_mapped, leaves_spaces}
 use Rattle.vm_core.proofs.dispatching.on_region.Goals as goal
 
 pub vmar_protect-requires-clause-good : goal.vmar_protect-requires-clause-good
-vmar_protect-requires-clause-good g c = (with_all c.requires.well.rest (g.P.PageStore.content c.args.store.now) c.args.vmos.now (spaces_of (regions_of c.args.regions.now) (table_of c.args.maps.now)), c.requires.well.well.good)
+vmar_protect-requires-clause-good g c = (with_all c.requires.well.rest (g.P.PageStore.content c.args.store.now) c.args.vmos.now (spaces_held c.args.spaces.now), c.requires.well.well.good)
 
 pub returns-in-RootCreate : goal.returns-in-RootCreate
-returns-in-RootCreate g c = record { does = rw c.in-RootCreate.is (record { does = does_regions c.root_create.ensures.step; leaves = leaves_spaces (λ s d r. refl); name = c.root_create.ensures.name }); noted = c.root_create.ensures.noted }
+returns-in-RootCreate g c = record { does = rw (c.in-RootCreate.is, c.root_create.ensures.table) (record { does = does_regions (rw c.root_create.ensures.table at c.root_create.ensures.step); leaves = leaves_spaces (λ s d r. refl); name = c.root_create.ensures.name }); noted = c.root_create.ensures.noted }
 
 pub returns-in-VmarAllocate : goal.returns-in-VmarAllocate
 returns-in-VmarAllocate g c = record { does = rw (c.in-VmarAllocate.is, c.vmar_allocate.ensures.table) (record { does = does_regions (rw c.vmar_allocate.ensures.table at c.vmar_allocate.ensures.step); leaves = leaves_spaces (λ s d r. refl); name = c.vmar_allocate.ensures.name }); noted = c.vmar_allocate.ensures.noted }

@@ -5,10 +5,10 @@ use Rattle.vm_base.specs.declared.limits.TheConstants.{PAGE}
 use Rattle.vm_model.specs.declared.command.Command.TheVariants.{VmarMap}
 use Rattle.vm_model.specs.declared.space.Region.{Region}
 use Rattle.vm_model.specs.declared.reply.Reply.TheVariants.{Address}
-use Rattle.mapping_set.specs.Tables.{table_of}
-use Rattle.region_tree.specs.Tree.{regions_of, spaces_of}
+use Rattle.region_tree.specs.Tree.{regions_of}
 use Rattle.region_ops.specs.Spaces.{with_all, with_spaces}
 use Rattle.fault.specs.Table.{translations_of}
+use Rattle.vm_core.specs.inside.Held.{spaces_held}
 use Rattle.vm_core.specs.inside.Resets.{without_pages}
 use Rattle.vm_model.proofs.RegionLaws.{region_bounds}
 use Rattle.vm_core.proofs.BoundLaws.{done_bounds}
@@ -21,7 +21,7 @@ map_in-requires-clause-end g c = (region_bounds _ c.requires.well.well.good.spac
 
 pub forget_pages-requires : goal.forget_pages-requires
 forget_pages-requires g c =
-    let s = with_all c.requires.well.rest (g.P.PageStore.content c.args.store.now) c.args.vmos.now (spaces_of (regions_of c.args.regions.now) (table_of c.args.maps.now)) in
+    let s = with_all c.requires.well.rest (g.P.PageStore.content c.args.store.now) c.args.vmos.now (spaces_held c.args.spaces.now) in
     let does = (rw c.of.ensures at c.in-Ok.ensures.does) c.args.request.mapped (sym c.in-Some-resolve.ensures) in
     let bound = done_bounds s (VmarMap c.args.request.region c.args.request.offset c.args.request.mapped c.args.request.vmo_offset c.args.request.len c.args.request.perm c.args.request.flags) (Address c.in-Ok.address) _ c.requires.well.well.good (does.step c.requires.well.rest c.requires.well.well) (λ refusal e. cc) c.in-Ok.address refl in
     omega (arith, bound, c.page_of.ensures, c.page_count-count.ensures)
@@ -38,7 +38,7 @@ returns-in_default-resolve g c = record {
 
 pub returns-then-not-above : goal.returns-then-not-above
 returns-then-not-above g c =
-    let not_live = dead (regions_of c.args.regions.now) c.args.request.region.0 c.in-Some.ensures.region c.if-not-above.true in
+    let not_live = dead (regions_of c.args.spaces.now.regions) c.args.request.region.0 c.in-Some.ensures.region c.if-not-above.true in
     record {
       step = refused_spaces (λ s. rw (← c.in-Some.ensures.region) (rw (← c.in-Some-resolve.ensures) (rw not_live refl)));
       left = left_spaces;
@@ -54,7 +54,7 @@ returns-in-Ok g c = record {
   noted = rw (c.in-Ok.ensures.places refl) c.requires.noted;
   left = record {
     left = λ s d.
-        left_region (with_spaces s (spaces_of (regions_of c.args.regions.now) (table_of c.args.maps.now))) c.args.request.region.0
+        left_region (with_spaces s (spaces_held c.args.spaces.now)) c.args.request.region.0
         (λ (above : Region). without_pages above.root (c.in-Ok.address / PAGE) (rounded c.args.request.len / PAGE) (translations_of c.args.translations.now)) c.in-Some.ensures.region
         (rw (c.page_of.ensures, c.page_count-count.ensures) at c.forget_pages.ensures);
   };

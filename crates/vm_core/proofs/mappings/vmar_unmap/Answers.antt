@@ -4,10 +4,9 @@ use Rattle.vm_base.specs.declared.limits.TheConstants.{PAGE}
 use Rattle.vm_model.specs.declared.command.Command.TheVariants.{VmarUnmap}
 use Rattle.vm_model.specs.declared.space.Region.{Region}
 use Rattle.vm_model.specs.declared.reply.Reply.TheVariants.{Done}
-use Rattle.mapping_set.specs.Tables.{table_of}
-use Rattle.region_tree.specs.Tree.{regions_of, spaces_of}
 use Rattle.region_ops.specs.Spaces.{with_all, with_spaces}
 use Rattle.fault.specs.Table.{translations_of}
+use Rattle.vm_core.specs.inside.Held.{spaces_held}
 use Rattle.vm_core.specs.inside.Resets.{without_pages}
 use Rattle.vm_core.proofs.BoundLaws.{done_bounds}
 use Rattle.vm_core.proofs.LeavesLaws.{left_region}
@@ -16,7 +15,7 @@ use Rattle.vm_core.proofs.mappings.vmar_unmap.Goals as goal
 
 pub forget_pages-requires : goal.forget_pages-requires
 forget_pages-requires g c =
-    let s = with_all c.requires.well.rest (g.P.PageStore.content c.args.store.now) c.args.vmos.now (spaces_of (regions_of c.args.regions.now) (table_of c.args.maps.now)) in
+    let s = with_all c.requires.well.rest (g.P.PageStore.content c.args.store.now) c.args.vmos.now (spaces_held c.args.spaces.now) in
     let bound = done_bounds s (VmarUnmap c.args.range.region c.args.range.addr c.args.range.len) Done _ c.requires.well.well.good (c.in-Ok-unmap_in.ensures.does.step c.requires.well.rest c.requires.well.well) (λ refusal e. cc) in
     omega (arith, bound, c.page_of.ensures, c.page_count-count.ensures)
 
@@ -32,7 +31,7 @@ returns-in-Ok-unmap_in g c = record {
   noted = c.in-Ok-unmap_in.ensures.noted c.requires.noted;
   left = record {
     left = λ s d.
-        left_region (with_spaces s (spaces_of (regions_of c.args.regions.now) (table_of c.args.maps.now))) c.args.range.region.0
+        left_region (with_spaces s (spaces_held c.args.spaces.now)) c.args.range.region.0
         (λ (above : Region). without_pages above.root (c.args.range.addr / PAGE) (rounded c.args.range.len / PAGE) (translations_of c.args.translations.now)) (sym c.in-Ok.ensures.0)
         (rw (c.page_of.ensures, c.page_count-count.ensures) at c.forget_pages.ensures);
   };

@@ -16,24 +16,24 @@ pub child_made-requires : goal.child_made-requires
 child_made-requires g c = λ snapshot.
     let s = with_tables c.requires.good.rest (g.P.PageStore.content c.args.store.now) c.args.vmos.now c.args.pins.now in
     let new = g.P.PageStore.content c.create_child.new.store in
-    let command = λ (kind : ChildKind). VmoChild c.args.name c.args.parent kind c.args.offset c.args.size c.args.resizable c.args.no_write in
-    asked_named s c.args.parent.0 (command c.args.kind) c.requires.good.good (c.in-Ok.ensures.step s c.args.parent (sym c.in-Some.ensures))
-    (λ (target : Target). IsShared new target c.args.offset c.args.size) c.in-Some.ensures (λ refusal e. cc) (λ asked. subst (λ (kind : ChildKind). bounds_of s (command kind) new Done) snapshot asked)
+    let command = λ (kind : ChildKind). VmoChild c.args.name c.args.request.parent kind c.args.request.shape.offset c.args.request.shape.size c.args.request.shape.resizable c.args.request.shape.no_write in
+    asked_named s c.args.request.parent.0 (command c.args.request.kind) c.requires.good.good (c.in-Ok.ensures.step s c.args.request.parent (sym c.in-Some.ensures))
+    (λ (target : Target). IsShared new target c.args.request.shape.offset c.args.request.shape.size) c.in-Some.ensures (λ refusal e. cc) (λ asked. subst (λ (kind : ChildKind). bounds_of s (command kind) new Done) snapshot asked)
 
 pub returns-in-Ok-clause-step : goal.returns-in-Ok-clause-step
 returns-in-Ok-clause-step g c =
-    record { step = λ s good. c.in-Ok.ensures.step s c.args.parent (sym c.in-Some.ensures) }
+    record { step = λ s good. c.in-Ok.ensures.step s c.args.request.parent (sym c.in-Some.ensures) }
 
 pub returns-in-Ok-clause-left : goal.returns-in-Ok-clause-left
 returns-in-Ok-clause-left g c = record {
   left = λ s.
-      left_named (with_tables s (g.P.PageStore.content c.args.store.now) c.args.vmos.now c.args.pins.now) c.args.parent.0
-      (λ (target : Target). shared_by c.args.kind (pins_of c.args.pins.now) (g.P.PageStore.content c.create_child.new.store) target c.args.offset c.args.size (translations_of c.args.translations.now)) c.in-Some.ensures c.child_made.ensures;
+      left_named (with_tables s (g.P.PageStore.content c.args.store.now) c.args.vmos.now c.args.pins.now) c.args.request.parent.0
+      (λ (target : Target). shared_by c.args.request.kind (pins_of c.args.pins.now) (g.P.PageStore.content c.create_child.new.store) target c.args.request.shape.offset c.args.request.shape.size (translations_of c.args.translations.now)) c.in-Some.ensures c.child_made.ensures;
 }
 
 pub returns-in-Err-clause-step : goal.returns-in-Err-clause-step
 returns-in-Err-clause-step g c =
-    record { step = λ s good. c.in-Err.ensures.step s c.args.parent (sym c.in-Some.ensures) }
+    record { step = λ s good. c.in-Err.ensures.step s c.args.request.parent (sym c.in-Some.ensures) }
 
 pub returns-in_default-clause-left : goal.returns-in_default-clause-left
 returns-in_default-clause-left g c = left_tables

@@ -3,10 +3,9 @@ use Rattle.vm_base.specs.declared.limits.TheConstants.{PAGES_END}
 use Rattle.vm_model.specs.declared.command.Command.TheVariants.{VmarDestroy}
 use Rattle.vm_model.specs.declared.space.Region.{Region}
 use Rattle.vm_model.specs.Space.Regions.{end_of}
-use Rattle.mapping_set.specs.Tables.{table_of}
-use Rattle.region_tree.specs.Tree.{regions_of, spaces_of}
 use Rattle.region_ops.specs.Spaces.{with_all, with_spaces}
 use Rattle.fault.specs.Table.{translations_of}
+use Rattle.vm_core.specs.inside.Held.{spaces_held}
 use Rattle.vm_core.specs.inside.Resets.{without_pages}
 use Rattle.vm_core.proofs.LeavesLaws.{asked_region, left_region}
 use Rattle.vm_core.proofs.RefusedLaws.{refused_spaces}
@@ -17,14 +16,14 @@ returns-in-Err-clause-step g c = refused_spaces (λ s. sym (c.in-Err.ensures _))
 
 pub forget_pages-requires : goal.forget_pages-requires
 forget_pages-requires g c =
-    let s = with_all c.requires.well.rest (g.P.PageStore.content c.args.store.now) c.args.vmos.now (spaces_of (regions_of c.args.regions.now) (table_of c.args.maps.now)) in
+    let s = with_all c.requires.well.rest (g.P.PageStore.content c.args.store.now) c.args.vmos.now (spaces_held c.args.spaces.now) in
     asked_region s c.args.region.0 (VmarDestroy c.args.region) c.requires.well.well.good (c.destroy_in.ensures.does.step c.requires.well.rest c.requires.well.well)
     (λ (dying : Region). end_of dying ≤ PAGES_END) (sym c.in-Ok.ensures.0) (λ refusal e. cc) (λ asked. asked)
 
 pub returns-clause-left : goal.returns-clause-left
 returns-clause-left g c = record {
   left = λ s d.
-      left_region (with_spaces s (spaces_of (regions_of c.args.regions.now) (table_of c.args.maps.now))) c.args.region.0
+      left_region (with_spaces s (spaces_held c.args.spaces.now)) c.args.region.0
       (λ (dying : Region). without_pages dying.root dying.first dying.count (translations_of c.args.translations.now)) (sym c.in-Ok.ensures.0) c.forget_pages.ensures;
 }
 

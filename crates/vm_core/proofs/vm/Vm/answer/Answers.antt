@@ -65,7 +65,7 @@ returns-in-Pin g c =
 
 pub returns-in-Region : goal.returns-in-Region
 returns-in-Region g c =
-    let vm : Parts = record (parts_of c.self.inside) { vmos = c.on_region.new.vmos; regions = c.on_region.new.regions; maps = c.on_region.new.maps; translations = c.on_region.new.ready } in
+    let vm : Parts = record (parts_of c.self.inside) { vmos = c.on_region.new.vmos; regions = c.on_region.new.spaces.regions; maps = c.on_region.new.spaces.maps; translations = c.on_region.new.ready } in
     let answers = handled _ c.self.inside (rw (← c.self.view_is) at c.requires.agrees) c.self.invariant c.args.call.now Group.Region
     (sym c.group_of.ensures ∙ c.in-Region.is) tt (reply_for c.on_region.result) (g.P.PageStore.content c.on_region.new.store) vm
     (handles_spaces c.self.inside.pins (well _ c.self.inside (rw (← c.self.view_is) at c.requires.agrees) c.self.invariant) c.on_region.ensures.does) in
