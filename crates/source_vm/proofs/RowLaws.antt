@@ -135,10 +135,6 @@ module _ (s : SourceState) (name : VmoName) (closed : s.names name.0 ≡ None) w
       done s (Create name size kind seed) Done new (rw (closed, known, fits) refl)
       (refl, made ∙ ap (λ (n : ℕ). with_source s name.0 n (record { kind = kind; seed = seed; base = 0; seen = n })) is)
 
-  pub create_lacked : (size kind seed : ℕ) → nat_lt SOURCE_KIND_MAX kind ≡ false → nat_lt SOURCE_BYTES (rounded size) ≡ false
-      → SourceStep s (Create name size kind seed) (Refused HostMemory) s
-  create_lacked size kind seed known fits = lacked s (Create name size kind seed) (rw (closed, known, fits) refl) refl
-
   module _ (parent : VmoName) (v : ℕ) (named : s.names parent.0 ≡ Some v) (offset size : ℕ) (aligned : is_aligned offset ≡ true) where
     -- a snapshot
     pub child_loose : (l : Link) → s.link v ≡ Some l → SourceStep s (Child name parent offset size) (Refused NotSupported) s

@@ -12,17 +12,13 @@ use Rattle.vm_model.specs.Contents.Content.{Content, used}
 use Rattle.vm_model.specs.Machine.Refusals.{first_of}
 use Rattle.source_model.specs.declared.command.SourceCommand.{SourceCommand}
 use Rattle.source_model.specs.declared.backing.Backing.{Backing}
-use Rattle.source_model.specs.State.{SourceState, state_over, source_koid_of}
+use Rattle.source_model.specs.State.{SourceState, state_over}
 use Rattle.source_model.specs.Commands.{SourceStep, SourceStepAfter, SourceEffect, source_refusals, source_may_lack_memory, lacks}
 use Rattle.source_model.specs.declared.link.Link.{Link}
 use Rattle.source_model.specs.Good.{IsGoodSources}
 use Rattle.source_model.proofs.KeepLaws.{state_is}
 use Rattle.source_model.proofs.GoodLaws.{SourceStep-keeps}
 use Rattle.source_vm.specs.Pages.{LacksFrames}
-
-pub source_koid_of-named : (s : SourceState) (name v : ℕ) → s.names name ≡ Some v → source_koid_of s name ≡ v
-unfolding source_koid_of
-source_koid_of-named s name v e = rw e refl
 
 -- a range that lies in its VMO, and one that does not
 pub in_range : (answer : Bool) (bytes end : ℕ) → IsTrue answer ↔ (end ≤ bytes) → answer ≡ true → nat_lt bytes end ≡ false

@@ -111,10 +111,6 @@ module _ (names owners : ℕ → Option ℕ) (links : ℕ → Option Link) (chil
     child = indexed.child;
   }
 
-  -- the owner of an open name's VMO
-  pub owner_of : (name v : ℕ) → names name ≡ Some v → owners v ≡ Some name
-  owner_of name v named = indexed.named name v named
-
 -- ---- links, and the children that they make
 
 -- whether a pair is one that came, or was there

@@ -12,11 +12,12 @@ ghost use Rattle.source_vm.specs.Table.{SourcesAgree, source_state_of};
 use crate::ranges::{evict_pages, read_range, supply_pages, write_pages};
 use crate::source_fn::SourceFn;
 use crate::table::{SourceTable, find};
+use crate::walk::Stretch;
 use page_store::PageStore;
 use source_model::Backing;
 use vm_base::{DATA_BYTES, Koid, PAGE, Refusal, VmoName, in_page, page_of};
 use vm_model::{Answer, LentBytes};
-use vmo_ops::touched_pages;
+use vmo_ops::{NameRange, touched_pages};
 
 /// Returns whether a range lies inside a VMO. An offset and a length whose sum passes 2^64 do not.
 fn is_in_range<P: PageStore>(store: &P, v: Koid, offset: u64, len: u64) -> bool
@@ -35,34 +36,32 @@ fn are_aligned(offset: u64, len: u64) -> bool
     in_page(offset) == 0 && in_page(len) == 0
 }
 
-/// Reads `len` bytes, at most `DATA_BYTES`, into `room`, and lends them. The absent pages at which the look-ups of the touched pages end
+/// Reads the bytes of a range, at most `DATA_BYTES`, into `room`, and lends them. The absent pages at which the look-ups of the touched pages end
 /// are supplied.
 pub(crate) fn read<'a, P: PageStore>(
     store: &mut P,
     table: &SourceTable,
     functions: &[SourceFn; 3],
-    name: VmoName,
-    offset: u64,
-    len: u64,
+    range: NameRange,
     room: &'a mut [u8],
 ) -> Answer<'a>
     requires kinds { map (λ f. f.kind) functions.now ≡ 0 ∷ 1 ∷ 2 ∷ [] }
     requires agrees { SourcesAgree (P.content store.old) table.now }
     requires room { DATA_BYTES ≤ length room.old }
-    ensures { SourceStep (source_state_of (P.content store.old) table.now) (SourceCommand.Read name offset len)
+    ensures { SourceStep (source_state_of (P.content store.old) table.now) (SourceCommand.Read range.name range.offset range.len)
         (reply_for result) (source_state_of (P.content store.new) table.now) }
 {
-    let Some(v) = find(table, name) else {
+    let Some(v) = find(table, range.name) else {
         return Answer::Refused(Refusal::BadHandle);
     };
-    if len > DATA_BYTES as u64 {
+    if range.len > DATA_BYTES as u64 {
         return Answer::Refused(Refusal::InvalidArgs);
     }
-    if !is_in_range(store, v, offset, len) {
+    if !is_in_range(store, v, range.offset, range.len) {
         return Answer::Refused(Refusal::OutOfRange);
     }
-    let out = &mut room[..len as usize];
-    match read_range(store, table, functions, v, offset, out) {
+    let out = &mut room[..range.len as usize];
+    match read_range(store, table, functions, v, range.offset, out) {
         Ok(()) => Answer::Bytes(LentBytes::new(out)),
         Err(refusal) => Answer::Refused(refusal),
     }
@@ -143,7 +142,12 @@ pub(crate) fn supply<'a, P: PageStore>(
         Err(refusal) => return Answer::Refused(refusal),
     };
     let (first, end) = touched_pages(offset, len);
-    match supply_pages(store, table, functions, &found.1, found.0, first, end) {
+    let pages = Stretch {
+        koid: found.0,
+        first,
+        end,
+    };
+    match supply_pages(store, table, functions, &found.1, pages) {
         Ok(()) => Answer::Done,
         Err(refusal) => Answer::Refused(refusal),
     }

@@ -14,7 +14,7 @@ ghost use Rattle.source_vm.specs.Table.{backings_of, loose_links_of, source_stat
 use crate::page_bytes::{fill_page, is_clean, read_shown};
 use crate::source_fn::SourceFn;
 use crate::table::SourceTable;
-use crate::walk::{Place, find_end, is_absent};
+use crate::walk::{Place, Stretch, find_end, is_absent};
 use page_store::PageStore;
 use source_model::Backing;
 use vm_base::{HostMemory, Koid, PAGE, PageNo, Refusal};
@@ -54,7 +54,7 @@ fn count_absent<P: PageStore>(
     absent
 }
 
-/// Supplies the absent pages from `first` to below `end` of a VMO that is not loose. `NoMemory` where they are more than the free
+/// Supplies the absent ones of pages of a VMO that is not loose. `NoMemory` where they are more than the free
 /// frames, else `HostMemory` only where there is one. The room is made before the first page changes. Pages that come from no source
 /// are not looked at, and the absent ones are counted by the held ones.
 pub(crate) fn supply_pages<P: PageStore>(
@@ -62,47 +62,44 @@ pub(crate) fn supply_pages<P: PageStore>(
     table: &SourceTable,
     functions: &[SourceFn; 3],
     backing: &Backing,
-    v: Koid,
-    first: PageNo,
-    end: PageNo,
+    pages: Stretch,
 ) -> Result<(), Refusal>
     requires kinds { map (λ f. f.kind) functions.now ≡ 0 ∷ 1 ∷ 2 ∷ [] }
     requires readable { IsReadable (P.content store.old) (backings_of table.now) (loose_links_of table.now) }
-    requires backed { backings_of table.now v.0 ≡ Some backing.now }
-    requires vmo { IsSome ((P.content store.old).count v.0) }
-    requires order { first ≤ end }
-    requires pages { end ≤ pages_of (P.content store.old) v.0 }
-    ensures ok { OnOk result (IsSupplied (backings_of table.now) (loose_links_of table.now) v.0 (P.content store.old) first end (P.content store.new)) }
+    requires backed { backings_of table.now pages.koid.0 ≡ Some backing.now }
+    requires vmo { IsSome ((P.content store.old).count pages.koid.0) }
+    requires order { pages.first ≤ pages.end }
+    requires inside { pages.end ≤ pages_of (P.content store.old) pages.koid.0 }
+    ensures ok { OnOk result (IsSupplied (backings_of table.now) (loose_links_of table.now) pages.koid.0 (P.content store.old) pages.first pages.end (P.content store.new)) }
     ensures free { OnOk result (used (P.content store.old)
-        + (length (absent_ends (backings_of table.now) (loose_links_of table.now) (P.content store.old) v.0 first end))
+        + (length (absent_ends (backings_of table.now) (loose_links_of table.now) (P.content store.old) pages.koid.0 pages.first pages.end))
         ≤ (P.content store.old).frames) }
     ensures same { OnErr result (P.content store.new ≡ P.content store.old) }
     ensures err { IfErr result (LacksFrames (P.content store.old)
-        (length (absent_ends (backings_of table.now) (loose_links_of table.now) (P.content store.old) v.0 first end))) }
+        (length (absent_ends (backings_of table.now) (loose_links_of table.now) (P.content store.old) pages.koid.0 pages.first pages.end))) }
 {
-    let last = seen_end(backing, first, end);
-    let need = count_absent(store, backing, v, first, last);
-    supply_counted(store, table, functions, v, first, last, need)
+    let last = seen_end(backing, pages.first, pages.end);
+    let need = count_absent(store, backing, pages.koid, pages.first, last);
+    let seen = Stretch { end: last, ..pages };
+    supply_counted(store, table, functions, seen, need)
 }
 
-/// Supplies the absent pages at which the look-ups of the pages from `first` to below `end` end, of which there are `need`. `NoMemory`
+/// Supplies the absent pages at which the look-ups of these pages end, of which there are `need`. `NoMemory`
 /// where they are more than the free frames, else `HostMemory` only where there is one. The room is made before the first page
 /// changes.
 pub(crate) fn supply_counted<P: PageStore>(
     store: &mut P,
     table: &SourceTable,
     functions: &[SourceFn; 3],
-    v: Koid,
-    first: PageNo,
-    end: PageNo,
+    pages: Stretch,
     need: u64,
 ) -> Result<(), Refusal>
     requires kinds { map (λ f. f.kind) functions.now ≡ 0 ∷ 1 ∷ 2 ∷ [] }
     requires readable { IsReadable (P.content store.old) (backings_of table.now) (loose_links_of table.now) }
-    requires order { first ≤ end }
-    requires pages { end ≤ pages_of (P.content store.old) v.0 }
-    requires need { need ≡ length (absent_ends (backings_of table.now) (loose_links_of table.now) (P.content store.old) v.0 first end) }
-    ensures ok { OnOk result (IsSupplied (backings_of table.now) (loose_links_of table.now) v.0 (P.content store.old) first end (P.content store.new)) }
+    requires order { pages.first ≤ pages.end }
+    requires inside { pages.end ≤ pages_of (P.content store.old) pages.koid.0 }
+    requires need { need ≡ length (absent_ends (backings_of table.now) (loose_links_of table.now) (P.content store.old) pages.koid.0 pages.first pages.end) }
+    ensures ok { OnOk result (IsSupplied (backings_of table.now) (loose_links_of table.now) pages.koid.0 (P.content store.old) pages.first pages.end (P.content store.new)) }
     ensures free { OnOk result (used (P.content store.old) + need ≤ (P.content store.old).frames) }
     ensures same { OnErr result (P.content store.new ≡ P.content store.old) }
     ensures err { IfErr result (LacksFrames (P.content store.old) need) }
@@ -113,32 +110,34 @@ pub(crate) fn supply_counted<P: PageStore>(
     let Ok(()) = reserve_rows(store, need, need) else {
         return Err(Refusal::HostMemory);
     };
-    supply_range(store, table, functions, v, first, end);
+    supply_range(store, table, functions, pages);
     Ok(())
 }
 
-/// Supplies the absent pages at which the look-ups of the pages from `first` to below `end` end, where the room for it is there.
+/// Supplies the absent pages at which the look-ups of these pages end, where the room for it is there.
 fn supply_range<P: PageStore>(
     store: &mut P,
     table: &SourceTable,
     functions: &[SourceFn; 3],
-    v: Koid,
-    first: PageNo,
-    end: PageNo,
+    pages: Stretch,
 )
     requires kinds { map (λ f. f.kind) functions.now ≡ 0 ∷ 1 ∷ 2 ∷ [] }
     requires readable { IsReadable (P.content store.old) (backings_of table.now) (loose_links_of table.now) }
-    requires order { first ≤ end }
-    requires pages { end ≤ pages_of (P.content store.old) v.0 }
-    requires rows { length (absent_ends (backings_of table.now) (loose_links_of table.now) (P.content store.old) v.0 first end)
+    requires order { pages.first ≤ pages.end }
+    requires inside { pages.end ≤ pages_of (P.content store.old) pages.koid.0 }
+    requires rows { length (absent_ends (backings_of table.now) (loose_links_of table.now) (P.content store.old) pages.koid.0 pages.first pages.end)
         ≤ P.spare store.old }
     requires free { used (P.content store.old)
-        + (length (absent_ends (backings_of table.now) (loose_links_of table.now) (P.content store.old) v.0 first end))
+        + (length (absent_ends (backings_of table.now) (loose_links_of table.now) (P.content store.old) pages.koid.0 pages.first pages.end))
         ≤ (P.content store.old).frames }
-    ensures { IsSupplied (backings_of table.now) (loose_links_of table.now) v.0 (P.content store.old) first end (P.content store.new) }
+    ensures { IsSupplied (backings_of table.now) (loose_links_of table.now) pages.koid.0 (P.content store.old) pages.first pages.end (P.content store.new) }
 {
-    for page in first..end {
-        supply_end(store, table, functions, Place { koid: v, page });
+    for page in pages.first..pages.end {
+        let at = Place {
+            koid: pages.koid,
+            page,
+        };
+        supply_end(store, table, functions, at);
     }
 }
 
@@ -200,7 +199,12 @@ pub(crate) fn read_range<P: PageStore>(
         return Ok(());
     }
     let (first, end) = touched_pages(offset, len);
-    match supply_counted(store, table, functions, v, first, end, need) {
+    let pages = Stretch {
+        koid: v,
+        first,
+        end,
+    };
+    match supply_counted(store, table, functions, pages, need) {
         Ok(()) => {
             read_supplied(store, table, v, offset, out);
             Ok(())

@@ -18,6 +18,7 @@ use source_model::{SourceCall, SourceCommand};
 use std::alloc::Global;
 use vm_base::DATA_BYTES;
 use vm_model::{Answer, Reply};
+use vmo_ops::NameRange;
 
 /// The names and VMOs of the machine of page sources, over a store of pages, and the functions that give the bytes of its sources:
 /// function i those of kind i. Each `step` is one command.
@@ -116,7 +117,12 @@ fn dispatch<'a, P: PageStore>(
         } => loose(store, table, *name, *parent, *offset, *size),
         SourceCall::Close { name } => close(store, table, *name),
         SourceCall::Read { name, offset, len } => {
-            read(store, table, functions, *name, *offset, *len, bytes)
+            let range = NameRange {
+                name: *name,
+                offset: *offset,
+                len: *len,
+            };
+            read(store, table, functions, range, bytes)
         }
         SourceCall::Write {
             name,

@@ -19,6 +19,14 @@ pub(crate) struct Place {
     pub(crate) page: PageNo,
 }
 
+/// Pages of a VMO: from `first` to below `end`.
+#[derive(Clone, Copy, Debug)]
+pub(crate) struct Stretch {
+    pub(crate) koid: Koid,
+    pub(crate) first: PageNo,
+    pub(crate) end: PageNo,
+}
+
 /// Returns the page of the parent that a page shows. `None` if and only if it is held, or its VMO's link does not see it, or
 /// its VMO is not loose.
 fn below<P: PageStore>(store: &P, table: &SourceTable, at: Place) -> Option<Place>

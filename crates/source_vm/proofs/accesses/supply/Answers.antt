@@ -18,8 +18,8 @@ supply_pages-requires-clause-readable g c = readable_of _ _ _ _ c.requires.agree
 pub supply_pages-requires-clause-vmo : goal.supply_pages-requires-clause-vmo
 supply_pages-requires-clause-vmo g c = c.requires.agrees.good.known c.args.name.0 c.in-Ok.found.0.0 c.in-Ok.ensures.ok.named
 
-pub supply_pages-requires-clause-pages : goal.supply_pages-requires-clause-pages
-supply_pages-requires-clause-pages g c = omega (arith, c.in-Ok.ensures.ok.inside, c.touched_pages-first.ensures.end)
+pub supply_pages-requires-clause-inside : goal.supply_pages-requires-clause-inside
+supply_pages-requires-clause-inside g c = omega (arith, c.in-Ok.ensures.ok.inside, c.touched_pages-first.ensures.end)
 
 pub returns-in-Ok-supply_pages : goal.returns-in-Ok-supply_pages
 returns-in-Ok-supply_pages g c =

@@ -13,9 +13,9 @@ supply_counted-requires-clause-need g c =
     let content = g.P.PageStore.content c.args.store.now in
     let bs = backings_of t in
     let ls = loose_links_of t in
-    let unlinked = c.requires.readable.either c.args.v.0 c.args.backing.now c.requires.backed in
+    let unlinked = c.requires.readable.either c.args.pages.koid.0 c.args.backing.now c.requires.backed in
     c.count_absent-need.ensures ∙ ap (λ (ps : List ℕ). length ps)
-    (sym (absent_ends-unlinked content bs ls c.args.v.0 c.args.backing.now c.requires.backed unlinked c.args.first c.seen_end-last.result))
+    (sym (absent_ends-unlinked content bs ls c.args.pages.koid.0 c.args.backing.now c.requires.backed unlinked c.args.pages.first c.seen_end-last.result))
 
 pub returns-clause-ok : goal.returns-clause-ok
 returns-clause-ok g c =
@@ -24,9 +24,9 @@ returns-clause-ok g c =
     let bs = backings_of t in
     let ls = loose_links_of t in
     let last = c.seen_end-last.ensures in
-    let unlinked = c.requires.readable.either c.args.v.0 c.args.backing.now c.requires.backed in
-    on_ok_weaker c.supply_counted.result (IsSupplied-front bs ls c.args.v.0 _ _ c.args.first c.seen_end-last.result c.args.end last.first last.end
-    (λ d p low less. end_absent-unlinked d bs ls c.args.v.0 c.args.backing.now c.requires.backed unlinked p ∙ absent-behind d c.args.backing.now c.args.v.0 p (last.behind p low less)))
+    let unlinked = c.requires.readable.either c.args.pages.koid.0 c.args.backing.now c.requires.backed in
+    on_ok_weaker c.supply_counted.result (IsSupplied-front bs ls c.args.pages.koid.0 _ _ c.args.pages.first c.seen_end-last.result c.args.pages.end last.first last.end
+    (λ d p low less. end_absent-unlinked d bs ls c.args.pages.koid.0 c.args.backing.now c.requires.backed unlinked p ∙ absent-behind d c.args.backing.now c.args.pages.koid.0 p (last.behind p low less)))
     c.supply_counted.ensures.ok
 
 pub returns-clause-free : goal.returns-clause-free
@@ -36,11 +36,11 @@ returns-clause-free g c =
     let bs = backings_of t in
     let ls = loose_links_of t in
     let last = c.seen_end-last.ensures in
-    let unlinked = c.requires.readable.either c.args.v.0 c.args.backing.now c.requires.backed in
-    let front = filter_front (is_end_absent bs ls content c.args.v.0) c.args.first c.seen_end-last.result c.args.end last.first last.end
-    (λ p low less. end_absent-unlinked content bs ls c.args.v.0 c.args.backing.now c.requires.backed unlinked p ∙ absent-behind content c.args.backing.now c.args.v.0 p (last.behind p low less)) in
+    let unlinked = c.requires.readable.either c.args.pages.koid.0 c.args.backing.now c.requires.backed in
+    let front = filter_front (is_end_absent bs ls content c.args.pages.koid.0) c.args.pages.first c.seen_end-last.result c.args.pages.end last.first last.end
+    (λ p low less. end_absent-unlinked content bs ls c.args.pages.koid.0 c.args.backing.now c.requires.backed unlinked p ∙ absent-behind content c.args.backing.now c.args.pages.koid.0 p (last.behind p low less)) in
     let need = c.count_absent-need.ensures ∙ ap (λ (ps : List ℕ). length ps)
-    (sym (absent_ends-unlinked content bs ls c.args.v.0 c.args.backing.now c.requires.backed unlinked c.args.first c.seen_end-last.result) ∙ front) in
+    (sym (absent_ends-unlinked content bs ls c.args.pages.koid.0 c.args.backing.now c.requires.backed unlinked c.args.pages.first c.seen_end-last.result) ∙ front) in
     on_ok_weaker c.supply_counted.result (subst (λ (n : ℕ). used content + n ≤ content.frames) need) c.supply_counted.ensures.free
 
 pub returns-clause-err : goal.returns-clause-err
@@ -50,9 +50,9 @@ returns-clause-err g c =
     let bs = backings_of t in
     let ls = loose_links_of t in
     let last = c.seen_end-last.ensures in
-    let unlinked = c.requires.readable.either c.args.v.0 c.args.backing.now c.requires.backed in
-    let front = filter_front (is_end_absent bs ls content c.args.v.0) c.args.first c.seen_end-last.result c.args.end last.first last.end
-    (λ p low less. end_absent-unlinked content bs ls c.args.v.0 c.args.backing.now c.requires.backed unlinked p ∙ absent-behind content c.args.backing.now c.args.v.0 p (last.behind p low less)) in
+    let unlinked = c.requires.readable.either c.args.pages.koid.0 c.args.backing.now c.requires.backed in
+    let front = filter_front (is_end_absent bs ls content c.args.pages.koid.0) c.args.pages.first c.seen_end-last.result c.args.pages.end last.first last.end
+    (λ p low less. end_absent-unlinked content bs ls c.args.pages.koid.0 c.args.backing.now c.requires.backed unlinked p ∙ absent-behind content c.args.backing.now c.args.pages.koid.0 p (last.behind p low less)) in
     let need = c.count_absent-need.ensures ∙ ap (λ (ps : List ℕ). length ps)
-    (sym (absent_ends-unlinked content bs ls c.args.v.0 c.args.backing.now c.requires.backed unlinked c.args.first c.seen_end-last.result) ∙ front) in
+    (sym (absent_ends-unlinked content bs ls c.args.pages.koid.0 c.args.backing.now c.requires.backed unlinked c.args.pages.first c.seen_end-last.result) ∙ front) in
     IfErr-weaker c.supply_counted.result _ _ (λ refusal. subst (λ (n : ℕ). LacksFrames content n refusal) need) c.supply_counted.ensures.err

@@ -5,7 +5,7 @@ use Rattle.source_vm.proofs.ranges.supply_range.Goals as goal
 
 pub loop-page-init : goal.loop-page-init
 loop-page-init g c =
-    IsSupplying-start (backings_of c.args.table.now) (loose_links_of c.args.table.now) c.args.v.0 _ c.args.first c.args.end _ c.requires.readable c.requires.pages c.requires.order
+    IsSupplying-start (backings_of c.args.table.now) (loose_links_of c.args.table.now) c.args.pages.koid.0 _ c.args.pages.first c.args.pages.end _ c.requires.readable c.requires.inside c.requires.order
     c.requires.rows c.requires.free
 
 pub supply_end-requires-clause-readable : goal.supply_end-requires-clause-readable
@@ -16,14 +16,14 @@ supply_end-requires-clause-page g c = omega (arith, c.loop-page.invariant.way.in
 
 pub supply_end-requires-clause-room : goal.supply_end-requires-clause-room
 supply_end-requires-clause-room g c =
-    IsSupplying-room (backings_of c.args.table.now) (loose_links_of c.args.table.now) c.args.v.0 _ _ _ _ _ _ c.loop-page.invariant c.loop-page-test.true
+    IsSupplying-room (backings_of c.args.table.now) (loose_links_of c.args.table.now) c.args.pages.koid.0 _ _ _ _ _ _ c.loop-page.invariant c.loop-page-test.true
 
 pub loop-page-preserved : goal.loop-page-preserved
 loop-page-preserved g c =
-    IsSupplying-step (backings_of c.args.table.now) (loose_links_of c.args.table.now) c.args.v.0 _ _ _ _ _ _ _ _ c.loop-page.invariant c.loop-page-test.true
+    IsSupplying-step (backings_of c.args.table.now) (loose_links_of c.args.table.now) c.args.pages.koid.0 _ _ _ _ _ _ _ _ c.loop-page.invariant c.loop-page-test.true
     c.supply_end.ensures.absent c.supply_end.ensures.inside
     (λ e. (ap g.P.PageStore.content (c.supply_end.ensures.other e), ap g.P.PageStore.spare (c.supply_end.ensures.other e)))
 
 pub returns : goal.returns
 returns g c =
-    IsSupplying-end (backings_of c.args.table.now) (loose_links_of c.args.table.now) c.args.v.0 _ _ _ _ _ _ c.loop-page.invariant (omega arith)
+    IsSupplying-end (backings_of c.args.table.now) (loose_links_of c.args.table.now) c.args.pages.koid.0 _ _ _ _ _ _ c.loop-page.invariant (omega arith)
