@@ -5,7 +5,7 @@ ghost use Rattle.vm_base.specs.declared.limits.TheConstants.{DATA_BYTES, KOIDS, 
 
 use crate::beginning::{JobRequest, begin};
 use crate::job_table::JobTable;
-use crate::stepping::{do_piece, drop_job};
+use crate::stepping::{PieceRequest, do_piece, drop_job};
 use batch_model::{BatchAnswer, BatchCall, BatchCommand, BatchReply};
 use page_store::PageStore;
 use std::alloc::Global;
@@ -110,15 +110,11 @@ impl Batch {
                 begin(store, &mut self.vm, &mut self.jobs, request, bytes, numbers)
             }
             BatchCall::Step { job, pages } => {
-                do_piece(
-                    store,
-                    &mut self.vm,
-                    &mut self.jobs,
-                    *job,
-                    *pages,
-                    bytes,
-                    numbers,
-                )
+                let request = PieceRequest {
+                    job: *job,
+                    pages: *pages,
+                };
+                do_piece(store, &mut self.vm, &mut self.jobs, request, bytes, numbers)
             }
             BatchCall::Drop { job } => drop_job(&mut self.jobs, *job),
         }

@@ -46,14 +46,20 @@ fn note_piece<'a>(
     }
 }
 
-/// Does the next `pages` pages of a job, or all that are left if these are fewer, as the plain command on them. `pages` may be any
-/// number. The answer lends what it reads of `bytes` and `numbers`.
+/// The next `pages` pages of a job that are to be done. They may be more than are left.
+#[derive(Clone, Copy)]
+pub struct PieceRequest {
+    pub job: JobName,
+    pub pages: u64,
+}
+
+/// Does the next pages of a job, or all that are left if these are fewer, as the plain command on them. The answer lends what it
+/// reads of `bytes` and `numbers`.
 pub fn do_piece<'a, P: PageStore>(
     store: &mut P,
     vm: &mut Vm,
     table: &mut JobTable,
-    job: JobName,
-    pages: u64,
+    request: PieceRequest,
     bytes: &'a mut [u8],
     numbers: &'a mut [u64],
 ) -> BatchAnswer<'a>
@@ -62,18 +68,18 @@ pub fn do_piece<'a, P: PageStore>(
     requires jobs { AreGoodJobs (jobs_of table.old) }
     requires bytes { DATA_BYTES ≤ length bytes.old }
     requires numbers { PIN_PAGES ≤ length numbers.old }
-    ensures { DoesBatch (P.content store.old) (record { vm = vm.old; jobs = table.old }) (BatchCommand.Step job pages)
+    ensures { DoesBatch (P.content store.old) (record { vm = vm.old; jobs = table.old }) (BatchCommand.Step request.job request.pages)
         (batch_reply_for result) (P.content store.new) (record { vm = vm.new; jobs = table.new }) }
 {
-    let Some(held) = table.find(job) else {
+    let Some(held) = table.find(request.job) else {
         return BatchAnswer::Plain(Answer::Refused(Refusal::BadHandle));
     };
-    if pages == 0 {
+    if request.pages == 0 {
         return BatchAnswer::Plain(Answer::Refused(Refusal::InvalidArgs));
     }
-    let len = piece_len(&held, pages);
+    let len = piece_len(&held, request.pages);
     let answer = vm.answer(store, &piece_call(&held, len), bytes, numbers);
-    note_piece(table, job, held, len, answer)
+    note_piece(table, request.job, held, len, answer)
 }
 
 /// Gives a job up. What was done of it stays so.
