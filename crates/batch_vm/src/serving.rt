@@ -9,7 +9,7 @@ ghost use Rattle.line_server.specs.Words.{frames_asked};
 ghost use Rattle.batch_vm.specs.BatchAnswering.{batch_rules};
 
 use crate::interpreter::BatchInterpreter;
-use line_server::serve_words;
+use line_server::{frames_asked, serve_asked};
 use page_store::PageStore;
 use script_io::{Sink, Source, Status};
 use std::alloc::Global;
@@ -48,15 +48,8 @@ pub fn run_batch<P: PageStore, S: Source, K: Sink>(
         × (store.new ≡ store.old) }
 {
     let mut interpreter = BatchInterpreter::new(alloc);
-    let status = serve_words(
-        alloc,
-        b"batch",
-        words,
-        store,
-        &mut interpreter,
-        source,
-        sink,
-    );
+    let frames = frames_asked(b"batch", words);
+    let status = serve_asked(alloc, frames, store, &mut interpreter, source, sink);
     // By one call: at the end of the body its tables would be let go, and that proved, one by one.
     drop(interpreter);
     status

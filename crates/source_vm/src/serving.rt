@@ -10,13 +10,13 @@ ghost use Rattle.source_vm.specs.Answering.{source_rules};
 
 use crate::interpreter::new_interpreter;
 use crate::source_fn::SourceFn;
-use line_server::serve_words;
+use line_server::{frames_asked, serve_asked};
 use page_store::PageStore;
 use script_io::{Sink, Source, Status};
 use std::alloc::Global;
 
 /// Runs the script that a source gives on a machine of page sources, and writes the replies to a sink, if `words`, those of the
-/// command line behind the program's name, are `sources`, or `sources --frames N`. The lines are served as by `serve_words` of
+/// command line behind the program's name, are `sources`, or `sources --frames N`. The lines are served as by `serve_asked` of
 /// `line_server`. The machine has `DEFAULT_FRAMES` page frames, or as many as N says, with one to five digits from 1 to `FRAMES`.
 /// Function i of the three gives the bytes of sources of kind i.
 ///
@@ -52,15 +52,8 @@ pub fn run_sources<P: PageStore, S: Source, K: Sink>(
         × (store.new ≡ store.old) }
 {
     let mut interpreter = new_interpreter(alloc, functions);
-    let status = serve_words(
-        alloc,
-        b"sources",
-        words,
-        store,
-        &mut interpreter,
-        source,
-        sink,
-    );
+    let frames = frames_asked(b"sources", words);
+    let status = serve_asked(alloc, frames, store, &mut interpreter, source, sink);
     // By one call: at the end of the body its tables would be dropped one by one, each with a proof.
     drop(interpreter);
     status

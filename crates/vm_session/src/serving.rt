@@ -7,6 +7,7 @@ ghost use Rattle.line_server.specs.Outcome.{EndsAs};
 ghost use Rattle.vm_session.specs.Plain.{plain};
 
 use crate::interpreter::VmInterpreter;
+use line_server::Bounds;
 use page_store::PageStore;
 use script_io::{Sink, Source, Status};
 use std::alloc::Global;
@@ -37,7 +38,11 @@ pub fn serve<P: PageStore, S: Source, K: Sink>(
     ensures host_memory { result ≡ Status.HostMemory → (source.new ≡ source.old) × (sink.new ≡ sink.old) }
 {
     let mut interpreter = VmInterpreter::new(alloc);
-    let status = line_server::serve(alloc, frames, limit, store, &mut interpreter, source, sink);
+    let bounds = Bounds {
+        frames,
+        bytes: limit,
+    };
+    let status = line_server::serve(alloc, bounds, store, &mut interpreter, source, sink);
     // By one call: at the end of the body its tables would be let go, and that proved, one by one.
     drop(interpreter);
     status

@@ -14,7 +14,7 @@ ghost use Rattle.vmotree.specs.Outcome.{DrawsAs};
 use crate::drawer::Drawer;
 use crate::request::{Request, request_in};
 use cow_forest::CowForest;
-use line_server::serve;
+use line_server::{Bounds, serve};
 use script_io::{Sink, Source, Status};
 use std::alloc::Global;
 use tree_text::{Form, write_forest};
@@ -158,15 +158,11 @@ fn serve_lines<const REPLIES: bool, const EACH: bool, const GRAPH: bool, S: Sour
     let mut drawer: Drawer<REPLIES, EACH, GRAPH> = Drawer {
         vm: VmInterpreter::new(alloc),
     };
-    let status = serve(
-        alloc,
+    let bounds = Bounds {
         frames,
-        SCRIPT_BYTES,
-        store,
-        &mut drawer,
-        source,
-        sink,
-    );
+        bytes: SCRIPT_BYTES,
+    };
+    let status = serve(alloc, bounds, store, &mut drawer, source, sink);
     // By one call: at the end of the body its tables would be let go, and that proved, one by one.
     drop(drawer);
     status
