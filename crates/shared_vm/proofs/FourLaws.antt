@@ -24,10 +24,6 @@ fewer lists done actor le within =
     (λ less. omega (arith, w0, w1, w2, w3, less)) (λ less. omega (arith, w0, w1, w2, w3, less))
     (λ less. omega (arith, w0, w1, w2, w3, less)) (λ less. omega (arith, w0, w1, w2, w3, less)) actor le
 
--- no actor has more tasks than all have together
-pub some_of_all : (lists : Lists) (actor : ℕ) → actor ≤ 3 → length (tasks_of lists actor) ≤ task_count lists
-some_of_all lists actor le = by_four (λ a. length (tasks_of lists a) ≤ task_count lists) (omega arith) (omega arith) (omega arith) (omega arith) actor le
-
 -- one deed more is counted once
 pub raised_all : (done : Counts) (actor : ℕ) → actor ≤ 3
     → (raised done actor).a0 + (raised done actor).a1 + (raised done actor).a2 + (raised done actor).a3 ≡ done.a0 + done.a1 + done.a2 + done.a3 + 1

@@ -1,11 +1,8 @@
 -- A journal that takes little memory, and one deed more.
-use Rattle.std.proofs.Common.{◌≡◌, ℕ, ◌+◌, ◌*◌, ◌<◌, ◌≤◌, List, [], ◌∷◌, ◌++◌, length, get_or, Option, Some, Result, refl, sym, ap, subst, ◌∙◌, append-nil, arith}
-use Rattle.std.specs.Prelude.{slice_get, option_map, OnOk, OnErr}
+use Rattle.std.proofs.Common.{◌≡◌, ℕ, ◌+◌, ◌≤◌, List, [], ◌∷◌, ◌++◌, length, refl, sym, ap, subst, ◌∙◌, append-nil, arith}
 use Rattle.std.specs.List.{All}
 use Rattle.std.proofs.lemmas.List.{length-append, map_push}
-use Rattle.std.proofs.lemmas.List.Elements.{All-nil, All-head, All-tail, All-push, All-weaker, All-get_or}
-use Rattle.std.proofs.lemmas.Option.{slice_get-map, slice_get_read, same_Some}
-use Rattle.script_io.specs.Faults.{IsCutOff}
+use Rattle.std.proofs.lemmas.List.Elements.{All-head, All-tail, All-push, All-weaker}
 use Rattle.vm_base.specs.declared.limits.TheConstants.{DATA_BYTES, PIN_PAGES}
 use Rattle.vm_model.specs.declared.answer.Answer.{Answer}
 use Rattle.vm_model.specs.declared.reply.Reply.{Reply}
@@ -14,8 +11,6 @@ use Rattle.shared_vm.specs.declared.task.Deed.{Deed}
 use Rattle.shared_vm.specs.declared.place.Place.{Place}
 use Rattle.shared_vm.specs.declared.notes.Kept.{Kept}
 use Rattle.shared_vm.specs.declared.notes.Note.{Note}
-use Rattle.shared_vm.specs.Texts.{deed_text}
-use Rattle.shared_vm.specs.inside.Pending.{PassesOn}
 use Rattle.shared_vm.specs.inside.Places.{items_at, LiesWithin}
 use Rattle.shared_vm.specs.inside.Noting.{reply_at, deed_of, deed_at, deeds_at, IsDataPlace, IsKept, IsNoteKept, IsJournal, Keeps}
 use Rattle.shared_vm.proofs.PlaceLaws.{part-more, LiesWithin-more, part-added, LiesWithin-added}
@@ -92,15 +87,6 @@ module _ (reply : Reply) (bytes_old numbers_old bytes_new numbers_new : List ℕ
     numbers_left = omega (arith, e, g, old.numbers_left, keeps.numbers_few, ap (length {A = ℕ}) keeps.numbers, length-append numbers_old keeps.numbers_more);
   }
 
--- a journal of no deeds
-pub IsJournal-none : (bytes numbers : List ℕ) (notes : List Note) (spare bytes_room numbers_room : ℕ) → bytes ≡ [] → numbers ≡ [] → notes ≡ []
-    → spare * DATA_BYTES ≤ bytes_room → spare * PIN_PAGES ≤ numbers_room → IsJournal bytes numbers notes spare bytes_room numbers_room
-IsJournal-none bytes numbers notes spare bytes_room numbers_room e f g roomy many = record {
-  kept = subst (λ (all : List Note). All (IsNoteKept (length bytes) (length numbers)) all) (sym g) (All-nil (IsNoteKept (length bytes) (length numbers)));
-  bytes_left = omega (arith, roomy, ap (length {A = ℕ}) e);
-  numbers_left = omega (arith, many, ap (length {A = ℕ}) f);
-}
-
 -- ---- what is kept of one answer
 
 -- an answer without data
@@ -175,29 +161,3 @@ Keeps-pins answer bytes numbers numbers_new lent added place same few grown star
   reply_is = ap (λ (xs : List ℕ). Reply.Pins xs) (is_part numbers numbers_new lent added PIN_PAGES place same few grown start end) ∙ ap reply_for (sym is);
   is_kept = is_place numbers numbers_new lent added PIN_PAGES place same few grown start end;
 }
-
--- ---- the deed of a note
-
-module _ (bytes numbers : List ℕ) (notes : List Note) (index : ℕ) (note : Note) (is : note ≡ get_or notes index note) (less : index < length notes) (kept : Kept) (same : note.kept ≡ kept) where
-  -- its data is there
-  pub note_kept : All (IsNoteKept (length bytes) (length numbers)) notes → IsKept (length bytes) (length numbers) kept
-  note_kept all =
-      let here : IsNoteKept (length bytes) (length numbers) note
-      = subst (IsNoteKept (length bytes) (length numbers)) (sym is) (All-get_or (IsNoteKept (length bytes) (length numbers)) notes index note less all) in
-      subst (IsKept (length bytes) (length numbers)) same here
-
-  -- and this is its deed
-  pub note_deed : (reply : Reply) (deed : Deed) → reply ≡ reply_at bytes numbers kept → slice_get (deeds_at bytes numbers notes) index ≡ Some deed → deed_of note.actor reply ≡ deed
-  note_deed reply deed e f =
-      let read : slice_get (deeds_at bytes numbers notes) index ≡ Some (deed_at bytes numbers note)
-      = slice_get-map (deed_at bytes numbers) notes index ∙ ap (option_map (deed_at bytes numbers)) (slice_get_read notes (length notes) index note refl less is) in
-      ap (deed_of note.actor) (e ∙ ap (reply_at bytes numbers) (sym same)) ∙ same_Some _ _ (sym read ∙ f)
-
--- what was added is the text of the deed
-pub deed_ok : {T E : Type 0} (result : Result T E) (first last : Option (List ℕ)) (old new : List ℕ) (deed same : Deed) → same ≡ deed → OnOk result (PassesOn first old (deed_text same) last new)
-    → OnOk result (PassesOn first old (deed_text deed) last new)
-deed_ok result first last old new deed same e ok = subst (λ (d : Deed). OnOk result (PassesOn first old (deed_text d) last new)) e ok
-
-pub deed_err : {T E : Type 0} (result : Result T E) (first last : Option (List ℕ)) (old : List ℕ) (deed same : Deed) → same ≡ deed → OnErr result (IsCutOff first last (old ++ deed_text same))
-    → OnErr result (IsCutOff first last (old ++ deed_text deed))
-deed_err result first last old deed same e err = subst (λ (d : Deed). OnErr result (IsCutOff first last (old ++ deed_text d))) e err

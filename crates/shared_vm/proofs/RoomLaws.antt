@@ -1,10 +1,9 @@
 -- A room, and one turn more.
-use Rattle.std.proofs.Common.{◌≡◌, ℕ, ◌+◌, ◌^◌, ◌<◌, ◌≤◌, ◌==◌, true, false, List, [], ◌∷◌, ◌++◌, length, Some, refl, sym, subst, arith}
+use Rattle.std.proofs.Common.{◌≡◌, ℕ, ◌+◌, ◌<◌, ◌≤◌, ◌==◌, true, false, List, [], ◌∷◌, ◌++◌, length, Some, refl, sym, subst, arith}
 use Rattle.std.specs.Prelude.{slice_get}
 use Rattle.std.proofs.lemmas.Bool.{eqb-true, eqb-false}
 use Rattle.std.proofs.lemmas.List.{length_push}
 use Rattle.std.proofs.lemmas.Option.{slice_get_within}
-use Rattle.vm_base.specs.declared.limits.TheConstants.{KOIDS}
 use Rattle.vm_model.specs.Contents.Content.{Content}
 use Rattle.vm_model.specs.declared.reply.Reply.{Reply}
 use Rattle.vm_core.specs.Vm.{Parts, Agrees, machine_of}
@@ -14,7 +13,7 @@ use Rattle.shared_vm.specs.declared.task.Deed.{Deed}
 use Rattle.shared_vm.specs.Tasks.{Lists, tasks_of}
 use Rattle.shared_vm.specs.Journal.{done_by, DoesTask, JournalRun}
 use Rattle.shared_vm.specs.Rooms.{Session, IsRoom, TurnsOnce, actor_count, raised, session_machine}
-use Rattle.shared_vm.proofs.FourLaws.{fewer, some_of_all, raised_all, raised_own, raised_other}
+use Rattle.shared_vm.proofs.FourLaws.{fewer, raised_all, raised_own, raised_other}
 use Rattle.shared_vm.proofs.RunLaws.{done_by-more, one_by-own, one_by-other, RunsOn-more}
 
 -- the same tasks, with another journal, machine and store
@@ -31,12 +30,6 @@ module _ {S : Type 0} (content : S → Content) (s : Session S) (done : Counts) 
   -- a task is left, so there is room for its deed
   pub room_left : actor_count done actor < length (tasks_of s.lists actor) → 0 < spare
   room_left less = omega (arith, room.all, room.room, fewer s.lists done actor le room.within less)
-
-  pub count_small : actor_count done actor < length (tasks_of s.lists actor) → actor_count done actor + 1 < 2 ^ 64
-  count_small less = omega (arith, less, room.few, some_of_all s.lists actor le)
-
-  pub koid_left : actor_count done actor < length (tasks_of s.lists actor) → (content s.store).next < KOIDS
-  koid_left less = omega (arith, room.koids, room.few, room.all, fewer s.lists done actor le room.within less)
 
   module _ (task : Task) (reply : Reply) (vm : Parts) (store : S) (next : slice_get (tasks_of s.lists actor) (actor_count done actor) ≡ Some task)
       (does : DoesTask task reply (session_machine content s) (machine_of (content store) vm)) where

@@ -1,14 +1,12 @@
 -- The tasks of lines that stand one behind another.
-use Rattle.std.proofs.Common.{◌≡◌, ℕ, List, [], ◌∷◌, ◌++◌, length, Some, refl, sym, ap, subst, ◌∙◌}
-use Rattle.std.specs.Prelude.{slice_get, option_map}
+use Rattle.std.proofs.Common.{◌≡◌, ℕ, List, [], ◌∷◌, ◌++◌, length, refl, ap, ◌∙◌}
 use Rattle.std.proofs.lemmas.List.{map_push}
-use Rattle.std.proofs.lemmas.List.Elements.{All-head, All-tail, All-push, All-weaker}
-use Rattle.std.proofs.lemmas.Option.{slice_get-map}
+use Rattle.std.proofs.lemmas.List.Elements.{All-head, All-tail, All-weaker}
 use Rattle.shared_vm.specs.declared.task.Task.{Task}
 use Rattle.shared_vm.specs.declared.place.Place.{Place}
-use Rattle.shared_vm.specs.inside.Places.{LiesWithin, items_at}
+use Rattle.shared_vm.specs.inside.Places.{LiesWithin}
 use Rattle.shared_vm.specs.inside.TaskPlaces.{AreWithin, task_at, tasks_at, task_of_line}
-use Rattle.shared_vm.proofs.PlaceLaws.{part-more, LiesWithin-more, part-added, LiesWithin-added}
+use Rattle.shared_vm.proofs.PlaceLaws.{part-more, LiesWithin-more, part-added}
 
 -- the tasks stay, whatever is added behind their lines
 tasks-more : (bytes more : List ℕ) (places : List Place) → AreWithin bytes places → tasks_at (bytes ++ more) places ≡ tasks_at bytes places
@@ -25,11 +23,6 @@ within-more bytes more places within =
 
 -- a line whose place could not be kept
 module _ (old new line : List ℕ) (places after : List Place) (within : AreWithin old places) (is_new : new ≡ old ++ line) (same : after ≡ places) where
-  pub within_kept : AreWithin new after
-  within_kept =
-      subst (λ (bytes : List ℕ). AreWithin bytes after) (sym is_new)
-      (subst (λ (ps : List Place). AreWithin (old ++ line) ps) (sym same) (within-more old line places within))
-
   pub tasks_kept : tasks_at new after ≡ tasks_at old places
   tasks_kept =
       ap (λ (bytes : List ℕ). tasks_at bytes after) is_new ∙ ap (λ (ps : List Place). tasks_at (old ++ line) ps) same ∙ tasks-more old line places within
@@ -40,12 +33,6 @@ module _ (old new line : List ℕ) (places after : List Place) (place : Place) (
   ends : place.end ≡ length (old ++ line)
   ends = end ∙ ap length is_new
 
-  pub within_added : AreWithin new after
-  within_added =
-      subst (λ (bytes : List ℕ). AreWithin bytes after) (sym is_new)
-      (subst (λ (ps : List Place). AreWithin (old ++ line) ps) (sym is_after)
-      (All-push (LiesWithin (length (old ++ line))) places place (within-more old line places within) (LiesWithin-added old line place start ends)))
-
   pub tasks_added : tasks_at new after ≡ tasks_at old places ++ task_of_line line ∷ []
   tasks_added =
       ap (λ (bytes : List ℕ). tasks_at bytes after) is_new
@@ -53,9 +40,3 @@ module _ (old new line : List ℕ) (places after : List Place) (place : Place) (
       ∙ map_push (task_at (old ++ line)) places place
       ∙ ap (λ (t : Task). tasks_at (old ++ line) places ++ t ∷ []) (ap task_of_line (part-added old line place start ends))
       ∙ ap (λ (ts : List Task). ts ++ task_of_line line ∷ []) (tasks-more old line places within)
-
--- the task at a place that was read
-pub task_read : (bytes : List ℕ) (places : List Place) (index : ℕ) (place : Place) (line : List ℕ) → slice_get places index ≡ Some place → line ≡ items_at bytes place
-    → slice_get (tasks_at bytes places) index ≡ Some (task_of_line line)
-task_read bytes places index place line e is =
-    slice_get-map (task_at bytes) places index ∙ ap (option_map (task_at bytes)) e ∙ ap (λ (l : List ℕ). Some (task_of_line l)) (sym is)

@@ -31,25 +31,31 @@ fn status_of(pushed: Result<(), Failed>) -> Status
     }
 }
 
-/// Reads an input, has the actors do their tasks on a machine with `frames` page frames, and writes the journal.
+/// An empty store, and the number of page frames that it is to get.
+struct EmptyStore<P> {
+    store: P,
+    frames: u32,
+}
+
+/// Reads an input, has the actors do their tasks on a machine over a store that gets its page frames, and writes the journal.
 fn run_on<R: Threads + Wait + Sync, P: PageStore + Send, G: Gate, S: Source, K: Sink>(
     rt: &R,
     alloc: Global,
-    frames: u32,
     gate: &G,
-    store: P,
+    empty: EmptyStore<P>,
     source: &mut S,
     sink: &mut K,
 ) -> (Status, Option<P>)
-    requires empty { P.content store ≡ nothing }
-    requires frames { 1 ≤ frames × frames ≤ FRAMES }
-    ensures ends { ActorsEndAs result.0 frames (S.remaining source.old) (S.remaining source.new)
+    requires empty { P.content empty.store ≡ nothing }
+    requires frames { 1 ≤ empty.frames × empty.frames ≤ FRAMES }
+    ensures ends { ActorsEndAs result.0 empty.frames (S.remaining source.old) (S.remaining source.new)
         (K.contents sink.old) (K.contents sink.new) (option_map P.content result.1) }
     ensures read_cause { result.0 ≡ Status.ReadFault → HasFailed (S.faults source.old) (S.faults source.new) }
     ensures write_cause { result.0 ≡ Status.WriteFault → HasFailed (K.faults sink.old) (K.faults sink.new) }
     ensures unwritten { result.0 ≢ Status.Done → result.0 ≢ Status.WriteFault → sink.new ≡ sink.old }
     ensures kept { result.1 ≡ None → result.0 ≡ Status.HostMemory }
 {
+    let EmptyStore { store, frames } = empty;
     let scripts = match read_input(alloc, source) {
         Ok(scripts) => scripts,
         Err(status) => return (status, Some(store)),
@@ -111,7 +117,7 @@ pub fn run_actors<R: Threads + Wait + Sync, P: PageStore + Send, G: Gate, S: Sou
         × (result.1 ≡ Some store) }
 {
     match frames_asked(b"actors", words) {
-        Some(frames) => run_on(rt, alloc, frames, gate, store, source, sink),
+        Some(frames) => run_on(rt, alloc, gate, EmptyStore { store, frames }, source, sink),
         None => (Status::Usage, Some(store)),
     }
 }
