@@ -40,14 +40,12 @@ pub(crate) fn vmo_write<P: PageStore>(
     match vmos.resolve(name) {
         Some(target) => {
             let outcome = vmo_ops::write(store, &target, offset, bytes);
-            changed(
-                translations,
-                store,
-                &target,
+            let range = NameRange {
+                name,
                 offset,
-                bytes.len() as u64,
-                outcome,
-            )
+                len: bytes.len() as u64,
+            };
+            changed(translations, store, &target, range, outcome)
         }
         None => Answer::Refused(Refusal::BadHandle),
     }
@@ -70,14 +68,7 @@ pub(crate) fn vmo_fill<P: PageStore>(
     match vmos.resolve(range.name) {
         Some(target) => {
             let outcome = vmo_ops::fill(store, &target, range.offset, range.len, byte);
-            changed(
-                translations,
-                store,
-                &target,
-                range.offset,
-                range.len,
-                outcome,
-            )
+            changed(translations, store, &target, range, outcome)
         }
         None => Answer::Refused(Refusal::BadHandle),
     }
@@ -99,14 +90,7 @@ pub(crate) fn vmo_commit<P: PageStore>(
     match vmos.resolve(range.name) {
         Some(target) => {
             let outcome = vmo_ops::commit(store, &target, range.offset, range.len);
-            changed(
-                translations,
-                store,
-                &target,
-                range.offset,
-                range.len,
-                outcome,
-            )
+            changed(translations, store, &target, range, outcome)
         }
         None => Answer::Refused(Refusal::BadHandle),
     }
@@ -129,14 +113,7 @@ pub(crate) fn vmo_zero<P: PageStore>(
     match vmos.resolve(range.name) {
         Some(target) => {
             let outcome = vmo_ops::zero(store, pins, &target, range.offset, range.len);
-            changed(
-                translations,
-                store,
-                &target,
-                range.offset,
-                range.len,
-                outcome,
-            )
+            changed(translations, store, &target, range, outcome)
         }
         None => Answer::Refused(Refusal::BadHandle),
     }
@@ -159,14 +136,7 @@ pub(crate) fn vmo_decommit<P: PageStore>(
     match vmos.resolve(range.name) {
         Some(target) => {
             let outcome = vmo_ops::decommit(store, vmos, pins, &target, range.offset, range.len);
-            changed(
-                translations,
-                store,
-                &target,
-                range.offset,
-                range.len,
-                outcome,
-            )
+            changed(translations, store, &target, range, outcome)
         }
         None => Answer::Refused(Refusal::BadHandle),
     }
@@ -205,18 +175,17 @@ fn changed<P: PageStore>(
     translations: &mut Translations,
     store: &P,
     target: &Target,
-    offset: u64,
-    len: u64,
+    range: NameRange,
     outcome: Result<(), Refusal>,
 ) -> Answer<'static>
-    requires { reply_of (λ _. Reply.Done) outcome ≡ Reply.Done → IsRangeInVmo (P.content store.now) target.now offset len }
+    requires { reply_of (λ _. Reply.Done) outcome ≡ Reply.Done → IsRangeInVmo (P.content store.now) target.now range.offset range.len }
     ensures reply { reply_for result ≡ reply_of (λ _. Reply.Done) outcome }
     ensures left { translations_of translations.new ≡ unless_refused (reply_for result)
-        (without_changed (P.content store.now) target.now offset len (translations_of translations.old)) (translations_of translations.old) }
+        (without_changed (P.content store.now) target.now range.offset range.len (translations_of translations.old)) (translations_of translations.old) }
 {
     match outcome {
         Ok(()) => {
-            forget_changed(translations, store, target, offset, len);
+            forget_changed(translations, store, target, range);
             Answer::Done
         }
         Err(refusal) => Answer::Refused(refusal),

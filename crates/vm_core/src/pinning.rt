@@ -54,7 +54,7 @@ pub(crate) fn vmo_pin<'a, P: PageStore>(
         room,
     ) {
         Ok(numbers) => {
-            forget_changed(translations, store, &target, range.offset, range.len);
+            forget_changed(translations, store, &target, range);
             Answer::Pins(numbers)
         }
         Err(refusal) => Answer::Refused(refusal),

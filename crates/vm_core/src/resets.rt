@@ -18,6 +18,7 @@ use pages::pages_of_name;
 use pin_table::PinTable;
 use vm_base::{Koid, PAGE, PageNo, RegionName, VMO_PAGES, page_count, page_of};
 use vm_model::{ChildKind, Target};
+use vmo_ops::NameRange;
 
 /// Forgets, after a change to a range of a name, the translations of the range's pages that have another frame now.
 #[inline(always)]
@@ -26,18 +27,22 @@ pub(crate) fn forget_changed<P: PageStore>(
     translations: &mut Translations,
     store: &P,
     target: &Target,
-    offset: u64,
-    len: u64,
+    range: NameRange,
 )
-    requires { IsRangeInVmo (P.content store.now) target.now offset len }
+    requires { IsRangeInVmo (P.content store.now) target.now range.offset range.len }
     ensures { translations_of translations.new
-        ≡ without_changed (P.content store.now) target.now offset len (translations_of translations.old) }
+        ≡ without_changed (P.content store.now) target.now range.offset range.len (translations_of translations.old) }
 {
     if translations.is_empty() {
         return;
     }
-    let at = target.first * PAGE + offset;
-    translations.forget_changed(store, target.koid, page_of(at), touched_count(at, len));
+    let at = target.first * PAGE + range.offset;
+    translations.forget_changed(
+        store,
+        target.koid,
+        page_of(at),
+        touched_count(at, range.len),
+    );
 }
 
 // How many pages hold a byte of a range that lies in a VMO.

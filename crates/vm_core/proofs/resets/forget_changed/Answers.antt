@@ -6,5 +6,5 @@ use Rattle.vm_core.proofs.resets.forget_changed.Goals as goal
 pub forget_changed-requires : goal.forget_changed-requires
 forget_changed-requires g c = record {
   vmo = c.requires.vmo;
-  range = omega (arith, c.page_of.ensures, c.touched_count.ensures, touched_fit (c.args.target.now.first * PAGE + c.args.offset) c.args.len _ c.requires.inside);
+  range = omega (arith, c.page_of.ensures, c.touched_count.ensures, touched_fit (c.args.target.now.first * PAGE + c.args.range.offset) c.args.range.len _ c.requires.inside);
 }
