@@ -99,25 +99,23 @@ pub(crate) fn write<'a, P: PageStore>(
 fn whole_pages<P: PageStore>(
     store: &P,
     table: &SourceTable,
-    name: VmoName,
-    offset: u64,
-    len: u64,
+    range: NameRange,
 ) -> Result<(Koid, Backing), Refusal>
     requires agrees { SourcesAgree (P.content store.now) table.now }
-    ensures ok { IfOk result (λ r. IsRangeOfPages (source_state_of (P.content store.now) table.now) name.0 offset len r.0.0 r.1) }
+    ensures ok { IfOk result (λ r. IsRangeOfPages (source_state_of (P.content store.now) table.now) range.name.0 range.offset range.len r.0.0 r.1) }
     ensures err { IfErr result (λ refusal.
-        first_of (source_refusals (source_state_of (P.content store.now) table.now) (SourceCommand.Evict name offset len)) ≡ Some refusal) }
+        first_of (source_refusals (source_state_of (P.content store.now) table.now) (SourceCommand.Evict range.name range.offset range.len)) ≡ Some refusal) }
 {
-    let Some(v) = find(table, name) else {
+    let Some(v) = find(table, range.name) else {
         return Err(Refusal::BadHandle);
     };
-    if !are_aligned(offset, len) {
+    if !are_aligned(range.offset, range.len) {
         return Err(Refusal::InvalidArgs);
     }
     let Some(backing) = table.backings.find(0, v.0) else {
         return Err(Refusal::NotSupported);
     };
-    if !is_in_range(store, v, offset, len) {
+    if !is_in_range(store, v, range.offset, range.len) {
         return Err(Refusal::OutOfRange);
     }
     Ok((v, backing))
@@ -128,20 +126,18 @@ pub(crate) fn supply<'a, P: PageStore>(
     store: &mut P,
     table: &SourceTable,
     functions: &[SourceFn; 3],
-    name: VmoName,
-    offset: u64,
-    len: u64,
+    range: NameRange,
 ) -> Answer<'a>
     requires kinds { map (λ f. f.kind) functions.now ≡ 0 ∷ 1 ∷ 2 ∷ [] }
     requires agrees { SourcesAgree (P.content store.old) table.now }
-    ensures { SourceStep (source_state_of (P.content store.old) table.now) (SourceCommand.Supply name offset len)
+    ensures { SourceStep (source_state_of (P.content store.old) table.now) (SourceCommand.Supply range.name range.offset range.len)
         (reply_for result) (source_state_of (P.content store.new) table.now) }
 {
-    let found = match whole_pages(store, table, name, offset, len) {
+    let found = match whole_pages(store, table, range) {
         Ok(found) => found,
         Err(refusal) => return Answer::Refused(refusal),
     };
-    let (first, end) = touched_pages(offset, len);
+    let (first, end) = touched_pages(range.offset, range.len);
     let pages = Stretch {
         koid: found.0,
         first,
@@ -158,20 +154,18 @@ pub(crate) fn evict<'a, P: PageStore>(
     store: &mut P,
     table: &SourceTable,
     functions: &[SourceFn; 3],
-    name: VmoName,
-    offset: u64,
-    len: u64,
+    range: NameRange,
 ) -> Answer<'a>
     requires kinds { map (λ f. f.kind) functions.now ≡ 0 ∷ 1 ∷ 2 ∷ [] }
     requires agrees { SourcesAgree (P.content store.old) table.now }
-    ensures { SourceStep (source_state_of (P.content store.old) table.now) (SourceCommand.Evict name offset len)
+    ensures { SourceStep (source_state_of (P.content store.old) table.now) (SourceCommand.Evict range.name range.offset range.len)
         (reply_for result) (source_state_of (P.content store.new) table.now) }
 {
-    let found = match whole_pages(store, table, name, offset, len) {
+    let found = match whole_pages(store, table, range) {
         Ok(found) => found,
         Err(refusal) => return Answer::Refused(refusal),
     };
-    let (first, end) = (page_of(offset), page_of(offset + len));
+    let (first, end) = (page_of(range.offset), page_of(range.offset + range.len));
     match evict_pages(store, functions, &found.1, found.0, first, end) {
         Ok(()) => Answer::Done,
         Err(_) => Answer::Refused(Refusal::HostMemory),

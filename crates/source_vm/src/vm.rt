@@ -117,11 +117,7 @@ fn dispatch<'a, P: PageStore>(
         } => loose(store, table, *name, *parent, *offset, *size),
         SourceCall::Close { name } => close(store, table, *name),
         SourceCall::Read { name, offset, len } => {
-            let range = NameRange {
-                name: *name,
-                offset: *offset,
-                len: *len,
-            };
+            let range = NameRange::new(*name, *offset, *len);
             read(store, table, functions, range, bytes)
         }
         SourceCall::Write {
@@ -130,10 +126,12 @@ fn dispatch<'a, P: PageStore>(
             bytes,
         } => write(store, table, functions, *name, *offset, bytes.as_slice()),
         SourceCall::Supply { name, offset, len } => {
-            supply(store, table, functions, *name, *offset, *len)
+            let range = NameRange::new(*name, *offset, *len);
+            supply(store, table, functions, range)
         }
         SourceCall::Evict { name, offset, len } => {
-            evict(store, table, functions, *name, *offset, *len)
+            let range = NameRange::new(*name, *offset, *len);
+            evict(store, table, functions, range)
         }
         SourceCall::Stat => Answer::Stat(stat(store)),
     }

@@ -21,7 +21,7 @@ use crate::changing::{vmo_commit, vmo_decommit, vmo_fill, vmo_set_size, vmo_writ
 use crate::mappings::{list_maps, vmar_map, vmar_protect, vmar_unmap};
 use crate::naming::{vmo_close, vmo_create, vmo_create_child};
 use crate::pinning::{vmo_pin, vmo_unpin};
-use crate::requests::{ChildRequest, PinRequest, range_of};
+use crate::requests::{ChildRequest, PinRequest};
 use crate::spaces::{root_create, vmar_allocate, vmar_destroy};
 use attribution::stat;
 use fault::Translations;
@@ -30,7 +30,7 @@ use pin_table::PinTable;
 use region_ops::{AllocateRequest, MapRequest, RegionRange};
 use std::alloc::Global;
 use vm_model::{Answer, Call};
-use vmo_ops::ChildShape;
+use vmo_ops::{ChildShape, NameRange};
 use vmo_table::VmoTable;
 
 /// Hands a command on a VMO as a whole to its handler.
@@ -104,7 +104,7 @@ pub(crate) fn on_pages<'a, P: PageStore>(
         Call::VmoRead { name, offset, len } => vmo_read(
             store,
             vmos,
-            range_of(name, offset, len),
+            NameRange::new(*name, *offset, *len),
             bytes,
         ),
         Call::VmoWrite {
@@ -117,26 +117,32 @@ pub(crate) fn on_pages<'a, P: PageStore>(
             offset,
             len,
             byte,
-        } => vmo_fill(store, vmos, ready, range_of(name, offset, len), *byte),
+        } => vmo_fill(
+            store,
+            vmos,
+            ready,
+            NameRange::new(*name, *offset, *len),
+            *byte,
+        ),
         Call::VmoCommit { name, offset, len } => vmo_commit(
             store,
             vmos,
             ready,
-            range_of(name, offset, len),
+            NameRange::new(*name, *offset, *len),
         ),
         Call::VmoZero { name, offset, len } => vmo_zero(
             store,
             vmos,
             pins,
             ready,
-            range_of(name, offset, len),
+            NameRange::new(*name, *offset, *len),
         ),
         Call::VmoDecommit { name, offset, len } => vmo_decommit(
             store,
             vmos,
             pins,
             ready,
-            range_of(name, offset, len),
+            NameRange::new(*name, *offset, *len),
         ),
         _ => unreachable!(),
     }
@@ -164,7 +170,7 @@ pub(crate) fn on_pin<'a, P: PageStore>(
             offset,
             len,
         } => {
-            let range = range_of(name, offset, len);
+            let range = NameRange::new(*name, *offset, *len);
             let request = PinRequest { pin: *pin, range };
             vmo_pin(store, vmos, pins, ready, request, numbers)
         }

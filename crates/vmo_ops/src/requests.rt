@@ -1,5 +1,7 @@
 //! What the operations are asked for, as values.
 
+ghost use Rattle.std.specs.Prelude.{◌≡◌};
+
 use vm_base::{Koid, VmoName};
 
 /// A range of bytes of what a name stands for: `len` bytes from `offset` bytes into it on.
@@ -8,6 +10,16 @@ pub struct NameRange {
     pub name: VmoName,
     pub offset: u64,
     pub len: u64,
+}
+
+impl NameRange {
+    /// Returns the range of `len` bytes from `offset` bytes into the name on.
+    #[inline(always)]
+    pub fn new(name: VmoName, offset: u64, len: u64) -> NameRange
+        ensures { result ≡ record { name = name; offset = offset; len = len } }
+    {
+        NameRange { name, offset, len }
+    }
 }
 
 /// A range of bytes of a VMO: `len` bytes from `at` bytes into it on.

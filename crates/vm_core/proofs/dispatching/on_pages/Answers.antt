@@ -15,19 +15,19 @@ pub vmo_commit-requires : goal.vmo_commit-requires
 vmo_commit-requires g c = parts_counted c.requires.counted
 
 pub returns-in-VmoRead : goal.returns-in-VmoRead
-returns-in-VmoRead g c = rw c.in-VmoRead.is (does_vmos (rw c.range_of.ensures at c.vmo_read.ensures) (leaves_all (λ s r. refl)) refl tt)
+returns-in-VmoRead g c = rw c.in-VmoRead.is (does_vmos (rw c.new.ensures at c.vmo_read.ensures) (leaves_all (λ s r. refl)) refl tt)
 
 pub returns-in-VmoWrite : goal.returns-in-VmoWrite
 returns-in-VmoWrite g c = rw c.in-VmoWrite.is (rw (← c.as_slice.ensures.value) (does_vmos c.vmo_write.ensures.step c.vmo_write.ensures.left refl tt))
 
 pub returns-in-VmoFill : goal.returns-in-VmoFill
-returns-in-VmoFill g c = rw c.in-VmoFill.is (does_vmos (rw c.range_of-in-VmoFill.ensures at c.vmo_fill.ensures.step) (rw c.range_of-in-VmoFill.ensures at c.vmo_fill.ensures.left) refl tt)
+returns-in-VmoFill g c = rw c.in-VmoFill.is (does_vmos (rw c.new-in-VmoFill.ensures at c.vmo_fill.ensures.step) (rw c.new-in-VmoFill.ensures at c.vmo_fill.ensures.left) refl tt)
 
 pub returns-in-VmoCommit : goal.returns-in-VmoCommit
-returns-in-VmoCommit g c = rw c.in-VmoCommit.is (does_vmos (rw c.range_of-in-VmoCommit.ensures at c.vmo_commit.ensures.step) (rw c.range_of-in-VmoCommit.ensures at c.vmo_commit.ensures.left) refl tt)
+returns-in-VmoCommit g c = rw c.in-VmoCommit.is (does_vmos (rw c.new-in-VmoCommit.ensures at c.vmo_commit.ensures.step) (rw c.new-in-VmoCommit.ensures at c.vmo_commit.ensures.left) refl tt)
 
 pub returns-in-VmoZero : goal.returns-in-VmoZero
-returns-in-VmoZero g c = rw c.in-VmoZero.is (does_steps (rw c.range_of-in-VmoZero.ensures at c.vmo_zero.ensures.step) (leaves_tables (rw c.range_of-in-VmoZero.ensures at c.vmo_zero.ensures.left)) refl tt)
+returns-in-VmoZero g c = rw c.in-VmoZero.is (does_steps (rw c.new-in-VmoZero.ensures at c.vmo_zero.ensures.step) (leaves_tables (rw c.new-in-VmoZero.ensures at c.vmo_zero.ensures.left)) refl tt)
 
 pub returns-in-VmoDecommit : goal.returns-in-VmoDecommit
-returns-in-VmoDecommit g c = rw c.in-VmoDecommit.is (does_steps (rw c.range_of-in-VmoDecommit.ensures at c.vmo_decommit.ensures.step) (leaves_tables (rw c.range_of-in-VmoDecommit.ensures at c.vmo_decommit.ensures.left)) refl tt)
+returns-in-VmoDecommit g c = rw c.in-VmoDecommit.is (does_steps (rw c.new-in-VmoDecommit.ensures at c.vmo_decommit.ensures.step) (leaves_tables (rw c.new-in-VmoDecommit.ensures at c.vmo_decommit.ensures.left)) refl tt)
