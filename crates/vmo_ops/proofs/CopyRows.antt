@@ -3,12 +3,11 @@ use Rattle.std.proofs.Common.{[], ◌≡◌, ℕ, zero, suc, ◌+◌, ◌-◌, �
 use Rattle.std.proofs.Common.{List, ◌∷◌, length, Option, None, Some, refl, sym, ap, subst, ◌∙◌, inl, inr, arith}
 use Rattle.std.specs.Prelude.{nat_lt, is_some}
 use Rattle.std.specs.List.{filter, range_with_len}
-use Rattle.std.proofs.lemmas.Bool.{lt-ltb, le-ltb}
+use Rattle.std.proofs.lemmas.Bool.{le-ltb}
 use Rattle.vm_base.specs.Entries.{with_key}
 use Rattle.vm_base.specs.Pages.{rounded}
 use Rattle.vm_base.specs.declared.limits.TheConstants.{PAGE, VMO_PAGES}
 use Rattle.vm_base.specs.declared.names.VmoName.{VmoName}
-use Rattle.vm_base.specs.declared.refusal.Refusal.{Refusal}
 use Rattle.vm_base.specs.declared.refusal.Refusal.TheVariants.{BadHandle, NameInUse, InvalidArgs, OutOfRange, NoMemory, HostMemory}
 use Rattle.vm_base.proofs.SearchLaws.{count_below_less}
 use Rattle.vm_model.specs.declared.command.Command.{Command}
@@ -24,7 +23,7 @@ use Rattle.vm_model.specs.Naming.Names.{Lineage, owner}
 use Rattle.vm_model.specs.Naming.Pins.{is_pinned}
 use Rattle.vm_model.specs.Machine.State.{State, is_open, target_of, seen_pages, pinned_copies}
 use Rattle.vm_model.specs.Machine.Refusals.{lacks_copies, refusals, first_of}
-use Rattle.vm_model.specs.Machine.Step.{with_snapshot, StepAfter, Step}
+use Rattle.vm_model.specs.Machine.Step.{with_snapshot, Step}
 use Rattle.vm_model.proofs.ContentLaws.{pages_of-at, in_use_found, in_use_at}
 use Rattle.vm_model.proofs.NamesLaws.{target_of-at}
 use Rattle.vm_model.proofs.OwningLaws.{Owned-from_Owns}
@@ -264,15 +263,6 @@ module _ {s : State} {name parent : VmoName} {t : Target} {offset size : ℕ} {r
       (lacks_copies s (target_of s parent.0) (offset / PAGE) (rounded size / PAGE)) (ap (λ (o : Option Target). not (is_some o)) asks.named) (ap is_some asks.closed) asks.asked
       (le-ltb (VMO_PAGES * PAGE) (offset + rounded size) asks.few)
       ∙ ap (λ (x : Target). cond (lacks_copies s x (offset / PAGE) (rounded size / PAGE)) (Some NoMemory) None) (target_of-at s parent.0 t asks.named)
-
-  -- too few frames are free
-  pub copies-lack : s.content.frames < used s.content + length copies → Step s command (Refused NoMemory) s
-  copies-lack less =
-      let lacks : lacks_copies s t (offset / PAGE) (rounded size / PAGE) ≡ true = lt-ltb _ _ (omega (arith, less, ap length copies-all)) in
-      record {
-        outcome = subst (λ (o : Option Refusal). StepAfter o s command (Refused NoMemory) s) (sym (rows-are ∙ ap (λ (b : Bool). cond b (Some NoMemory) None) lacks))
-            (record { answer = refl; same = refl });
-      }
 
   module _ (enough : used s.content + length copies ≤ s.content.frames) where
     none : first_of (refusals s command) ≡ None
