@@ -33,8 +33,8 @@ same_twice e g = g ∙ e
 pub single_steps : (a : ℕ) {b c d e g : ℕ} → b ≤ a + 1 → c ≤ b + 1 → d ≤ c + 2 → e ≡ d + 1 → g ≡ e + 1 → g ≤ a + 9
 single_steps a i j k l m = omega arith
 
-pub double_steps : (a : ℕ) {b c d e g : ℕ} → b ≤ a + 1 → c ≤ b + 1 → d ≤ c + 2 → e ≤ d + 2 → g ≡ e + 3 → g ≤ a + 9
-double_steps a i j k l m = omega arith
+pub double_steps : (a : ℕ) {b c d e g h i : ℕ} → b ≤ a + 1 → c ≤ b + 1 → d ≤ c + 2 → e ≤ d + 2 → g ≡ e + 1 → h ≡ g + 1 → i ≡ h + 1 → i ≤ a + 9
+double_steps a j k l m n o p = omega arith
 
 -- a test that is false says that what would make it true does not hold
 pub refuted : {b : Bool} {P : Type 0} → (P → IsTrue b) → b ≡ false → P → ⊥

@@ -209,3 +209,10 @@ module _ {R : Type 0} where
     go : (v : Option R) → get s p ≡ v → child_under p v ≡ Some c → ContainsKey s c.link
     go None e h = cc
     go (Some x) e h = subst (λ (d : Child R). ContainsKey s d.link) (same_Some _ _ h) (ap is_some e)
+
+  -- and still does, if a row was put under any place
+  pub held-still : {s s1 : Slab R} {q : ℕ} {row : R} (p : ℕ) → Updates s s1 q (Some row) → ContainsKey s p → ContainsKey s1 p
+  held-still {s} {s1} {q} p update held = elim (cases_eq p q) [
+    | inl same ↦ subst (λ (k : ℕ). ContainsKey s1 k) (sym same) (ap is_some update.changed)
+    | inr other ↦ ap is_some (update.others p other) ∙ held
+  ]

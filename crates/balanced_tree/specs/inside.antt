@@ -1,4 +1,3 @@
 pub mod Tree
 pub mod Standing
-pub mod Placing
 pub mod GapSearch

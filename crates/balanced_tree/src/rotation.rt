@@ -6,7 +6,6 @@ ghost use Rattle.std.specs.Option.{ForSome};
 ghost use Rattle.slab.specs.Slab.{get, slab_len, ContainsKey, Updates};
 ghost use Rattle.balanced_tree.specs.Row.{height_in, AreAlike};
 ghost use Rattle.balanced_tree.specs.inside.Tree.{SearchTree, place_of, leaned_right, leaned_left, balanced};
-ghost use Rattle.balanced_tree.specs.inside.Placing.{PlacesThree};
 ghost use Rattle.balanced_tree.specs.inside.Standing.{child_at, height_at, root_after, IsSplit, Splits, Becomes, Same, IsRooted};
 
 use crate::changes::Change;
@@ -112,33 +111,6 @@ fn place_over<R: TreeRow, L: Ledger>(
     Child { link: place, row }
 }
 
-/// Puts two rows under their places, each over its children, and a third over both, and answers its place.
-#[inline(always)]
-fn place_three<R: TreeRow, L: Ledger>(
-    rows: &mut RowSlab<R>,
-    first: Child<R>,
-    first_left: Option<Child<R>>,
-    first_right: Option<Child<R>>,
-    last: Child<R>,
-    last_left: Option<Child<R>>,
-    last_right: Option<Child<R>>,
-    top: Child<R>,
-    steps: &mut Steps<L>,
-) -> usize
-    requires first { ContainsKey rows.old first.link }
-    requires last { ContainsKey rows.old last.link }
-    requires top { ContainsKey rows.old top.link }
-    ensures place { result ≡ top.link }
-    ensures places { PlacesThree R.functions rows.old rows.new first first_left first_right last last_left last_right top }
-    ensures len { slab_len rows.new ≡ slab_len rows.old }
-    ensures capacity { rows.new.capacity ≡ rows.old.capacity }
-    ensures steps { steps.new ≡ steps.old + 3 }
-{
-    let left = place_over(rows, first.link, first.row, first_left, first_right, steps);
-    let right = place_over(rows, last.link, last.row, last_left, last_right, steps);
-    place_over(rows, top.link, top.row, Some(left), Some(right), steps).link
-}
-
 /// Puts a row under a place, over the children under these links, and answers the place. The function is not inlined: a
 /// change calls it at most once.
 #[inline(never)]
@@ -235,8 +207,9 @@ fn lean_right<R: TreeRow, L: Ledger>(
     match if_higher(inner, outer) {
         Some(top) => {
             let (low, high) = children_of(rows, top.row, steps);
-            let last = Child { link: place, row };
-            place_three(rows, parent, outer, low, last, high, right, top, steps)
+            let first = place_over(rows, parent.link, parent.row, outer, low, steps);
+            let last = place_over(rows, place, row, high, right, steps);
+            place_over(rows, top.link, top.row, Some(first), Some(last), steps).link
         }
         None => {
             let last = place_over(rows, place, row, inner, right, steps);
@@ -273,8 +246,9 @@ fn lean_left<R: TreeRow, L: Ledger>(
     match if_higher(inner, outer) {
         Some(top) => {
             let (low, high) = children_of(rows, top.row, steps);
-            let first = Child { link: place, row };
-            place_three(rows, first, left, low, parent, high, outer, top, steps)
+            let first = place_over(rows, place, row, left, low, steps);
+            let last = place_over(rows, parent.link, parent.row, high, outer, steps);
+            place_over(rows, top.link, top.row, Some(first), Some(last), steps).link
         }
         None => {
             let first = place_over(rows, place, row, left, inner, steps);

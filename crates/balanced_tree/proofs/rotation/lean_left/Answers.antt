@@ -1,6 +1,6 @@
-use Rattle.std.proofs.Common.{Some, is_some, refl, sym, ap, ◌∙◌}
+use Rattle.std.proofs.Common.{sym, ◌∙◌}
 use Rattle.balanced_tree.proofs.PlainLaws.{same_twice, single_steps, double_steps}
-use Rattle.balanced_tree.proofs.Spelling.{picked-is, child_at-link, HasParts-link, readable-both, held-link, IsPlaced-root}
+use Rattle.balanced_tree.proofs.Spelling.{picked-is, child_at-link, HasParts-link, readable-both, held-link, held-still, IsPlaced-root}
 use Rattle.balanced_tree.proofs.Turns.{leaned_left-once, leaned_left-twice}
 use Rattle.balanced_tree.proofs.rotation.lean_left.Goals as goal
 
@@ -17,35 +17,35 @@ children_of-requires-in-Some-if_higher g c =
     let both = readable-both f (HasParts-link f law s parent.left parent.left_spelled parent.left_is c.children_of.ensures.left (picked-is _ _ _ _ c.if_higher.ensures c.in-Some-if_higher.is)) in
     record { left = both.0; right = both.1 }
 
-pub place_three-requires : goal.place_three-requires
-place_three-requires g c = record {
-  first = ap is_some c.requires.split.split.at;
-  last = held-link c.args.rows.now c.args.right c.child_under.ensures.child c.in-Some.is;
-  top = held-link c.args.rows.now _ c.children_of.ensures.left (picked-is _ _ _ _ c.if_higher.ensures c.in-Some-if_higher.is);
-}
+pub place_over-requires : goal.place_over-requires
+place_over-requires g c =
+    held-still _ c.place_over-last.ensures.updates (held-still _ c.place_over-first.ensures.updates
+    (held-link c.args.rows.now _ c.children_of.ensures.left (picked-is _ _ _ _ c.if_higher.ensures c.in-Some-if_higher.is)))
 
 pub returns-in-Some-if_higher : goal.returns-in-Some-if_higher
 returns-in-Some-if_higher g c =
     let f = g.R.TreeRow.functions in let law = g.met.R.TreeRow.lawful in
     let s = c.args.rows.now in
-    let three = c.place_three.ensures in
+    let first = c.place_over-first.ensures in
+    let last = c.place_over-last.ensures in
+    let top = c.place_over.ensures in
     record {
       tree = λ l x r low high split same left_is right_is.
           let placed = leaned_left-twice f l r law split same (c.child_under-left.ensures.child ∙ child_at-link f s l split.left left_is) (sym c.in-Some.is ∙ c.child_under.ensures.child ∙ child_at-link f s r split.right right_is)
           c.children_of.ensures.right c.children_of.ensures.left c.if_higher.ensures c.in-Some-if_higher.is c.children_of-in-Some-if_higher.ensures.left c.children_of-in-Some-if_higher.ensures.right
-          three.places.puts_first refl three.places.puts_last refl three.places.puts_top refl in
-          (placed.becomes, IsPlaced-root f placed ∙ ap Some (sym three.place));
-      len = three.len;
-      capacity = three.capacity;
-      steps = double_steps c.args.steps.now c.child_under-left.ensures.steps c.child_under.ensures.steps c.children_of.ensures.steps c.children_of-in-Some-if_higher.ensures.steps three.steps;
+          first.updates first.child last.updates last.child top.updates top.child in
+          (placed.becomes, IsPlaced-root f placed);
+      len = same_twice first.len (same_twice last.len top.len);
+      capacity = same_twice first.capacity (same_twice last.capacity top.capacity);
+      steps = double_steps c.args.steps.now c.child_under-left.ensures.steps c.child_under.ensures.steps c.children_of.ensures.steps c.children_of-in-Some-if_higher.ensures.steps first.steps last.steps top.steps;
     }
 
 pub returns-in-None : goal.returns-in-None
 returns-in-None g c =
     let f = g.R.TreeRow.functions in let law = g.met.R.TreeRow.lawful in
     let s = c.args.rows.now in
-    let lower = c.place_over-first.ensures in
-    let upper = c.place_over.ensures in
+    let lower = c.place_over-first-in-None.ensures in
+    let upper = c.place_over-in-None.ensures in
     record {
       tree = λ l x r low high split same left_is right_is.
           let placed = leaned_left-once f l r law split same (c.child_under-left.ensures.child ∙ child_at-link f s l split.left left_is) (sym c.in-Some.is ∙ c.child_under.ensures.child ∙ child_at-link f s r split.right right_is)
