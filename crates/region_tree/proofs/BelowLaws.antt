@@ -15,7 +15,7 @@ use Rattle.vm_model.proofs.SpaceLaws.{none_child}
 use Rattle.balanced_tree.specs.Pairs.{IsNext}
 use Rattle.pair_map.specs.declared.stretch_row.Extent.{Extent}
 use Rattle.pair_map.specs.Maps.{Covers, StandApart}
-use Rattle.region_tree.specs.Tree.{has_child, with_one_dead, IsWithin, HasNoneWithin, IsStart, extent_for}
+use Rattle.region_tree.specs.Tree.{has_child, with_one_dead, IsWithin, HasNoneWithin, extent_for}
 use Rattle.region_tree.specs.inside.TreeFields.{IsTree, IsBetween, HasNoExtentBetween, IsOver, HasNoneOver, IsAbove}
 use Rattle.region_tree.proofs.PlaceLaws.{child_at}
 
@@ -262,12 +262,6 @@ module _ (regions : ℕ → Option Region) (good : AreGoodRegions regions) where
   within-last above first count last is at_first (Some name) within = within
 
 -- ---- where the search for the next region that lies within goes on
-
--- not at the region itself, so at one that lies within
-pub start-within : (regions : ℕ → Option Region) (above first end start : ℕ) → (start == above) ≡ false → IsStart regions above first end start
-    → IsWithin regions above first end start
-start-within regions above first end start apart (inl same) = absurd (both_ways (start == above) apart (ap (λ (k : ℕ). k == above) same ∙ eqb_same above))
-start-within regions above first end start apart (inr within) = within
 
 -- the parent of a region below, where it is live and lies in the range
 pub parent-within : (regions : ℕ → Option Region) → AreGoodRegions regions → (above first end name : ℕ) (region up : Region) (p : RegionName)

@@ -55,30 +55,29 @@ pub(crate) fn end_within(region: Region, limit: u64) -> PageNo
         .min(region.first + region.count)
 }
 
-/// Returns the lowest page from `first` on of `count` pages, below the limit, that are in no child of the region and
-/// have no entry of it. The children and the entries are asked in turn. Each is asked for a place that is not before
+/// Returns the lowest page of `count` pages of a region, which is `above`, that lie below the limit, are in no child of the
+/// region and have no entry of it. The children and the entries are asked in turn. Each is asked for a place that is not before
 /// the other's.
 pub(crate) fn gap_in(
     children: &ExtentMap<RegionName>,
     maps: &MappingSet,
-    root: RegionName,
     region: RegionName,
-    first: PageNo,
+    above: Region,
     count: u64,
     limit: PageNo,
 ) -> Option<PageNo>
     requires some { 1 ≤ count }
     requires limit { limit ≤ PAGES_END }
     ensures { MatchOption result
-        (HasNoClear (extents_of children.now region.0) (table_of maps.now) root.0 region.0 first count limit)
-        (IsFirstClear (extents_of children.now region.0) (table_of maps.now) root.0 region.0 first count limit) }
+        (HasNoClear (extents_of children.now region.0) (table_of maps.now) above.root.0 region.0 above.first count limit)
+        (IsFirstClear (extents_of children.now region.0) (table_of maps.now) above.root.0 region.0 above.first count limit) }
 {
-    let mut from = first;
+    let mut from = above.first;
     'search: loop {
         let Some(apart) = children.first_gap(region.0 as u64, from, count, limit) else {
             return None;
         };
-        let Some(bare) = maps.first_gap(root, region, apart, count, limit) else {
+        let Some(bare) = maps.first_gap(above.root, region, apart, count, limit) else {
             return None;
         };
         if bare == apart {

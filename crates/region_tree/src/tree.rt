@@ -191,15 +191,7 @@ impl Regions {
     {
         let above = held(&self.regions, region);
         let end = end_within(above, limit);
-        gap_in(
-            &self.children,
-            maps,
-            above.root,
-            region,
-            above.first,
-            count,
-            end,
-        )
+        gap_in(&self.children, maps, region, above, count, end)
     }
 
     /// Returns what `find_gap` answers for a live region, which is `above`. The set of mappings has noted the live
