@@ -41,7 +41,6 @@ use vm_base::{HostMemory, Koid, PageNo, Tag};
 
 /// A page store whose VMOs share their pages through the clone tree. A snapshot adds two nodes and no row, whatever its
 /// VMO holds. When a VMO writes a page, the page changes its frame for this VMO alone. `spare` is the room for rows.
-#[derive(Drop)]
 pub struct CowForest {
     arena: CowArena,
     lists: PageLists,
@@ -71,6 +70,30 @@ impl Model for CowForest {
     ghost view = { forest_of };
 
     ghost invariant = { AreStore };
+}
+
+impl Drop for CowForest {
+    // Written, and so proved here once. A derived drop is proved in each crate that lets a store go, with that of each table.
+    fn drop(self) {
+        let CowForest {
+            arena,
+            lists,
+            frames,
+            nodes,
+            owners,
+            next: _,
+            vmos: _,
+            jumps,
+            founders,
+        } = self;
+        drop(arena);
+        drop(lists);
+        drop(frames);
+        drop(nodes);
+        drop(owners);
+        drop(jumps);
+        drop(founders);
+    }
 }
 
 impl CowForest {

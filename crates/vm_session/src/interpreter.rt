@@ -18,7 +18,6 @@ use vm_base::{Failed, KOIDS};
 use vm_core::Vm;
 
 /// A machine that answers the lines of a script, and the room for the data of a line. Clauses see the parts of the machine.
-#[derive(Drop)]
 pub struct VmInterpreter {
     vm: Vm,
     rooms: Rooms,
@@ -30,6 +29,14 @@ impl Model for VmInterpreter {
     ghost Value = { Parts };
 
     ghost view = { λ x. x.vm };
+}
+
+impl Drop for VmInterpreter {
+    // Written, and so proved here once. A derived drop is proved in each crate that lets an interpreter go, with that of each table.
+    fn drop(self) {
+        let VmInterpreter { vm, rooms: _ } = self;
+        drop(vm);
+    }
 }
 
 impl VmInterpreter {
