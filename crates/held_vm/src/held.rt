@@ -54,12 +54,12 @@ impl<P: PageStore> HeldVm<P> {
         requires empty { P.content store ≡ nothing }
         ensures machine { IfOk result (λ h. held_machine P.content h ≡ empty_machine frames) }
     {
-        let mut store = store;
-        store.fill(frames)?;
-        // By no call of `hold`: with the interpreter handed to it, the drop of each of its tables would be proved here.
+        let mut filled = store;
+        filled.fill(frames)?;
+        // By no call of `hold`: with the interpreter handed to it, the check would read the code of all that answers a line.
         Ok(HeldVm {
             interpreter: VmInterpreter::new(alloc),
-            store,
+            store: filled,
             reply: BoundedSink::new(alloc),
         })
     }

@@ -3,8 +3,9 @@
 ghost use Rattle.std.specs.Prelude.{◌≡◌, None};
 ghost use Rattle.vmosim_c.specs.Calls.{OpenSays, LineSays, ScriptSays};
 
-use crate::answered::{Answered, DONE, tell_line, tell_refusal, tell_script};
-use kept_vm::{Vmosim, answer_script};
+use crate::kept::Vmosim;
+use crate::script::answer_script;
+use held_vm::{Answered, DONE, tell_line, tell_refusal, tell_script};
 use std::alloc::Global;
 
 /// Opens a machine with `frames` page frames and nothing else, and closes the one that was there.

@@ -1,12 +1,20 @@
 //! The machine for programs in C, and for others that call as C does.
 //!
-//! A caller keeps a `Vmosim` of `kept_vm`: it opens it, has lines answered one by one, and closes it. Or it has a whole script answered
-//! by one call. `include/vmosim.h` is what C reads, and says what a caller owes. Here is only what each call tells in C's words:
-//! `tools/build_library` makes a static library of it, which is proved anew wherever it is built.
+//! A caller keeps a `Vmosim`, 16 bytes: it opens it, has lines answered one by one, and closes it. Or it has a whole script answered by one
+//! call. `include/vmosim.h` is what C reads, and says what a caller owes.
+//!
+//! `kept` opens, answers and closes a machine: `HeldVm` of `held_vm` over the clone tree, in a box. `handle` turns the box into what is
+//! kept, and back. `script` answers a whole script, by `serve` of `vm_session`. `exports` has the calls. `tools/build_library` makes a static
+//! library of it, which is proved anew wherever it is built.
 #![tactic(auto)]
 
-mod answered;
 mod exports;
+mod handle;
+mod kept;
+mod opening;
+mod script;
 
-pub use answered::Answered;
 pub use exports::{vmosim_close, vmosim_line, vmosim_open, vmosim_script};
+pub use handle::Handle;
+pub use kept::Vmosim;
+pub use opening::KeptVm;

@@ -7,9 +7,9 @@ use Rattle.cow_forest.specs.Store.{forest_content}
 use Rattle.vm_session.specs.Plain.{plain}
 use Rattle.held_vm.specs.declared.held.AnswerError.{AnswerError}
 use Rattle.held_vm.specs.Held.{held_machine, Answers}
-use Rattle.kept_vm.specs.declared.opening.KeptVm.{KeptVm}
-use Rattle.kept_vm.specs.declared.opening.OpenError.{OpenError}
-use Rattle.kept_vm.specs.declared.script.ScriptError.{ScriptError}
+use Rattle.vmosim_c.specs.declared.opening.KeptVm.{KeptVm}
+use Rattle.held_vm.specs.declared.told.OpenError.{OpenError}
+use Rattle.held_vm.specs.declared.told.ScriptError.{ScriptError}
 
 -- the machine that is kept
 abbrev pub machine_kept : KeptVm → Machine

@@ -1,11 +1,11 @@
 //! What C keeps of a machine.
 
 ghost use Rattle.std.specs.Prelude.{◌≡◌, is_some, None, Some, option_map};
-ghost use Rattle.kept_vm.specs.Kept.{AnswersKept, Opens};
+ghost use Rattle.vmosim_c.specs.Kept.{AnswersKept, Opens};
 
 use crate::handle::Handle;
-use crate::opening::{KeptVm, OpenError, opened};
-use held_vm::AnswerError;
+use crate::opening::{KeptVm, opened};
+use held_vm::{AnswerError, OpenError};
 use std::alloc::Global;
 use std::mem::replace;
 

@@ -31,16 +31,16 @@ use Rattle.std_alloc.proofs.BoxSteps.Steps.{box_out, box_in}
 use Rattle.std_alloc.specs.contracts.boxed.Box.into_raw as g
 use Rattle.std_alloc.proofs.boxed.Box.into_raw.Met as g-thm
 use Rattle.std_heap.proofs.GlobalAllocator.TheImpl.Met as heap-thm
-use Rattle.kept_vm.specs.contracts.kept_vm++opening++KeptVm+Destruct.drop as drops
-use Rattle.kept_vm.proofs.kept_vm++opening++KeptVm+Destruct.drop.Met as kept-thm
-use Rattle.kept_vm.proofs.kept_vm++opening++KeptVm+Destruct.drop.Symbol as kept-symbol
-use Rattle.kept_vm.proofs.Destruct++none.drop.Code.{code as none_code}
-use Rattle.kept_vm.proofs.Letting.{lets_go}
-use Rattle.kept_vm.specs.Owning.{handle_owns}
-use Rattle.kept_vm.proofs.Crossing.{word, word_fits, ptr_fits, handle_made, Boxed, Bare, Handed}
-use Rattle.kept_vm.specs.contracts.handle.Handle.seal as f
-use Rattle.kept_vm.proofs.handle.Handle.seal.Statement.{statement}
-use Rattle.kept_vm.proofs.handle.Handle.seal.Code as code
+use Rattle.vmosim_c.specs.contracts.vmosim_c++opening++KeptVm+Destruct.drop as drops
+use Rattle.vmosim_c.proofs.vmosim_c++opening++KeptVm+Destruct.drop.Met as kept-thm
+use Rattle.vmosim_c.proofs.vmosim_c++opening++KeptVm+Destruct.drop.Symbol as kept-symbol
+use Rattle.vmosim_c.proofs.Destruct++none.drop.Code.{code as none_code}
+use Rattle.vmosim_c.proofs.Letting.{lets_go}
+use Rattle.vmosim_c.specs.Owning.{handle_owns}
+use Rattle.vmosim_c.proofs.Crossing.{word, word_fits, ptr_fits, handle_made, Boxed, Bare, Handed}
+use Rattle.vmosim_c.specs.contracts.handle.Handle.seal as f
+use Rattle.vmosim_c.proofs.handle.Handle.seal.Statement.{statement}
+use Rattle.vmosim_c.proofs.handle.Handle.seal.Code as code
 
 abbrev stayed : Stays (f.ended).signature.params (f.ended).kept
 stayed = (stay_dropped (plain (λ _. Boxed)) (f.ended).kept.0, tt)
@@ -49,15 +49,15 @@ pub seal_spec : {M : Type 1} → statement M
 unfolding none_code
 seal_spec 𝓤 𝓛 𝓜 𝓡 wired =
     let c = f.clauses 𝓛 𝓜.mem 𝓡.returns in let 𝓣 = tables 𝓤 𝓛.H 𝓜 𝓡 𝓡.env in
-    let R = Handed.row in let Z = Handed.al.row in let ghosts = Handed.al.g in let d = Handed.al.d in let dd = Handed.al.drops in let dx = impl ("kept_vm::kept_vm++opening++KeptVm+Destruct::drop" ∷ []) tnil dnil in
+    let R = Handed.row in let Z = Handed.al.row in let ghosts = Handed.al.g in let d = Handed.al.d in let dd = Handed.al.drops in let dx = impl ("vmosim_c::vmosim_c++opening++KeptVm+Destruct::drop" ∷ []) tnil dnil in
     let G = triple_of 𝓛 (g.signature R Z ghosts d dd dx) (g.spec R Z ghosts d dd dx 𝓛 𝓜.mem 𝓡.returns) in
     let Ended = g.ended R Z ghosts d dd dx in
     let heap = heap-thm.passed 𝓡.env (code.calls-std_heap::GlobalAllocator::allocate 𝓡.env wired) (code.calls-std_heap::GlobalAllocator::deallocate 𝓡.env wired) (code.calls-std_heap::GlobalAllocator::grow 𝓡.env wired) (code.calls-std_heap::GlobalAllocator::shrink 𝓡.env wired) _ 𝓤 𝓛 𝓜 𝓡 in
     let known = g-thm.met 𝓤 𝓛 𝓜 𝓡 (code.calls-std_alloc::boxed::Box::into_raw 𝓡.env wired) R Z Handed.laws Handed.al.laws ghosts d dd dx
     (record { allocate = heap.allocate; deallocate = heap.deallocate; grow = heap.grow; shrink = heap.shrink })
-    (glues "kept_vm::Destruct++none::drop" 𝓡.env (code.calls-kept_vm::Destruct++none::drop 𝓡.env wired) Z Handed.al.laws _ 𝓤 𝓛 𝓜 𝓡)
-    (lets_go 𝓛 𝓜 𝓡 R dx (𝓡.env drops.Key.name) (kept-symbol.as_method 𝓡.env (code.calls-kept_vm::kept_vm++opening++KeptVm+Destruct::drop 𝓡.env wired) (method dx 0 no_args) refl)
-    (kept-thm.met 𝓤 𝓛 𝓜 𝓡 (code.calls-kept_vm::kept_vm++opening++KeptVm+Destruct::drop 𝓡.env wired))) in
+    (glues "vmosim_c::Destruct++none::drop" 𝓡.env (code.calls-vmosim_c::Destruct++none::drop 𝓡.env wired) Z Handed.al.laws _ 𝓤 𝓛 𝓜 𝓡)
+    (lets_go 𝓛 𝓜 𝓡 R dx (𝓡.env drops.Key.name) (kept-symbol.as_method 𝓡.env (code.calls-vmosim_c::vmosim_c++opening++KeptVm+Destruct::drop 𝓡.env wired) (method dx 0 no_args) refl)
+    (kept-thm.met 𝓤 𝓛 𝓜 𝓡 (code.calls-vmosim_c::vmosim_c++opening++KeptVm+Destruct::drop 𝓡.env wired))) in
     proved_at 𝓛 f.ended stayed c 𝓜 𝓡 (Goes-blank 𝓛 0 (plain (λ _. Boxed)) (f.ended).kept.0 (λ κs x e. tt), tt)
     f.Key.name code.function (code.unfolded 𝓤 𝓛.H 𝓜 𝓡 wired) (λ y are.
     let v = y.0.3.0 in let vs = y.0.4.0 in

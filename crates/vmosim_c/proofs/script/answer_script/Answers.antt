@@ -1,6 +1,6 @@
 use Rattle.std.proofs.Common.{arith, ap, length}
-use Rattle.kept_vm.proofs.ScriptLaws.{whole_text, long_text, ends_otherwise}
-use Rattle.kept_vm.proofs.script.answer_script.Goals as goal
+use Rattle.vmosim_c.proofs.ScriptLaws.{whole_text, long_text, ends_otherwise}
+use Rattle.vmosim_c.proofs.script.answer_script.Goals as goal
 
 pub returns-in-Done : goal.returns-in-Done
 returns-in-Done c = (

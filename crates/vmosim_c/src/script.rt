@@ -1,26 +1,17 @@
 //! A whole script that is answered at once.
 
-ghost use Rattle.kept_vm.specs.Kept.{AnswersScript};
+ghost use Rattle.vmosim_c.specs.Kept.{AnswersScript};
 
 use cow_forest::CowForest;
+use held_vm::ScriptError;
 use script_io::{BoundedSink, SureSource};
 use std::alloc::Global;
 use vm_base::FRAMES;
 use vm_session::{Status, answered_lines_are_a_legal_run, serve};
 
-/// Why `answer_script` did not write the whole text.
-pub enum ScriptError {
-    /// A machine has from 1 to `FRAMES` page frames.
-    FrameCount,
-    /// The host has too little memory.
-    OutOfMemory,
-    /// The text is longer than the bytes of the caller.
-    OutOfRoom,
-}
-
 /// Answers the lines of a script on a machine of its own with `frames` page frames, and writes the text of the replies to the front of
 /// `out`. Returns the length of the text in bytes.
-pub fn answer_script(
+pub(crate) fn answer_script(
     alloc: Global,
     frames: u32,
     script: &[u8],

@@ -2,10 +2,10 @@
 
 ghost use Rattle.std.specs.Prelude.{◌≡◌, MatchResult};
 ghost use Rattle.vm_model.specs.Machine.Machine.{empty_machine};
-ghost use Rattle.kept_vm.specs.Kept.{machine_kept, IsFrameCount, IsRefusal};
+ghost use Rattle.vmosim_c.specs.Kept.{machine_kept, IsFrameCount, IsRefusal};
 
 use cow_forest::CowForest;
-use held_vm::HeldVm;
+use held_vm::{HeldVm, OpenError};
 use std::alloc::Global;
 use vm_base::FRAMES;
 
@@ -13,14 +13,6 @@ use vm_base::FRAMES;
 #[derive(Drop)]
 pub struct KeptVm {
     pub held: HeldVm<CowForest>,
-}
-
-/// Why a machine was not opened.
-pub enum OpenError {
-    /// A machine has from 1 to `FRAMES` page frames.
-    FrameCount,
-    /// The host has too little memory.
-    OutOfMemory,
 }
 
 /// Returns a machine with `frames` page frames and nothing else, in a box.

@@ -16,7 +16,7 @@ use Rattle.line_server.specs.Outcome.{AnswersPart, BreaksOff, EndsAs}
 use Rattle.line_server.proofs.RunLaws.{AnsweringRun-more}
 use Rattle.vm_session.specs.Plain.{plain}
 use Rattle.held_vm.proofs.AnswerLaws.{full_by}
-use Rattle.kept_vm.specs.Kept.{IsRun, IsLongRun}
+use Rattle.vmosim_c.specs.Kept.{IsRun, IsLongRun}
 
 -- ---- the lines of a script
 

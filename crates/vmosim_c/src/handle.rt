@@ -1,7 +1,7 @@
 //! A machine in its box, as C keeps it.
 
 ghost use Rattle.std.specs.Prelude.{◌≡◌, None, Some, Option, IsSome};
-ghost use Rattle.kept_vm.specs.declared.opening.KeptVm.{KeptVm};
+ghost use Rattle.vmosim_c.specs.declared.opening.KeptVm.{KeptVm};
 
 use crate::opening::KeptVm;
 use std::alloc::Global;
@@ -19,8 +19,8 @@ pub struct Handle {
 }
 
 impl Model for Handle {
-    ghost use Rattle.kept_vm.specs.contracts.opening.KeptVm.{the_row};
-    ghost use Rattle.kept_vm.specs.Owning.{handle_owns};
+    ghost use Rattle.vmosim_c.specs.contracts.opening.KeptVm.{the_row};
+    ghost use Rattle.vmosim_c.specs.Owning.{handle_owns};
 
     ghost also_owns = { λ h. handle_owns the_row h.at h.value };
 }

@@ -21,11 +21,11 @@ use Rattle.std_alloc.specs.contracts.boxed.Box.{the_row as Box}
 use Rattle.std_heap.specs.contracts.Global.{the_row as Heap}
 use Rattle.std_heap.specs.contracts.GlobalAllocator.TheImpl.{ghosts, dict}
 use Rattle.std_heap.proofs.Global.TheLaws.{the_row_laws as HeapLaws}
-use Rattle.kept_vm.specs.Owning.{handle_owns}
-use Rattle.kept_vm.specs.declared.handle.Handle.{Handle}
-use Rattle.kept_vm.specs.contracts.opening.KeptVm.{the_row as Kept}
-use Rattle.kept_vm.specs.contracts.handle.Handle as handle
-use Rattle.kept_vm.proofs.opening.KeptVm.TheLaws.{the_row_laws as KeptLaws}
+use Rattle.vmosim_c.specs.Owning.{handle_owns}
+use Rattle.vmosim_c.specs.declared.handle.Handle.{Handle}
+use Rattle.vmosim_c.specs.contracts.opening.KeptVm.{the_row as Kept}
+use Rattle.vmosim_c.specs.contracts.handle.Handle as handle
+use Rattle.vmosim_c.proofs.opening.KeptVm.TheLaws.{the_row_laws as KeptLaws}
 
 -- the machine value of a handle
 abbrev pub word : Ptr → Val
@@ -66,7 +66,7 @@ abbrev pub handed : RattleType → RattleType
 handed R = arg (raw (layout R)) no R
 
 abbrev pub no_drop : RattleType → Dict
-no_drop R = impl ("kept_vm::Destruct++none::drop" ∷ []) (tcons (layout R) tnil) dnil
+no_drop R = impl ("vmosim_c::Destruct++none::drop" ∷ []) (tcons (layout R) tnil) dnil
 
 -- a box of a machine
 abbrev pub Boxed : RattleType

@@ -9,10 +9,10 @@ use denote.Steps.{nothing}
 use denote.Triple.Walked.{Stays, walk_of, says, ends_at}
 use Rattle.std.proofs.raw_atomic.Walks.{proved_at}
 use Rattle.std.specs.Prelude.{None}
-use Rattle.kept_vm.proofs.Crossing.{word, word_fits, handle_made}
-use Rattle.kept_vm.specs.contracts.handle.Handle.closed as f
-use Rattle.kept_vm.proofs.handle.Handle.closed.Statement.{statement}
-use Rattle.kept_vm.proofs.handle.Handle.closed.Code as code
+use Rattle.vmosim_c.proofs.Crossing.{word, word_fits, handle_made}
+use Rattle.vmosim_c.specs.contracts.handle.Handle.closed as f
+use Rattle.vmosim_c.proofs.handle.Handle.closed.Statement.{statement}
+use Rattle.vmosim_c.proofs.handle.Handle.closed.Code as code
 
 abbrev stayed : Stays (f.ended).signature.params (f.ended).kept
 stayed = tt

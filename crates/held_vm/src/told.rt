@@ -1,10 +1,9 @@
-//! What a call tells C.
+//! What a call tells a caller outside of Rattle: a length, and a number for a status.
 
 ghost use Rattle.std.specs.Prelude.{◌≡◌};
-ghost use Rattle.vmosim_c.specs.Calls.{line_told, script_told, refusal_told};
+ghost use Rattle.held_vm.specs.Told.{line_told, script_told, refusal_told};
 
-use held_vm::AnswerError;
-use kept_vm::{OpenError, ScriptError};
+use crate::held::AnswerError;
 
 /// The call did what it was asked.
 pub const DONE: u8 = 0;
@@ -36,6 +35,24 @@ pub const FRAME_COUNT: u8 = 5;
 
 const _: () = prove!(FRAME_COUNT == 5);
 
+/// Why a machine was not opened.
+pub enum OpenError {
+    /// A machine has from 1 to `FRAMES` page frames.
+    FrameCount,
+    /// The host has too little memory.
+    OutOfMemory,
+}
+
+/// Why the whole text of a script was not written.
+pub enum ScriptError {
+    /// A machine has from 1 to `FRAMES` page frames.
+    FrameCount,
+    /// The host has too little memory.
+    OutOfMemory,
+    /// The text is longer than the bytes of the caller.
+    OutOfRoom,
+}
+
 /// The length of the text at the front of the caller's bytes, and a status: what a call tells of a line or a script.
 #[repr(C)]
 #[derive(Clone, Copy)]
@@ -45,7 +62,7 @@ pub struct Answered {
 }
 
 /// Tells what became of a line. A closed machine gave no answer.
-pub(crate) fn tell_line(answer: Option<Result<usize, AnswerError>>) -> Answered
+pub fn tell_line(answer: Option<Result<usize, AnswerError>>) -> Answered
     ensures { result ≡ line_told answer }
 {
     match answer {
@@ -70,7 +87,7 @@ pub(crate) fn tell_line(answer: Option<Result<usize, AnswerError>>) -> Answered
 }
 
 /// Tells what became of a script.
-pub(crate) fn tell_script(answer: Result<usize, ScriptError>) -> Answered
+pub fn tell_script(answer: Result<usize, ScriptError>) -> Answered
     ensures { result ≡ script_told answer }
 {
     match answer {
@@ -91,7 +108,7 @@ pub(crate) fn tell_script(answer: Result<usize, ScriptError>) -> Answered
 }
 
 /// Tells why a machine was not opened.
-pub(crate) fn tell_refusal(refusal: OpenError) -> u8
+pub fn tell_refusal(refusal: OpenError) -> u8
     ensures { result ≡ refusal_told refusal }
 {
     match refusal {

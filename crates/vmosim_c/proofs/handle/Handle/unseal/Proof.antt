@@ -30,13 +30,13 @@ use Rattle.std_alloc.proofs.BoxSteps.Steps.{box_out, box_in}
 use Rattle.std_alloc.specs.contracts.boxed.Box.from_raw as g
 use Rattle.std_alloc.proofs.boxed.Box.from_raw.Met as g-thm
 use Rattle.std_heap.proofs.GlobalAllocator.TheImpl.Met as heap-thm
-use Rattle.kept_vm.proofs.Destruct++none.drop.Code.{code as none_code}
-use Rattle.kept_vm.specs.Owning.{handle_owns}
-use Rattle.kept_vm.proofs.Crossing.{word, word_fits, ptr_fits, value_of, handle_parts, Bare, Handed}
-use Rattle.kept_vm.specs.contracts.handle.Handle.{the_row as Row}
-use Rattle.kept_vm.specs.contracts.handle.Handle.unseal as f
-use Rattle.kept_vm.proofs.handle.Handle.unseal.Statement.{statement}
-use Rattle.kept_vm.proofs.handle.Handle.unseal.Code as code
+use Rattle.vmosim_c.proofs.Destruct++none.drop.Code.{code as none_code}
+use Rattle.vmosim_c.specs.Owning.{handle_owns}
+use Rattle.vmosim_c.proofs.Crossing.{word, word_fits, ptr_fits, value_of, handle_parts, Bare, Handed}
+use Rattle.vmosim_c.specs.contracts.handle.Handle.{the_row as Row}
+use Rattle.vmosim_c.specs.contracts.handle.Handle.unseal as f
+use Rattle.vmosim_c.proofs.handle.Handle.unseal.Statement.{statement}
+use Rattle.vmosim_c.proofs.handle.Handle.unseal.Code as code
 
 abbrev stayed : Stays (f.ended).signature.params (f.ended).kept
 stayed = (stay_dropped (plain (λ _. Row)) (f.ended).kept.0, (stay_dropped (plain (λ _. Bare.al.row)) (f.ended).kept.1.0, tt))
@@ -51,7 +51,7 @@ unseal_spec 𝓤 𝓛 𝓜 𝓡 wired =
     let heap = heap-thm.passed 𝓡.env (code.calls-std_heap::GlobalAllocator::allocate 𝓡.env wired) (code.calls-std_heap::GlobalAllocator::deallocate 𝓡.env wired) (code.calls-std_heap::GlobalAllocator::grow 𝓡.env wired) (code.calls-std_heap::GlobalAllocator::shrink 𝓡.env wired) _ 𝓤 𝓛 𝓜 𝓡 in
     let known = g-thm.met 𝓤 𝓛 𝓜 𝓡 (code.calls-std_alloc::boxed::Box::from_raw 𝓡.env wired) R Z Handed.laws Handed.al.laws ghosts d dd
     (record { allocate = heap.allocate; deallocate = heap.deallocate; grow = heap.grow; shrink = heap.shrink })
-    (glues "kept_vm::Destruct++none::drop" 𝓡.env (code.calls-kept_vm::Destruct++none::drop 𝓡.env wired) Z Handed.al.laws _ 𝓤 𝓛 𝓜 𝓡) in
+    (glues "vmosim_c::Destruct++none::drop" 𝓡.env (code.calls-vmosim_c::Destruct++none::drop 𝓡.env wired) Z Handed.al.laws _ 𝓤 𝓛 𝓜 𝓡) in
     proved_at 𝓛 f.ended stayed c 𝓜 𝓡
     (Goes-blank 𝓛 0 (plain (λ _. Row)) (f.ended).kept.0 (λ κs x e. tt), (Goes-blank 𝓛 0 (plain (λ _. Bare.al.row)) (f.ended).kept.1.0 (λ κs x e. tt), tt))
     f.Key.name code.function (code.unfolded 𝓤 𝓛.H 𝓜 𝓡 wired) (λ y are.

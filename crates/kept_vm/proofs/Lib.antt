@@ -1,3 +1,0 @@
-mod Crossing
-mod Letting
-mod ScriptLaws
