@@ -1,3 +1,4 @@
+mod CallLaws
 mod Crossing
 mod Letting
 mod ScriptLaws

@@ -1,6 +1,7 @@
 -- What the calls say.
-use Rattle.std.specs.Prelude.{◌≡◌, ℕ, List, Option, Some, None, Result}
+use Rattle.std.specs.Prelude.{◌≡◌, ℕ, List, take, Option, Some, None, Result}
 use Rattle.vm_model.specs.Machine.Machine.{empty_machine}
+use Rattle.vm_session.specs.Plain.{plain}
 use Rattle.held_vm.specs.declared.held.AnswerError.{AnswerError}
 use Rattle.held_vm.specs.declared.told.OpenError.{OpenError}
 use Rattle.held_vm.specs.declared.told.ScriptError.{ScriptError}
@@ -23,6 +24,14 @@ OpenSays status frames None = (refusal : OpenError) × (status ≡ refusal_told 
 abbrev pub LineSays : Answered → List ℕ → Option KeptVm → Option KeptVm → List ℕ → List ℕ → Type 0
 LineSays answered line old new before after =
     (r : Option (Result ℕ AnswerError)) × (answered ≡ line_told r) × AnswersKept r line old new before after
+
+-- a line was done: the machine that is kept is the one after it, and the text of the replies stands at the front of the bytes
+pub record IsDone (n : ℕ) (line : List ℕ) (old new : Option KeptVm) (after : List ℕ) : Type 0 where
+  pub was : KeptVm
+  pub was_kept : old ≡ Some was
+  pub now : KeptVm
+  pub is_kept : new ≡ Some now
+  pub gives : plain.Gives line (machine_kept was) (take n after) (machine_kept now)
 
 -- ---- a script
 
