@@ -1,13 +1,10 @@
 pub mod StayLaws
 pub mod LeftLaws
 pub mod ReachLaws
-pub mod ActLaws
-pub mod AnswerLaws
-pub mod LiveLaws
 pub mod SpaceLaws
-pub mod PagesLaws
-pub mod DispatchLaws
 pub mod AccessLaws
 pub mod StartLaws
 pub mod PinnedLaws
 pub mod WantLaws
+pub mod HandleLaws
+pub mod MachineLaws

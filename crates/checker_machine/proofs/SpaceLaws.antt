@@ -1,51 +1,33 @@
 -- What commands on regions do to the machine, put together from what was done to regions and mappings.
-use Rattle.std.proofs.Common.{◌≡◌, ℕ, ◌+◌, ◌*◌, ◌/◌, ◌%◌, ◌&&◌, Bool, true, false, not, cond, Option, Some, refl, sym, ap, subst, ◌∙◌, arith}
+use Rattle.std.proofs.Common.{◌≡◌, ℕ, ◌+◌, ◌*◌, ◌/◌, ◌%◌, ◌&&◌, Bool, true, false, not, cond, Option, None, Some, refl, sym, ap, subst, ◌∙◌, inr, arith}
 use Rattle.vm_base.specs.Pages.{rounded}
 use Rattle.vm_base.specs.declared.limits.TheConstants.{PAGE}
 use Rattle.vm_base.specs.declared.refusal.Refusal.{Refusal}
 use Rattle.vm_model.specs.declared.command.Command.{Command}
-use Rattle.vm_model.specs.declared.reply.Reply.{Reply}
 use Rattle.vm_model.specs.declared.reply.Reply.TheVariants.{Address, Refused}
 use Rattle.vm_model.specs.declared.space.Entry.{Entry}
 use Rattle.vm_model.specs.declared.space.Region.{Region}
 use Rattle.vm_model.specs.Space.AddressSpaces.{Spaces, mapped_count}
 use Rattle.vm_model.specs.Space.Regions.{region_of}
-use Rattle.vm_model.specs.Machine.Step.{Effect, Step}
+use Rattle.vm_base.specs.declared.refusal.Refusal.TheVariants.{HostMemory}
+use Rattle.vm_model.specs.Machine.Refusals.{refusals, first_of}
+use Rattle.vm_model.specs.Machine.Step.{StepAfter, may_lack_memory}
+use Rattle.checker_machine.specs.inside.Steps.{KeepsAll, DoesAll}
 use Rattle.vm_model.proofs.RegionLaws.{region_of-at}
 use Rattle.vmo_table.specs.Table.{Vmos, names_of, lineage_in, CountsKeepers, IsWellCounted}
 use Rattle.checker_pages.specs.Eager.{Eager, eager_content}
 use Rattle.region_tree.specs.Tree.{spaces_of}
-use Rattle.region_ops.specs.Spaces.{Does}
 use Rattle.checker_ready.specs.Notes.{ReadyRows, without_range}
 use Rattle.checker_vmos.specs.declared.checker_vmos.CheckerVmos.{CheckerVmos}
 use Rattle.checker_vmos.specs.Vmos.{content_in}
 use Rattle.checker_machine.specs.Machine.{state_in}
-use Rattle.checker_machine.specs.inside.Acting.{MayDoAll, DoesAll, AreAllKept}
-use Rattle.checker_machine.specs.inside.Leaving.{rows_after}
-use Rattle.checker_vmos.proofs.DoingLaws.{effect_of, same_of}
-
--- the reply is no refusal, and a refusal is no effect of the command
-abbrev pub IsDone : Reply → Type 0
-IsDone reply = (refusal : Refusal) → reply ≡ Refused refusal → ⊥
 
 -- ---- regions alone
 
 -- other regions with the same mappings keep the VMOs as often
-counted_regions : (e : CheckerVmos) (old new : ℕ → Option Region) (table : ℕ → ℕ → Option Entry) → CountsKeepers e.vmos (state_in e (spaces_of old table)) → CountsKeepers e.vmos (state_in e (spaces_of new table))
+pub counted_regions : (e : CheckerVmos) (old new : ℕ → Option Region) (table : ℕ → ℕ → Option Entry) → CountsKeepers e.vmos (state_in e (spaces_of old table)) → CountsKeepers e.vmos (state_in e (spaces_of new table))
 unfolding mapped_count
 counted_regions e old new table counted v = counted v
-
-module _ (e : CheckerVmos) (old new : ℕ → Option Region) (table : ℕ → ℕ → Option Entry) (command : Command) (may : MayDoAll e (spaces_of old table) command) where
-  pub regions_done : (reply : Reply) (rows : ReadyRows) → IsDone reply → Step (state_in e (spaces_of old table)) command reply (state_in e (spaces_of new table))
-      → rows ≡ rows_after (state_in e (spaces_of old table)) command reply (content_in e) rows → DoesAll e (spaces_of old table) rows command reply e (spaces_of new table) rows
-  regions_done reply rows done step left = record { effect = effect_of may.none done step; counted = counted_regions e old new table may.well.counted; left = left }
-
-  pub regions_refused : (refusal : Refusal) (rows : ReadyRows) → (Effect (state_in e (spaces_of old table)) command (Refused refusal) (state_in e (spaces_of new table)) → ⊥)
-      → Step (state_in e (spaces_of old table)) command (Refused refusal) (state_in e (spaces_of new table)) → AreAllKept e (spaces_of old table) rows e (spaces_of new table) rows
-  regions_refused refusal rows never step = record { same = same_of may.none never step; counted = counted_regions e old new table may.well.counted; notes = refl }
-
-  pub regions_kept : (rows : ReadyRows) → new ≡ old → AreAllKept e (spaces_of old table) rows e (spaces_of new table) rows
-  regions_kept rows same = record { same = λ i. state_in e (spaces_of (same i) table); counted = counted_regions e old new table may.well.counted; notes = refl }
 
 -- ---- VMOs and mappings
 
@@ -53,20 +35,9 @@ module _ (e : CheckerVmos) (old new : ℕ → Option Region) (table : ℕ → �
 abbrev pub with_both : CheckerVmos → Vmos → Eager → CheckerVmos
 with_both e vmos pages = record e { vmos = vmos; pages = pages }
 
-module _ (e : CheckerVmos) (vmos : Vmos) (pages : Eager) (old new : Spaces) (command : Command) (may : MayDoAll e old command) where
-  pub all_done : (reply : Reply) (rows later : ReadyRows) → IsDone reply → Does (content_in e) e.vmos old command reply (eager_content pages) vmos new
-      → later ≡ rows_after (state_in e old) command reply (eager_content pages) rows → DoesAll e old rows command reply (with_both e vmos pages) new later
-  all_done reply rows later done does left =
-      record { effect = effect_of may.none done (does.step (state_in e old) may.well); counted = does.counted (state_in e old) may.well; left = left }
-
-  pub all_refused : (refusal : Refusal) (rows : ReadyRows) → (Effect (state_in e old) command (Refused refusal) (state_in (with_both e vmos pages) new) → ⊥)
-      → Does (content_in e) e.vmos old command (Refused refusal) (eager_content pages) vmos new → AreAllKept e old rows (with_both e vmos pages) new rows
-  all_refused refusal rows never does =
-      record { same = same_of may.none never (does.step (state_in e old) may.well); counted = does.counted (state_in e old) may.well; notes = refl }
-
 -- where nothing was done
-pub all_kept : (e : CheckerVmos) (vmos : Vmos) (pages : Eager) (regions : ℕ → Option Region) (old new : ℕ → ℕ → Option Entry) (rows : ReadyRows) → IsWellCounted e.vmos (state_in e (spaces_of regions old))
-    → eager_content pages ≡ content_in e → vmos ≡ e.vmos → new ≡ old → AreAllKept e (spaces_of regions old) rows (with_both e vmos pages) (spaces_of regions new) rows
+all_kept : (e : CheckerVmos) (vmos : Vmos) (pages : Eager) (regions : ℕ → Option Region) (old new : ℕ → ℕ → Option Entry) (rows : ReadyRows) → IsWellCounted e.vmos (state_in e (spaces_of regions old))
+    → eager_content pages ≡ content_in e → vmos ≡ e.vmos → new ≡ old → KeepsAll e (spaces_of regions old) rows (with_both e vmos pages) (spaces_of regions new) rows
 all_kept e vmos pages regions old new rows well content tables table = record { same = same; counted = counted; notes = refl } where
   same : state_in (with_both e vmos pages) (spaces_of regions new) ≡ state_in e (spaces_of regions old)
   same = λ i. record (state_in e (spaces_of regions old)) {
@@ -79,6 +50,21 @@ all_kept e vmos pages regions old new rows well content tables table = record { 
   counted : CountsKeepers vmos (state_in (with_both e vmos pages) (spaces_of regions new))
   counted = subst (λ (t : Vmos). CountsKeepers t (state_in (with_both e vmos pages) (spaces_of regions new))) (sym tables)
       (subst (CountsKeepers e.vmos) (sym same) well.counted)
+
+-- the host lacks memory for it
+pub lacked_map : (e : CheckerVmos) (vmos : Vmos) (pages : Eager) (regions : ℕ → Option Region) (old new : ℕ → ℕ → Option Entry) (rows : ReadyRows) → IsWellCounted e.vmos (state_in e (spaces_of regions old))
+    → (command : Command) → first_of (refusals (state_in e (spaces_of regions old)) command) ≡ None → may_lack_memory (state_in e (spaces_of regions old)) command ≡ true
+    → eager_content pages ≡ content_in e → vmos ≡ e.vmos → new ≡ old → DoesAll e (spaces_of regions old) rows command (Refused HostMemory) (with_both e vmos pages) (spaces_of regions new) rows
+lacked_map e vmos pages regions old new rows well command none lacks content tables table =
+    let kept = all_kept e vmos pages regions old new rows well content tables table in
+    record {
+      step = record {
+        outcome = subst (λ (o : Option Refusal). StepAfter o (state_in e (spaces_of regions old)) command (Refused HostMemory) (state_in (with_both e vmos pages) (spaces_of regions new))) (sym none)
+            (inr (record { answer = refl; same = kept.same }, lacks));
+      };
+      counted = kept.counted;
+      left = refl;
+    }
 
 -- other permissions keep the VMOs as often
 pub counted_mapped : (e : CheckerVmos) (old new : Spaces) → CountsKeepers e.vmos (state_in e old) → ((v : ℕ) → mapped_count new v ≡ mapped_count old v) → CountsKeepers e.vmos (state_in e new)

@@ -22,7 +22,7 @@ use Rattle.checker_ready.specs.Notes.{rows_of, ready_in, NotesAreTrue}
 use Rattle.checker_ready.specs.declared.ready_map.ReadyPage.{ReadyPage}
 use Rattle.checker_vmos.specs.Vmos.{content_in}
 use Rattle.checker_machine.specs.Machine.{CheckerParts, checker_spaces_in, state_in, machine_in, checker_machine_of}
-use Rattle.checker_machine.specs.inside.Acting.{AreSound}
+use Rattle.checker_machine.specs.inside.Steps.{AreSound}
 
 module _ (m : CheckerParts) (pages : content_in m.vmos ≡ nothing) (names : (n : ℕ) → names_of m.vmos.vmos n ≡ None) (lineage : (v : ℕ) → lineage_in m.vmos.vmos v ≡ None)
     (keepers : (v : ℕ) → keepers_of m.vmos.vmos v ≡ 0) (pins : (n : ℕ) → pins_of m.vmos.pins n ≡ None) (regions : regions_of m.regions ≡ (λ n. None))

@@ -1,5 +1,6 @@
 pub mod Reaching
 pub mod Leaving
-pub mod Acting
 pub mod Groups
 pub mod Fields
+pub mod Steps
+pub mod Wanting

@@ -10,11 +10,9 @@ ghost use Rattle.vm_model.specs.Machine.Lent.{command_of, reply_for};
 ghost use Rattle.vm_model.specs.Machine.Refusals.{refusals, first_of};
 ghost use Rattle.moving_model.specs.Moving.{tells_place};
 
-use crate::asking::refusal_to;
-use crate::dispatching::perform;
-use crate::groups::know_given;
-use crate::reaching::named_in;
-use crate::wanting::wants_memory;
+use crate::dispatching::{on_memory, on_naming, on_pages, on_region, on_telling, some};
+use crate::groups::{Group, group_of, know_given};
+use crate::wanting::{memory_wants, naming_wants, pages_want, region_wants, telling_wants};
 use checker_ready::ReadyMap;
 use checker_vmos::CheckerVmos;
 use mapping_set::MappingSet;
@@ -89,17 +87,14 @@ impl CheckerMachine {
         ensures { result ≡ (not (is_some (first_of (refusals (checker_machine_of self.now).state (command_of call.now))))
             && may_want_memory (checker_machine_of self.now) (command_of call.now)) }
     {
-        let target = named_in(&self.vmos, call);
-        match refusal_to(&self.vmos, &self.regions, &self.maps, call, target) {
-            Some(_) => false,
-            None => wants_memory(
-                &self.vmos,
-                &self.regions,
-                &self.maps,
-                &self.ready,
-                call,
-                target,
-            ),
+        match group_of(call) {
+            Group::Naming => naming_wants(&self.vmos, call),
+            Group::Pages => pages_want(&self.vmos, call),
+            Group::Region => region_wants(&self.vmos, &self.regions, &self.maps, call),
+            Group::Memory => {
+                memory_wants(&self.vmos, &self.regions, &self.maps, &self.ready, call)
+            }
+            Group::Telling => telling_wants(&self.regions, &self.maps, call),
         }
     }
 
@@ -133,22 +128,34 @@ impl CheckerMachine {
         ensures frames { (checker_machine_of self.new).state.content.frames ≡ (checker_machine_of self.old).state.content.frames }
     {
         know_given(call);
-        let target = named_in(&self.vmos, call);
-        if let Some(refusal) = refusal_to(&self.vmos, &self.regions, &self.maps, call, target) {
-            return Ok(Some(Answer::Refused(refusal)));
+        match group_of(call) {
+            Group::Naming => some(on_naming(&mut self.vmos, &mut self.ready, call)),
+            Group::Pages => some(on_pages(&mut self.vmos, &mut self.ready, call, numbers)),
+            Group::Region => on_region(
+                &mut self.vmos,
+                &mut self.regions,
+                &mut self.maps,
+                &mut self.ready,
+                call,
+                told,
+            ),
+            Group::Memory => some(on_memory(
+                &mut self.vmos,
+                &self.regions,
+                &self.maps,
+                &mut self.ready,
+                call,
+                bytes,
+            )),
+            Group::Telling => some(on_telling(
+                self.alloc,
+                &self.vmos,
+                &self.regions,
+                &self.maps,
+                call,
+                bytes,
+            )),
         }
-        perform(
-            self.alloc,
-            &mut self.vmos,
-            &mut self.regions,
-            &mut self.maps,
-            &mut self.ready,
-            call,
-            target,
-            told,
-            bytes,
-            numbers,
-        )
     }
 
     /// Returns the frame of page `at` of a pin, counted from the pin's first. `None` if there is no such pin, or if it

@@ -1,28 +1,27 @@
-//! Which handler does a command that nothing refuses.
+//! Which handler does a command. `CheckerMachine::answer` finds the group of a call, and one function for each group calls the
+//! handler, so that each function is a short `match`.
 
-ghost use Rattle.std.specs.Prelude.{◌≡◌, ◌<◌, ◌≤◌, true, length, ⊤, MatchResult};
-ghost use Rattle.std.specs.Option.{MatchOption};
+ghost use Rattle.std.specs.Prelude.{◌≡◌, ◌<◌, ◌≤◌, length, Some, MatchResult};
 ghost use Rattle.vm_base.specs.declared.limits.TheConstants.{DATA_BYTES, KOIDS, PIN_PAGES};
-ghost use Rattle.vm_model.specs.declared.answer.Answer.{Answer};
-ghost use Rattle.vm_model.specs.Machine.Given.{GivesName};
-ghost use Rattle.vm_model.specs.Machine.Lent.{command_of, reply_for};
-ghost use Rattle.moving_model.specs.Moving.{tells_place};
+ghost use Rattle.vm_model.specs.Machine.Lent.{command_of};
 ghost use Rattle.mapping_set.specs.Tables.{table_of, places_of};
 ghost use Rattle.region_tree.specs.Tree.{regions_of, spaces_of, AreNoted};
-ghost use Rattle.checker_ready.specs.Notes.{rows_of};
-ghost use Rattle.checker_vmos.specs.Vmos.{content_in};
-ghost use Rattle.checker_machine.specs.inside.Acting.{AreSound, MayDoAll, DoesAll, Acts, AreAllKept, HasNoSuch, IsTold};
+ghost use Rattle.vmo_table.specs.Table.{IsWellCounted};
+ghost use Rattle.checker_ready.specs.Notes.{rows_of, ReadyRows};
+ghost use Rattle.checker_vmos.specs.Vmos.{content_in, HasCountedKeepers};
+ghost use Rattle.checker_machine.specs.Machine.{state_in};
+ghost use Rattle.checker_machine.specs.inside.Steps.{AreSound, outcome_reply, IsOwn, IsOwnPlace, IsAccess, IsPlacing, DoesVmos, DoesAll};
 ghost use Rattle.checker_machine.specs.inside.Groups.{checker_group_of};
-ghost use Rattle.checker_machine.specs.inside.Reaching.{named_in};
 ghost use Rattle.checker_machine.specs.declared.groups.Group.{Group};
 
-use crate::accessing::on_memory;
-use crate::groups::{Group, group_of};
-use crate::mappings::{vmar_map, vmar_protect, vmar_unmap};
-use crate::naming::on_naming;
-use crate::paging::on_pages;
+use crate::accessing::{Place, mem_read, mem_write};
+use crate::asking::{vmo_info, vmo_read, vmo_size};
+use crate::changing::{vmo_commit, vmo_decommit, vmo_fill, vmo_set_size, vmo_write, vmo_zero};
+use crate::mappings::{list_maps, vmar_map, vmar_protect, vmar_unmap};
+use crate::naming::{ChildRequest, vmo_close, vmo_create, vmo_create_child};
+use crate::pinning::{NamedRange, vmo_pin, vmo_unpin};
 use crate::spaces::{root_create, vmar_allocate, vmar_destroy};
-use crate::telling::on_telling;
+use attribution::stat;
 use checker_ready::ReadyMap;
 use checker_vmos::CheckerVmos;
 use mapping_set::MappingSet;
@@ -30,62 +29,101 @@ use region_ops::{AllocateRequest, MapRequest, RegionRange};
 use region_tree::Regions;
 use std::alloc::Global;
 use vm_base::HostMemory;
-use vm_model::{Answer, Call, Target};
+use vm_model::{Answer, Call};
 
-/// Does a command that nothing refuses. `target` is the answer of `named_in`. `None`, with nothing changed, if the command asks
-/// for a place and can't be at the address `told`. `HostMemory`, with nothing changed, if the host has too little memory.
-pub(crate) fn perform<'a>(
-    alloc: Global,
+/// Hands a command that gives or takes a name or a pin to its handler.
+pub(crate) fn on_naming(
     vmos: &mut CheckerVmos,
-    regions: &mut Regions,
-    maps: &mut MappingSet,
     ready: &mut ReadyMap,
     call: &Call<'_>,
-    target: Option<Target>,
-    told: u64,
-    bytes: &'a mut [u8],
-    numbers: &'a mut [u64],
-) -> Result<Option<Answer<'a>>, HostMemory>
-    requires sound { AreSound vmos.old (spaces_of (regions_of regions.old) (table_of maps.old)) (rows_of ready.old) }
-    requires may { MayDoAll vmos.old (spaces_of (regions_of regions.old) (table_of maps.old)) (command_of call.now) }
-    requires named { target ≡ named_in vmos.old (command_of call.now) }
-    requires noted { AreNoted (regions_of regions.old) (places_of maps.old) }
+) -> Result<Answer<'static>, HostMemory>
+    requires group { checker_group_of call.now ≡ Group.Naming }
+    requires counted { HasCountedKeepers vmos.old }
     requires next { (content_in vmos.old).next < KOIDS }
-    requires given { GivesName (command_of call.now) }
-    requires bytes { DATA_BYTES ≤ length bytes.old }
+    ensures step { DoesVmos vmos.old (rows_of ready.old) (command_of call.now) (outcome_reply result) vmos.new (rows_of ready.new) }
+    ensures own { IsOwn result }
+{
+    match call {
+        Call::VmoCreate {
+            name,
+            size,
+            resizable,
+        } => vmo_create(vmos, *name, *size, *resizable),
+        Call::VmoChild {
+            name,
+            parent,
+            kind,
+            offset,
+            size,
+            resizable,
+            no_write,
+        } => {
+            let request = ChildRequest {
+                parent: *parent,
+                kind: *kind,
+                offset: *offset,
+                size: *size,
+                resizable: *resizable,
+                no_write: *no_write,
+            };
+            vmo_create_child(vmos, ready, *name, request)
+        }
+        Call::VmoClose { name } => vmo_close(vmos, *name),
+        Call::VmoUnpin { pin } => vmo_unpin(vmos, *pin),
+        _ => unreachable!(),
+    }
+}
+
+/// Hands a command that changes pages to its handler. `vmo_pin` writes the numbers of the pinned frames to `numbers`.
+pub(crate) fn on_pages<'a>(
+    vmos: &mut CheckerVmos,
+    ready: &mut ReadyMap,
+    call: &Call<'_>,
+    numbers: &'a mut [u64],
+) -> Result<Answer<'a>, HostMemory>
+    requires group { checker_group_of call.now ≡ Group.Pages }
+    requires counted { HasCountedKeepers vmos.old }
     requires numbers { PIN_PAGES ≤ length numbers.old }
-    ensures acts { MatchResult result (λ given. MatchOption given
-        (HasNoSuch vmos.old (spaces_of (regions_of regions.old) (table_of maps.old)) (rows_of ready.old) (command_of call.now) told
-        vmos.new (spaces_of (regions_of regions.new) (table_of maps.new)) (rows_of ready.new))
-        (λ answer. Acts vmos.old (spaces_of (regions_of regions.old) (table_of maps.old)) (rows_of ready.old) (command_of call.now)
-        (reply_for answer) vmos.new (spaces_of (regions_of regions.new) (table_of maps.new)) (rows_of ready.new)))
-        (λ lack. AreAllKept vmos.old (spaces_of (regions_of regions.old) (table_of maps.old)) (rows_of ready.old)
-        vmos.new (spaces_of (regions_of regions.new) (table_of maps.new)) (rows_of ready.new)) }
-    ensures place { MatchResult result (λ given. MatchOption given ⊤
-        (λ answer. tells_place (command_of call.now) ≡ true → IsTold told (reply_for answer))) (λ lack. ⊤) }
-    ensures noted { AreNoted (regions_of regions.new) (places_of maps.new) }
+    ensures step { DoesVmos vmos.old (rows_of ready.old) (command_of call.now) (outcome_reply result)
+        vmos.new (rows_of ready.new) }
+    ensures own { IsOwn result }
 {
-    match group_of(call) {
-        Group::Naming => some(on_naming(vmos, ready, call)),
-        Group::Pages => some(on_pages(vmos, ready, call, target, numbers)),
-        Group::Region => on_region(vmos, regions, maps, ready, call, told),
-        Group::Memory => some(on_memory(vmos, regions, maps, ready, call, bytes)),
-        Group::Telling => some(on_telling(alloc, vmos, regions, maps, call, target, bytes)),
+    match call {
+        Call::VmoWrite {
+            name,
+            offset,
+            bytes,
+        } => vmo_write(vmos, ready, *name, *offset, bytes.as_slice()),
+        Call::VmoFill {
+            name,
+            offset,
+            len,
+            byte,
+        } => vmo_fill(vmos, ready, *name, *offset, *len, *byte),
+        Call::VmoCommit { name, offset, len } => vmo_commit(vmos, ready, *name, *offset, *len),
+        Call::VmoZero { name, offset, len } => vmo_zero(vmos, ready, *name, *offset, *len),
+        Call::VmoDecommit { name, offset, len } => vmo_decommit(vmos, ready, *name, *offset, *len),
+        Call::VmoSetSize { name, size } => vmo_set_size(vmos, ready, *name, *size),
+        Call::VmoPin {
+            pin,
+            name,
+            offset,
+            len,
+        } => {
+            let range = NamedRange {
+                name: *name,
+                offset: *offset,
+                len: *len,
+            };
+            vmo_pin(vmos, ready, *pin, range, numbers)
+        }
+        _ => unreachable!(),
     }
 }
 
-// An answer that depends on no place.
-fn some(outcome: Result<Answer<'_>, HostMemory>) -> Result<Option<Answer<'_>>, HostMemory>
-    ensures { MatchResult outcome.entry (λ answer. result ≡ Ok (Some answer)) (λ lack. result ≡ Err lack) }
-{
-    match outcome {
-        Ok(answer) => Ok(Some(answer)),
-        Err(lack) => Err(lack),
-    }
-}
-
-// Does a command on regions or the mappings in them.
-fn on_region(
+/// Hands a command that changes regions, or the mappings in one, to its handler. Where the command leaves the place open, it is
+/// the address `told`.
+pub(crate) fn on_region(
     vmos: &mut CheckerVmos,
     regions: &mut Regions,
     maps: &mut MappingSet,
@@ -94,21 +132,15 @@ fn on_region(
     told: u64,
 ) -> Result<Option<Answer<'static>>, HostMemory>
     requires group { checker_group_of call.now ≡ Group.Region }
-    requires may { MayDoAll vmos.old (spaces_of (regions_of regions.old) (table_of maps.old)) (command_of call.now) }
+    requires well { IsWellCounted vmos.old.vmos (state_in vmos.old (spaces_of (regions_of regions.old) (table_of maps.old))) }
     requires noted { AreNoted (regions_of regions.old) (places_of maps.old) }
-    ensures acts { MatchResult result (λ given. MatchOption given
-        (HasNoSuch vmos.old (spaces_of (regions_of regions.old) (table_of maps.old)) (rows_of ready.old) (command_of call.now) told
-        vmos.new (spaces_of (regions_of regions.new) (table_of maps.new)) (rows_of ready.new))
-        (λ answer. DoesAll vmos.old (spaces_of (regions_of regions.old) (table_of maps.old)) (rows_of ready.old)
-        (command_of call.now) (reply_for answer)
-        vmos.new (spaces_of (regions_of regions.new) (table_of maps.new)) (rows_of ready.new)))
-        (λ lack. AreAllKept vmos.old (spaces_of (regions_of regions.old) (table_of maps.old)) (rows_of ready.old)
-        vmos.new (spaces_of (regions_of regions.new) (table_of maps.new)) (rows_of ready.new)) }
-    ensures place { MatchResult result (λ given. MatchOption given ⊤ (λ answer. IsTold told (reply_for answer))) (λ lack. ⊤) }
+    ensures step { IsPlacing vmos.old (spaces_of (regions_of regions.old) (table_of maps.old)) (rows_of ready.old)
+        (command_of call.now) told result vmos.new (spaces_of (regions_of regions.new) (table_of maps.new)) (rows_of ready.new) }
+    ensures own { IsOwnPlace (command_of call.now) told result }
     ensures noted { AreNoted (regions_of regions.new) (places_of maps.new) }
 {
     match call {
-        Call::RootCreate { region } => at_no_place(root_create(vmos, regions, maps, *region)),
+        Call::RootCreate { region } => some(root_create(regions, maps, *region)),
         Call::VmarAllocate {
             region,
             parent,
@@ -124,8 +156,7 @@ fn on_region(
                 flags: *flags,
                 caps: *caps,
             };
-            let outcome = vmar_allocate(vmos, regions, maps, *region, request, told);
-            at_place(outcome, told)
+            vmar_allocate(regions, maps, *region, request, told)
         }
         Call::VmarMap {
             region,
@@ -145,7 +176,7 @@ fn on_region(
                 perm: *perm,
                 flags: *flags,
             };
-            at_place(vmar_map(vmos, regions, maps, ready, request, told), told)
+            vmar_map(vmos, regions, maps, ready, request, told)
         }
         Call::VmarUnmap { region, addr, len } => {
             let range = RegionRange {
@@ -153,7 +184,7 @@ fn on_region(
                 addr: *addr,
                 len: *len,
             };
-            at_no_place(vmar_unmap(vmos, regions, maps, ready, range))
+            some(vmar_unmap(vmos, regions, maps, ready, range))
         }
         Call::VmarProtect {
             region,
@@ -166,38 +197,90 @@ fn on_region(
                 addr: *addr,
                 len: *len,
             };
-            at_no_place(vmar_protect(vmos, regions, maps, ready, range, *perm))
+            some(vmar_protect(regions, maps, ready, range, *perm))
         }
-        Call::VmarDestroy { region } => {
-            vmar_destroy(vmos, regions, maps, ready, *region);
-            Ok(Some(Answer::Done))
+        Call::VmarDestroy { region } => some(vmar_destroy(vmos, regions, maps, ready, *region)),
+        _ => unreachable!(),
+    }
+}
+
+/// Hands an access through mappings to its handler. A read writes its bytes to `bytes`.
+pub(crate) fn on_memory<'a>(
+    vmos: &mut CheckerVmos,
+    regions: &Regions,
+    maps: &MappingSet,
+    ready: &mut ReadyMap,
+    call: &Call<'_>,
+    bytes: &'a mut [u8],
+) -> Result<Answer<'a>, HostMemory>
+    requires group { checker_group_of call.now ≡ Group.Memory }
+    requires sound { AreSound vmos.old (spaces_of (regions_of regions.now) (table_of maps.now)) (rows_of ready.old) }
+    requires bytes { DATA_BYTES ≤ length bytes.old }
+    ensures step { IsAccess vmos.old (spaces_of (regions_of regions.now) (table_of maps.now)) (rows_of ready.old)
+        (command_of call.now) result
+        vmos.new (spaces_of (regions_of regions.now) (table_of maps.now)) (rows_of ready.new) }
+    ensures own { IsOwn result }
+{
+    match call {
+        Call::MemRead { region, addr, len } => {
+            let range = RegionRange {
+                region: *region,
+                addr: *addr,
+                len: *len,
+            };
+            mem_read(vmos, regions, maps, ready, range, bytes)
+        }
+        Call::MemWrite {
+            region,
+            addr,
+            bytes: written,
+        } => {
+            let place = Place {
+                region: *region,
+                addr: *addr,
+            };
+            mem_write(vmos, regions, maps, ready, place, written.as_slice())
         }
         _ => unreachable!(),
     }
 }
 
-// The answer to a command whose reply tells no place.
-fn at_no_place(outcome: Result<(), HostMemory>) -> Result<Option<Answer<'static>>, HostMemory>
-    ensures { MatchResult outcome (λ _. result ≡ Ok (Some Answer.Done)) (λ lack. result ≡ Err lack) }
+/// Hands a command that changes nothing to its handler. A read writes its bytes to `bytes`.
+pub(crate) fn on_telling<'a>(
+    alloc: Global,
+    vmos: &CheckerVmos,
+    regions: &Regions,
+    maps: &MappingSet,
+    call: &Call<'_>,
+    bytes: &'a mut [u8],
+) -> Result<Answer<'a>, HostMemory>
+    requires group { checker_group_of call.now ≡ Group.Telling }
+    requires well { IsWellCounted vmos.now.vmos (state_in vmos.now (spaces_of (regions_of regions.now) (table_of maps.now))) }
+    requires bytes { DATA_BYTES ≤ length bytes.old }
+    ensures step { (rows : ReadyRows) → DoesAll vmos.now (spaces_of (regions_of regions.now) (table_of maps.now)) rows
+        (command_of call.now) (outcome_reply result)
+        vmos.now (spaces_of (regions_of regions.now) (table_of maps.now)) rows }
+    ensures own { IsOwn result }
 {
-    match outcome {
-        Ok(()) => Ok(Some(Answer::Done)),
-        Err(lack) => Err(lack),
+    match call {
+        Call::VmoRead { name, offset, len } => vmo_read(vmos, *name, *offset, *len, bytes),
+        Call::VmoSize { name } => Ok(vmo_size(vmos, *name)),
+        Call::VmoInfo { name } => Ok(vmo_info(vmos, *name)),
+        Call::Maps { region } => list_maps(alloc, regions, maps, *region),
+        Call::Stat => Ok(Answer::Stat(stat(&vmos.pages))),
+        _ => unreachable!(),
     }
 }
 
-// The answer to a command whose reply tells the place at which it was done, if it could be there.
-fn at_place(
-    outcome: Result<Option<()>, HostMemory>,
-    told: u64,
-) -> Result<Option<Answer<'static>>, HostMemory>
-    ensures { MatchResult outcome
-        (λ place. MatchOption place (result ≡ Ok None) (λ _. result ≡ Ok (Some (Answer.Address told))))
-        (λ lack. result ≡ Err lack) }
+/// Returns an outcome as one of a command that may ask for a place.
+#[inline(always)]
+pub(crate) fn some(
+    outcome: Result<Answer<'_>, HostMemory>,
+) -> Result<Option<Answer<'_>>, HostMemory>
+    ensures { MatchResult outcome.entry (λ answer. result ≡ Ok (Some answer)) (λ lack. result ≡ Err lack) }
 {
     match outcome {
-        Ok(Some(())) => Ok(Some(Answer::Address(told))),
-        Ok(None) => Ok(None),
+        Ok(answer) => Ok(Some(answer)),
         Err(lack) => Err(lack),
     }
 }

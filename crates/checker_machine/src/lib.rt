@@ -1,4 +1,4 @@
-//! The machine that a checker of transcripts keeps (`CheckerMachine`): it does each command as the machine does, and says first
+//! The machine that a checker of transcripts keeps (`CheckerMachine`): it does each command as the machine does, and says
 //! whether a reply of want of memory may come. Where a reply tells a place, the place is the one that the transcript tells.
 //!
 //! It stands on the pages, VMOs and notes of ready pages of the crates `checker_pages`, `checker_vmos`, `checker_ready` and
@@ -12,16 +12,16 @@ unfolding(vm_model::specs::Space::Regions::region_of, vm_base::specs::Entries::p
 
 mod accessing;
 mod asking;
-mod asking_spaces;
+mod changing;
 mod checker_machine;
 mod dispatching;
 mod groups;
 mod mappings;
 mod naming;
-mod paging;
+mod pinning;
 mod reaching;
+mod settling;
 mod spaces;
-mod telling;
 mod wanting;
 
 pub use checker_machine::CheckerMachine;

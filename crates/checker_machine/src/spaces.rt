@@ -1,82 +1,88 @@
 //! The commands that change regions: `root_create`, `vmar_allocate`, `vmar_destroy`. What was ready in a region that is destroyed
 //! is ready no more.
 
-ghost use Rattle.std.specs.Prelude.{◌≡◌, ◌+◌, ◌≤◌, true, Some, MatchResult};
-ghost use Rattle.std.specs.Option.{MatchOption};
-ghost use Rattle.vm_base.specs.declared.limits.TheConstants.{ROOT_END};
 ghost use Rattle.vm_model.specs.declared.command.Command.{Command};
-ghost use Rattle.vm_model.specs.declared.reply.Reply.{Reply};
 ghost use Rattle.mapping_set.specs.Tables.{table_of, places_of};
 ghost use Rattle.region_tree.specs.Tree.{regions_of, spaces_of, AreNoted};
+ghost use Rattle.vmo_table.specs.Table.{IsWellCounted};
 ghost use Rattle.checker_ready.specs.Notes.{rows_of, ReadyRows};
-ghost use Rattle.checker_machine.specs.inside.Acting.{MayDoAll, DoesAll, AreAllKept, HasNoSuch, IsLiveAt};
+ghost use Rattle.checker_vmos.specs.declared.checker_vmos.CheckerVmos.{CheckerVmos as Vmos};
+ghost use Rattle.checker_machine.specs.Machine.{state_in};
+ghost use Rattle.checker_machine.specs.inside.Steps.{outcome_reply, IsOwn, IsOwnPlace, IsPlacing, DoesAll};
 
+use crate::settling::refused;
 use checker_ready::ReadyMap;
 use checker_vmos::CheckerVmos;
 use mapping_set::MappingSet;
-use region_ops::{AllocateRequest, Wanted, allocate_at, is_place};
-use region_tree::{Region, Regions};
-use vm_base::{HostMemory, RegionName, in_page, page_of};
+use region_ops::{
+    AllocateRequest, SearchedRegion, Wanted, allocate_at, ask_for_region, ask_to_allocate, is_place,
+};
+use region_tree::Regions;
+use vm_base::{HostMemory, Refusal, RegionName, in_page, page_of};
+use vm_model::Answer;
 
-/// Returns the live region of a name.
-pub(crate) fn live_region(regions: &Regions, name: RegionName) -> Region
-    requires { IsLiveAt (regions_of regions.now) name.0 }
-    ensures given { regions_of regions.now name.0 ≡ Some result }
-    ensures live { result.live ≡ true }
-    ensures end { result.first + result.count ≤ ROOT_END }
-{
-    let Some(region) = regions.get(name) else {
-        unreachable!()
-    };
-    region
-}
-
-/// Makes an address space with its root region.
+/// Makes an address space with its root region. `NameInUse` if the name was ever given. `HostMemory`, with nothing changed, if the
+/// host has too little memory.
 pub(crate) fn root_create(
-    vmos: &CheckerVmos,
     regions: &mut Regions,
     maps: &MappingSet,
     region: RegionName,
-) -> Result<(), HostMemory>
-    requires may { MayDoAll vmos.now (spaces_of (regions_of regions.old) (table_of maps.now)) (Command.RootCreate region) }
-    requires noted { AreNoted (regions_of regions.old) (places_of maps.now) }
-    ensures does { (rows : ReadyRows) → MatchResult result
-        (λ _. DoesAll vmos.now (spaces_of (regions_of regions.old) (table_of maps.now)) rows (Command.RootCreate region) Reply.Done
-        vmos.now (spaces_of (regions_of regions.new) (table_of maps.now)) rows)
-        (λ lack. AreAllKept vmos.now (spaces_of (regions_of regions.old) (table_of maps.now)) rows
-        vmos.now (spaces_of (regions_of regions.new) (table_of maps.now)) rows) }
+) -> Result<Answer<'static>, HostMemory>
+    requires { AreNoted (regions_of regions.old) (places_of maps.now) }
+    ensures step { (e : Vmos) (rows : ReadyRows) → IsWellCounted e.vmos (state_in e (spaces_of (regions_of regions.old) (table_of maps.now)))
+        → DoesAll e (spaces_of (regions_of regions.old) (table_of maps.now)) rows (Command.RootCreate region) (outcome_reply result)
+        e (spaces_of (regions_of regions.new) (table_of maps.now)) rows }
+    ensures own { IsOwn result }
     ensures noted { AreNoted (regions_of regions.new) (places_of maps.now) }
 {
     match region_ops::create_root(regions, maps, region) {
-        Ok(()) => Ok(()),
-        Err(_) => Err(HostMemory),
+        Ok(()) => Ok(Answer::Done),
+        Err(refusal) => refused(refusal),
     }
 }
 
-/// Allocates a region in another, at the address `told`. `None` if it can't be there.
+/// Allocates a region in another, at the address `told`. `None`, with nothing changed, if nothing refuses this, but the region
+/// can't be there. Refusals, in their order:
+///
+/// - `BadHandle` if the parent's name was never given;
+/// - `NameInUse` if the new name was;
+/// - `BadState` if the parent is dead;
+/// - `AccessDenied`, `InvalidArgs`, `AlreadyExists` and `NoResources` as for `region_ops::allocate`.
+///
+/// `HostMemory`, with nothing changed, if the host has too little memory.
 pub(crate) fn vmar_allocate(
-    vmos: &CheckerVmos,
     regions: &mut Regions,
     maps: &mut MappingSet,
     region: RegionName,
     request: AllocateRequest,
     told: u64,
-) -> Result<Option<()>, HostMemory>
-    requires may { MayDoAll vmos.now (spaces_of (regions_of regions.old) (table_of maps.old))
-        (Command.VmarAllocate region request.parent request.offset request.len request.flags request.caps) }
-    requires noted { AreNoted (regions_of regions.old) (places_of maps.old) }
-    ensures does { (rows : ReadyRows) → MatchResult result (λ place. MatchOption place
-        (HasNoSuch vmos.now (spaces_of (regions_of regions.old) (table_of maps.old)) rows
-        (Command.VmarAllocate region request.parent request.offset request.len request.flags request.caps) told
-        vmos.now (spaces_of (regions_of regions.new) (table_of maps.new)) rows)
-        (λ _. DoesAll vmos.now (spaces_of (regions_of regions.old) (table_of maps.old)) rows
-        (Command.VmarAllocate region request.parent request.offset request.len request.flags request.caps) (Reply.Address told)
-        vmos.now (spaces_of (regions_of regions.new) (table_of maps.new)) rows))
-        (λ lack. AreAllKept vmos.now (spaces_of (regions_of regions.old) (table_of maps.old)) rows
-        vmos.now (spaces_of (regions_of regions.new) (table_of maps.new)) rows) }
+) -> Result<Option<Answer<'static>>, HostMemory>
+    requires { AreNoted (regions_of regions.old) (places_of maps.old) }
+    ensures step { (e : Vmos) (rows : ReadyRows) → IsWellCounted e.vmos (state_in e (spaces_of (regions_of regions.old) (table_of maps.old)))
+        → IsPlacing e (spaces_of (regions_of regions.old) (table_of maps.old)) rows
+        (Command.VmarAllocate region request.parent request.offset request.len request.flags request.caps) told result
+        e (spaces_of (regions_of regions.new) (table_of maps.new)) rows }
+    ensures own { IsOwnPlace (Command.VmarAllocate region request.parent request.offset request.len request.flags request.caps) told
+        result }
     ensures noted { AreNoted (regions_of regions.new) (places_of maps.new) }
 {
-    let above = live_region(regions, request.parent);
+    let Some(above) = regions.get(request.parent) else {
+        return Ok(Some(Answer::Refused(Refusal::BadHandle)));
+    };
+    if regions.get(region).is_some() {
+        return Ok(Some(Answer::Refused(Refusal::NameInUse)));
+    }
+    if !above.live {
+        return Ok(Some(Answer::Refused(Refusal::BadState)));
+    }
+    let searched = SearchedRegion {
+        region: above,
+        noted: true,
+    };
+    match ask_to_allocate(regions, maps, searched, request) {
+        Ok(_) => {}
+        Err(refusal) => return Ok(Some(Answer::Refused(refusal))),
+    }
     if in_page(told) != 0 {
         return Ok(None);
     }
@@ -86,27 +92,32 @@ pub(crate) fn vmar_allocate(
         return Ok(None);
     }
     match allocate_at(regions, maps, region, above, request, first) {
-        Ok(()) => Ok(Some(())),
+        Ok(()) => Ok(Some(Answer::Address(told))),
         Err(lack) => Err(lack),
     }
 }
 
-/// Destroys a region and all below it, with their mappings. This takes no memory.
+/// Destroys a region and all below it, with their mappings. `BadHandle` if it was never given, `BadState` if it is destroyed
+/// already. This takes no memory.
 pub(crate) fn vmar_destroy(
     vmos: &mut CheckerVmos,
     regions: &mut Regions,
     maps: &mut MappingSet,
     ready: &mut ReadyMap,
     region: RegionName,
-)
-    requires may { MayDoAll vmos.old (spaces_of (regions_of regions.old) (table_of maps.old)) (Command.VmarDestroy region) }
+) -> Result<Answer<'static>, HostMemory>
+    requires well { IsWellCounted vmos.old.vmos (state_in vmos.old (spaces_of (regions_of regions.old) (table_of maps.old))) }
     requires noted { AreNoted (regions_of regions.old) (places_of maps.old) }
-    ensures does { DoesAll vmos.old (spaces_of (regions_of regions.old) (table_of maps.old)) (rows_of ready.old)
-        (Command.VmarDestroy region) Reply.Done
+    ensures step { DoesAll vmos.old (spaces_of (regions_of regions.old) (table_of maps.old)) (rows_of ready.old)
+        (Command.VmarDestroy region) (outcome_reply result)
         vmos.new (spaces_of (regions_of regions.new) (table_of maps.new)) (rows_of ready.new) }
+    ensures own { IsOwn result }
     ensures noted { AreNoted (regions_of regions.new) (places_of maps.new) }
 {
-    let dying = live_region(regions, region);
+    let dying = match ask_for_region(regions, region) {
+        Ok(dying) => dying,
+        Err(refusal) => return refused(refusal),
+    };
     region_ops::destroy_in(
         &mut vmos.pages,
         &mut vmos.vmos,
@@ -116,4 +127,5 @@ pub(crate) fn vmar_destroy(
         dying,
     );
     ready.drop_range(dying.root, dying.first, dying.first + dying.count);
+    Ok(Answer::Done)
 }

@@ -11,8 +11,7 @@ use pin_table::PinTable;
 use std::alloc::Global;
 use vmo_table::VmoTable;
 
-/// The names of VMOs, what is kept of each VMO, the pins, and the pages. Each part may be used by itself; the methods do
-/// the commands that speak of these parts alone.
+/// The names of VMOs, what is kept of each VMO, the pins, and the pages. Each part may be used by itself.
 #[derive(Drop)]
 pub struct CheckerVmos {
     pub vmos: VmoTable,
@@ -23,7 +22,7 @@ pub struct CheckerVmos {
 }
 
 impl CheckerVmos {
-    /// Makes an `CheckerVmos` with no names, no VMOs, no pins and no page frames, which `CheckerPages::fill` gives.
+    /// Makes a `CheckerVmos` with no names, no VMOs, no pins and no page frames, which `CheckerPages::fill` gives.
     pub fn new(alloc: Global) -> CheckerVmos
         ensures pages { eager_content result.pages ≡ nothing }
         ensures names { (name : ℕ) → names_of result.vmos name ≡ None }

@@ -4,7 +4,7 @@ use Rattle.region_tree.specs.Tree.{regions_of, AreNoted}
 use Rattle.checker_ready.specs.Notes.{rows_of}
 use Rattle.checker_machine.specs.declared.checker_machine.CheckerMachine.TheInside.{Inside}
 use Rattle.checker_machine.specs.Machine.{CheckerParts, checker_spaces_in}
-use Rattle.checker_machine.specs.inside.Acting.{AreSound}
+use Rattle.checker_machine.specs.inside.Steps.{AreSound}
 
 abbrev pub checker_parts_of : Inside → CheckerParts
 checker_parts_of a = record { vmos = a.vmos; regions = a.regions; maps = a.maps; ready = a.ready }

@@ -4,6 +4,7 @@ use Rattle.vm_base.specs.Pages.{rounded}
 use Rattle.vm_base.specs.declared.limits.TheConstants.{PAGE}
 use Rattle.vm_model.specs.declared.command.Command.{Command}
 use Rattle.vm_model.specs.declared.command.Command.TheVariants.{VmoChild, VmoSetSize, VmoWrite, VmoFill, VmoCommit, VmoDecommit, VmoZero, VmoPin, VmarMap, VmarUnmap, VmarProtect, VmarDestroy}
+use Rattle.vm_model.specs.declared.command.ChildKind.{ChildKind}
 use Rattle.vm_model.specs.declared.command.ChildKind.TheVariants.{Snapshot}
 use Rattle.vm_model.specs.declared.reply.Reply.{Reply}
 use Rattle.vm_model.specs.declared.reply.Reply.TheVariants.{Address}
@@ -23,6 +24,11 @@ settled_rows c r rows = kept_rows (is_current c r.koid.0 r.first r.end) rows
 -- the notes, with those of pages in the reach for reading alone, unless a pin covers the page
 abbrev pub shared_rows : (ℕ → Option Pin) → Reach → ReadyRows → ReadyRows
 shared_rows pins r rows = limited_rows (is_pinned pins r.koid.0) r.koid.0 r.first r.end rows
+
+-- the same, if the child is a snapshot
+abbrev pub rows_shared_by : ChildKind → (ℕ → Option Pin) → Reach → ReadyRows → ReadyRows
+rows_shared_by Snapshot pins r rows = shared_rows pins r rows
+rows_shared_by kind pins r rows = rows
 
 -- the notes that a command leaves after which the content is c
 abbrev pub rows_after : State → Command → Reply → Content → ReadyRows → ReadyRows

@@ -1,3 +1,0 @@
-pub mod FoundLaws
-pub mod DoingLaws
-pub mod TellLaws
