@@ -45,6 +45,14 @@ pub(crate) fn frames_to_write(
     )
 }
 
+/// A place in a page of an address space: `at` bytes into the page.
+#[derive(Clone, Copy)]
+pub(crate) struct PagePlace {
+    pub root: RegionName,
+    pub page: PageNo,
+    pub at: u64,
+}
+
 /// Returns the entry of a page that has one.
 pub(crate) fn entry_of(maps: &MappingSet, root: RegionName, page: PageNo) -> Entry
     requires { IsSome (table_of maps.now root.0 page) }

@@ -14,7 +14,7 @@ ghost use Rattle.checker_access.specs.Accesses.{IsAllowed, HasAccessEffect};
 ghost use Rattle.checker_access.specs.inside.Pages.{IsMappedInside, ShowsPage, ReadsBytesOfPage, Touches, read_fault};
 
 use crate::asking::lacks;
-use crate::needing::entry_of;
+use crate::needing::{PagePlace, entry_of};
 use checker_pages::CheckerPages;
 use checker_ready::{ReadyMap, ReadyPage};
 use mapping_set::MappingSet;
@@ -49,15 +49,12 @@ pub fn read(
         return Err(HostMemory);
     };
     if in_page(addr) + out.len() as u64 <= PAGE {
-        Ok(read_page(
-            pages,
-            maps,
-            ready,
-            region,
-            page_of(addr),
-            in_page(addr),
-            out,
-        ))
+        let place = PagePlace {
+            root: region,
+            page: page_of(addr),
+            at: in_page(addr),
+        };
+        Ok(read_page(pages, maps, ready, place, out))
     } else {
         Ok(read_in_two(pages, maps, ready, region, addr, out))
     }
@@ -85,32 +82,40 @@ fn read_in_two(
     let page = page_of(addr);
     let at = in_page(addr);
     let (here, behind) = out.split_at_mut((PAGE - at) as usize);
-    let faults = read_page(pages, maps, ready, region, page, at, here);
-    faults + read_page(pages, maps, ready, region, page + 1, 0, behind)
+    let first = PagePlace {
+        root: region,
+        page,
+        at,
+    };
+    let second = PagePlace {
+        root: region,
+        page: page + 1,
+        at: 0,
+    };
+    let faults = read_page(pages, maps, ready, first, here);
+    faults + read_page(pages, maps, ready, second, behind)
 }
 
-// Reads bytes of a page, from `at` bytes into the page on, and answers how many page faults that took. There is room for
+// Reads bytes of a page, from a place in it on, and answers how many page faults that took. There is room for
 // a note.
 fn read_page(
     pages: &CheckerPages,
     maps: &MappingSet,
     ready: &mut ReadyMap,
-    root: RegionName,
-    page: PageNo,
-    at: u64,
+    place: PagePlace,
     out: &mut [u8],
 ) -> u64
     requires true_rows { NotesAreTrue (eager_content pages.now) (table_of maps.now) (rows_of ready.old) }
-    requires shows { ShowsPage (eager_content pages.now) (table_of maps.now) root.0 page }
-    requires range { at + length out.old ≤ PAGE }
+    requires shows { ShowsPage (eager_content pages.now) (table_of maps.now) place.root.0 place.page }
+    requires range { place.at + length out.old ≤ PAGE }
     requires room { 1 ≤ notes_spare ready.old }
-    ensures reads { ReadsBytesOfPage (eager_content pages.now) (table_of maps.now) root.0 page at (length out.old) (rows_of ready.old)
-        result out.new (rows_of ready.new) }
+    ensures reads { ReadsBytesOfPage (eager_content pages.now) (table_of maps.now) place.root.0 place.page place.at (length out.old)
+        (rows_of ready.old) result out.new (rows_of ready.new) }
     ensures room { notes_spare ready.old ≤ notes_spare ready.new + 1 }
 {
-    let entry = entry_of(maps, root, page);
-    pages.read(entry.koid, entry.page, at, out);
-    touch(pages, ready, root, page, entry)
+    let entry = entry_of(maps, place.root, place.page);
+    pages.read(entry.koid, entry.page, place.at, out);
+    touch(pages, ready, place.root, place.page, entry)
 }
 
 // Makes a page ready for reading at least, and answers how many page faults that took. There is room for a note.

@@ -16,7 +16,7 @@ ghost use Rattle.checker_access.specs.Accesses.{IsAllowed, HasAccessEffect};
 ghost use Rattle.checker_access.specs.inside.Pages.{MayWrite, WritesPart, IsNotedReady};
 
 use crate::asking::lacks;
-use crate::needing::entry_of;
+use crate::needing::{PagePlace, entry_of};
 use checker_pages::CheckerPages;
 use checker_ready::{ReadyMap, ReadyPage};
 use mapping_set::MappingSet;
@@ -53,15 +53,12 @@ pub fn write(
         return Err(HostMemory);
     };
     if in_page(addr) + bytes.len() as u64 <= PAGE {
-        Ok(write_page(
-            pages,
-            maps,
-            ready,
-            region,
-            page_of(addr),
-            in_page(addr),
-            bytes,
-        ))
+        let place = PagePlace {
+            root: region,
+            page: page_of(addr),
+            at: in_page(addr),
+        };
+        Ok(write_page(pages, maps, ready, place, bytes))
     } else {
         Ok(write_in_two(pages, maps, ready, region, addr, bytes))
     }
@@ -106,38 +103,46 @@ fn write_in_two(
     let page = page_of(addr);
     let at = in_page(addr);
     let (here, behind) = bytes.split_at((PAGE - at) as usize);
-    let faults = write_page(pages, maps, ready, region, page, at, here);
-    faults + write_page(pages, maps, ready, region, page + 1, 0, behind)
+    let first = PagePlace {
+        root: region,
+        page,
+        at,
+    };
+    let second = PagePlace {
+        root: region,
+        page: page + 1,
+        at: 0,
+    };
+    let faults = write_page(pages, maps, ready, first, here);
+    faults + write_page(pages, maps, ready, second, behind)
 }
 
-// Writes bytes to one page, from `at` bytes into the page on, and answers how many page faults that took. There is room for
+// Writes bytes to one page, from a place in it on, and answers how many page faults that took. There is room for
 // it.
 fn write_page(
     pages: &mut CheckerPages,
     maps: &MappingSet,
     ready: &mut ReadyMap,
-    root: RegionName,
-    page: PageNo,
-    at: u64,
+    place: PagePlace,
     bytes: &[u8],
 ) -> u64
     requires good { IsGood (eager_content pages.old) }
     requires true_rows { NotesAreTrue (eager_content pages.old) (table_of maps.now) (rows_of ready.old) }
-    requires may { MayWrite (eager_content pages.old) (table_of maps.now) root.0 page }
-    requires range { at + length bytes.now ≤ PAGE }
+    requires may { MayWrite (eager_content pages.old) (table_of maps.now) place.root.0 place.page }
+    requires range { place.at + length bytes.now ≤ PAGE }
     requires room { 1 ≤ rows_spare pages.old }
     requires notes { 1 ≤ notes_spare ready.old }
-    ensures faults { result ≡ write_fault (ready_in (rows_of ready.old) root.0 page) }
+    ensures faults { result ≡ write_fault (ready_in (rows_of ready.old) place.root.0 place.page) }
     ensures few { result ≤ 1 }
-    ensures writes { WritesPart (table_of maps.now) root.0 page at bytes.now (eager_content pages.old) (rows_of ready.old)
-        (eager_content pages.new) (rows_of ready.new) }
+    ensures writes { WritesPart (table_of maps.now) place.root.0 place.page place.at bytes.now (eager_content pages.old)
+        (rows_of ready.old) (eager_content pages.new) (rows_of ready.new) }
     ensures room { rows_spare pages.old ≤ rows_spare pages.new + 1 }
     ensures notes { notes_spare ready.old ≤ notes_spare ready.new + 1 }
 {
-    let entry = entry_of(maps, root, page);
-    let faults = faults_to_write(ready, root, page);
-    pages.write(entry.koid, entry.page, at, bytes);
-    note_written(pages, ready, root, page, entry);
+    let entry = entry_of(maps, place.root, place.page);
+    let faults = faults_to_write(ready, place.root, place.page);
+    pages.write(entry.koid, entry.page, place.at, bytes);
+    note_written(pages, ready, place.root, place.page, entry);
     faults
 }
 

@@ -5,7 +5,7 @@ use Rattle.checker_access.proofs.reading.read_page.Goals as goal
 
 pub returns-clause-reads : goal.returns-clause-reads
 returns-clause-reads c =
-    let shows = shows_entry (eager_content c.args.pages.now) (table_of c.args.maps.now) c.args.root.0 c.args.page c.entry_of-entry.result c.requires.shows c.entry_of-entry.ensures in
+    let shows = shows_entry (eager_content c.args.pages.now) (table_of c.args.maps.now) c.args.place.root.0 c.args.place.page c.entry_of-entry.result c.requires.shows c.entry_of-entry.ensures in
     let touches = c.touch.ensures.touches (table_of c.args.maps.now) in
     record {
       entry = c.entry_of-entry.result;
