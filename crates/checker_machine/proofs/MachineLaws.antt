@@ -266,3 +266,12 @@ pub vmos_answered : {old new : CheckerVmos} {spaces : Spaces} {rows_old rows_new
 vmos_answered {old} {new} {spaces} {rows_old} {rows_new} sound call group e other given told outcome out is steps own =
     (some_answered old new spaces spaces rows_old rows_new (command_of call) told sound given outcome out is (asks_none call group e other)
     (outcome_machine sound given outcome (does_all (well_of sound) steps)) own).0
+
+-- and an outcome of one that may
+pub some_placing : {old new : CheckerVmos} {spaces_old spaces_new : Spaces} {rows_old rows_new : ReadyRows} {command : Command} (told : ℕ) (outcome : Result Answer Lack) (out : Result (Option Answer) Lack)
+    → MatchResult outcome (λ answer. out ≡ Ok (Some answer)) (λ lack. out ≡ Err lack) → DoesAll old spaces_old rows_old command (outcome_reply outcome) new spaces_new rows_new
+    → IsPlacing old spaces_old rows_old command told out new spaces_new rows_new
+some_placing {old} {new} {spaces_old} {spaces_new} {rows_old} {rows_new} {command} told (Ok answer) out is does =
+    subst (λ (o : Result (Option Answer) Lack). IsPlacing old spaces_old rows_old command told o new spaces_new rows_new) (sym is) does
+some_placing {old} {new} {spaces_old} {spaces_new} {rows_old} {rows_new} {command} told (Err lack) out is does =
+    subst (λ (o : Result (Option Answer) Lack). IsPlacing old spaces_old rows_old command told o new spaces_new rows_new) (sym is) does

@@ -4,3 +4,4 @@ pub mod Groups
 pub mod Fields
 pub mod Steps
 pub mod Wanting
+pub mod Requests

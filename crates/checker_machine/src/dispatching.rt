@@ -20,12 +20,13 @@ use crate::changing::{vmo_commit, vmo_decommit, vmo_fill, vmo_set_size, vmo_writ
 use crate::mappings::{list_maps, vmar_map, vmar_protect, vmar_unmap};
 use crate::naming::{ChildRequest, vmo_close, vmo_create, vmo_create_child};
 use crate::pinning::{NamedRange, vmo_pin, vmo_unpin};
+use crate::requests::{RegionCommand, region_command};
 use crate::spaces::{root_create, vmar_allocate, vmar_destroy};
 use attribution::stat;
 use checker_ready::ReadyMap;
 use checker_vmos::CheckerVmos;
 use mapping_set::MappingSet;
-use region_ops::{AllocateRequest, MapRequest, RegionRange};
+use region_ops::RegionRange;
 use region_tree::Regions;
 use std::alloc::Global;
 use vm_base::HostMemory;
@@ -139,68 +140,17 @@ pub(crate) fn on_region(
     ensures own { IsOwnPlace (command_of call.now) told result }
     ensures noted { AreNoted (regions_of regions.new) (places_of maps.new) }
 {
-    match call {
-        Call::RootCreate { region } => some(root_create(regions, maps, *region)),
-        Call::VmarAllocate {
-            region,
-            parent,
-            offset,
-            len,
-            flags,
-            caps,
-        } => {
-            let request = AllocateRequest {
-                parent: *parent,
-                offset: *offset,
-                len: *len,
-                flags: *flags,
-                caps: *caps,
-            };
-            vmar_allocate(regions, maps, *region, request, told)
+    match region_command(call) {
+        RegionCommand::Create(region) => some(root_create(regions, maps, region)),
+        RegionCommand::Allocate(region, request) => {
+            vmar_allocate(regions, maps, region, request, told)
         }
-        Call::VmarMap {
-            region,
-            offset,
-            name,
-            vmo_offset,
-            len,
-            perm,
-            flags,
-        } => {
-            let request = MapRequest {
-                region: *region,
-                offset: *offset,
-                mapped: *name,
-                vmo_offset: *vmo_offset,
-                len: *len,
-                perm: *perm,
-                flags: *flags,
-            };
-            vmar_map(vmos, regions, maps, ready, request, told)
+        RegionCommand::Map(request) => vmar_map(vmos, regions, maps, ready, request, told),
+        RegionCommand::Unmap(range) => some(vmar_unmap(vmos, regions, maps, ready, range)),
+        RegionCommand::Protect(range, perm) => {
+            some(vmar_protect(regions, maps, ready, range, perm))
         }
-        Call::VmarUnmap { region, addr, len } => {
-            let range = RegionRange {
-                region: *region,
-                addr: *addr,
-                len: *len,
-            };
-            some(vmar_unmap(vmos, regions, maps, ready, range))
-        }
-        Call::VmarProtect {
-            region,
-            addr,
-            len,
-            perm,
-        } => {
-            let range = RegionRange {
-                region: *region,
-                addr: *addr,
-                len: *len,
-            };
-            some(vmar_protect(regions, maps, ready, range, *perm))
-        }
-        Call::VmarDestroy { region } => some(vmar_destroy(vmos, regions, maps, ready, *region)),
-        _ => unreachable!(),
+        RegionCommand::Destroy(region) => some(vmar_destroy(vmos, regions, maps, ready, region)),
     }
 }
 

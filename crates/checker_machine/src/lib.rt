@@ -20,6 +20,7 @@ mod mappings;
 mod naming;
 mod pinning;
 mod reaching;
+mod requests;
 mod settling;
 mod spaces;
 mod wanting;

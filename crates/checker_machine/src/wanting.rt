@@ -21,6 +21,7 @@ ghost use Rattle.checker_machine.specs.declared.groups.Group.{Group};
 
 use crate::naming::ChildRequest;
 use crate::reaching::{Reach, touched_reach};
+use crate::requests::{RegionCommand, region_command};
 use checker_access::{
     refusal_to_read, refusal_to_write, wants_memory_to_read, wants_memory_to_write,
 };
@@ -249,67 +250,13 @@ pub(crate) fn region_wants(
     requires noted { AreNoted (regions_of regions.now) (places_of maps.now) }
     ensures { result ≡ may_lack (state_in vmos.now (spaces_of (regions_of regions.now) (table_of maps.now))) (command_of call.now) }
 {
-    match call {
-        Call::RootCreate { region } => regions.get(*region).is_none(),
-        Call::VmarAllocate {
-            region,
-            parent,
-            offset,
-            len,
-            flags,
-            caps,
-        } => {
-            let request = AllocateRequest {
-                parent: *parent,
-                offset: *offset,
-                len: *len,
-                flags: *flags,
-                caps: *caps,
-            };
-            allocate_wants(regions, maps, *region, request)
-        }
-        Call::VmarMap {
-            region,
-            offset,
-            name,
-            vmo_offset,
-            len,
-            perm,
-            flags,
-        } => {
-            let request = MapRequest {
-                region: *region,
-                offset: *offset,
-                mapped: *name,
-                vmo_offset: *vmo_offset,
-                len: *len,
-                perm: *perm,
-                flags: *flags,
-            };
-            map_wants(vmos, regions, maps, request)
-        }
-        Call::VmarUnmap { region, addr, len } => {
-            let range = RegionRange {
-                region: *region,
-                addr: *addr,
-                len: *len,
-            };
-            unmap_wants(regions, maps, range)
-        }
-        Call::VmarProtect {
-            region,
-            addr,
-            len,
-            perm,
-        } => {
-            let range = RegionRange {
-                region: *region,
-                addr: *addr,
-                len: *len,
-            };
-            protect_wants(regions, maps, range, *perm)
-        }
-        _ => false,
+    match region_command(call) {
+        RegionCommand::Create(region) => regions.get(region).is_none(),
+        RegionCommand::Allocate(region, request) => allocate_wants(regions, maps, region, request),
+        RegionCommand::Map(request) => map_wants(vmos, regions, maps, request),
+        RegionCommand::Unmap(range) => unmap_wants(regions, maps, range),
+        RegionCommand::Protect(range, perm) => protect_wants(regions, maps, range, perm),
+        RegionCommand::Destroy(_) => false,
     }
 }
 
