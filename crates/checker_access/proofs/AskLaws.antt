@@ -1,30 +1,26 @@
--- What refuses an access, by the one or two pages that it touches.
+-- What refuses an access, and the pages that it finds, by the one or two pages that it touches.
 use Rattle.std.proofs.Common.{◌≡◌, ℕ, zero, suc, ◌+◌, ◌/◌, ◌%◌, ◌≤◌, Bool, true, false, cond, ◌||◌, List, [], ◌∷◌, length, ◌<◌, Option, None, Some, refl, sym, ap, subst, ◌∙◌, inl, inr, arith}
-use Rattle.std.specs.Prelude.{nat_lt, is_some, unwrap_or, IsSome}
+use Rattle.std.specs.Prelude.{nat_lt, is_some, unwrap_or}
 use Rattle.std.specs.Option.{option_or}
 use Rattle.std.specs.List.{list_any}
-use Rattle.std.proofs.lemmas.Bool.{cases_lt, le-ltb, lt-ltb, ltb-false}
+use Rattle.std.proofs.lemmas.Bool.{cases_lt, le-ltb, lt-ltb}
 use Rattle.std.proofs.lemmas.List.{length-map}
 use Rattle.vm_base.specs.declared.limits.TheConstants.{PAGE}
-use Rattle.vm_base.specs.declared.names.RegionName.{RegionName}
 use Rattle.vm_base.specs.declared.refusal.Refusal.{Refusal}
 use Rattle.vm_base.specs.declared.refusal.Refusal.TheVariants.{NotFound, NoMemory, OutOfRange}
-use Rattle.vm_base.proofs.EntryLaws.{none_is, some_same}
-use Rattle.vm_model.specs.declared.command.Command.TheVariants.{MemRead, MemWrite}
 use Rattle.vm_model.specs.declared.space.Entry.{Entry}
-use Rattle.vm_model.specs.Contents.Content.{Content, used, sole, pages_of}
+use Rattle.vm_model.specs.Contents.Content.{Content, used, sole}
 use Rattle.vm_model.specs.Contents.Owning.{VmoPage, need_from, need_each}
 use Rattle.vm_model.specs.Contents.Writing.{touched}
 use Rattle.vm_model.specs.Space.Rights.{has, reading, writing}
 use Rattle.vm_model.specs.Machine.Access.{refusal_at, access_refusal, entry_at, page_shown, pages_shown}
-use Rattle.vm_model.specs.Machine.Refusals.{refusals, read_refusals, write_refusals, first_of}
-use Rattle.vm_model.proofs.AccessLaws.{refusal_at-entry, access_refusal-parts}
+use Rattle.vm_model.specs.Machine.Refusals.{read_refusals, write_refusals, first_of}
 use Rattle.vm_model.proofs.ContentLaws.{pages_of-at}
 use Rattle.vm_model.proofs.RangeLaws.{touched-nil}
-use Rattle.vm_model.proofs.StepLaws.{AllOff-from_none}
 use Rattle.vm_model.proofs.TouchedLaws.{touched-one, touched-two}
-use Rattle.checker_access.specs.Accesses.{IsAllowed, state_with_table}
-use Rattle.checker_access.specs.inside.Pages.{IsMappedInside, ShowsPage}
+use Rattle.checker_access.specs.declared.finding.Found.{Found}
+use Rattle.checker_access.specs.declared.finding.Found.TheVariants.{No, One, Two}
+use Rattle.checker_access.specs.inside.Pages.{IsMappedInside, LieInVmos, FindsOne, FindsTwo, AreTouched, HasFramesFor, pages_found}
 
 -- ---- a test on one page or two
 
@@ -85,6 +81,23 @@ read_row c entries ps = go (access_refusal c reading entries ps) where
   go None = refl
   go (Some refusal) = refl
 
+module _ (c : Content) (entries : ℕ → Option Entry) (ps : List ℕ) where
+  -- the frames that are used once the pages are owned
+  abbrev need : ℕ
+  need = used c + need_each c (pages_shown entries ps)
+
+  -- what refuses a write that no page refuses
+  write_row : (short : Bool) → None ≡ access_refusal c writing entries ps → nat_lt c.frames need ≡ short → cond short (Some NoMemory) None ≡ first_of (write_refusals c entries ps)
+  write_row short none is =
+      sym (ap (λ (o : Option Refusal). cond (is_some o) (Some (unwrap_or o NotFound)) (cond (nat_lt c.frames need) (Some NoMemory) None)) (sym none)
+      ∙ ap (λ (b : Bool). cond b (Some NoMemory) None) is)
+
+  write_short : None ≡ access_refusal c writing entries ps → c.frames < need → Some NoMemory ≡ first_of (write_refusals c entries ps)
+  write_short none short = write_row true none (lt-ltb c.frames need short)
+
+  write_free : None ≡ access_refusal c writing entries ps → need ≤ c.frames → None ≡ first_of (write_refusals c entries ps)
+  write_free none enough = write_row false none (le-ltb c.frames need enough)
+
 -- ---- the pages that an access touches
 
 -- they are two at most
@@ -117,48 +130,68 @@ need_two : (c : Content) (entries : ℕ → Option Entry) (ps : List ℕ) → le
 unfolding pages_shown
 need_two c entries ps few = omega (arith, need_from-most c.frames c (pages_shown entries ps), length-map ps (λ p. page_shown (entry_at entries p)), few)
 
--- so it has the frames that it takes if two are free
-pub two_free : (c : Content) (entries : ℕ → Option Entry) (addr len free : ℕ) → len ≤ PAGE → None ≡ access_refusal c writing entries (touched addr len) → 2 ≤ free → free + used c ≡ c.frames
-    → None ≡ first_of (write_refusals c entries (touched addr len))
-two_free c entries addr len free few none two are =
-    let need = need_two c entries (touched addr len) (touched_few addr len few) in
-    let enough = le-ltb c.frames (used c + need_each c (pages_shown entries (touched addr len))) (omega (arith, need, two, are)) in
-    sym (ap (λ (o : Option Refusal). cond (is_some o) (Some (unwrap_or o NotFound)) (cond (nat_lt c.frames (used c + need_each c (pages_shown entries (touched addr len)))) (Some NoMemory) None)) (sym none)
-    ∙ ap (λ (b : Bool). cond b (Some NoMemory) None) enough)
+-- ---- what an access finds
 
--- ---- an access that nothing refuses
+-- the first page that it touches decides if it is refused there
+pub access_denied : (c : Content) (right : ℕ) (entries : ℕ → Option Entry) (addr len p : ℕ) (refusal : Refusal) → p ≡ addr / PAGE → 0 < len → len ≤ PAGE
+    → Some refusal ≡ refusal_at c right (entries p) → Some refusal ≡ access_refusal c right entries (touched addr len)
+access_denied c right entries addr len p refusal start some few is = elim (cases_lt PAGE (addr % PAGE + len)) [
+  | inl two ↦ rw (touches_two addr len p start two few) (access_first c right entries p ((p + 1) ∷ []) refusal (sym is))
+  | inr one ↦ rw (touches_one addr len p start some (omega (arith, one))) (access_first c right entries p [] refusal (sym is))
+]
 
-module _ (c : Content) (table : ℕ → ℕ → Option Entry) (region : RegionName) (addr : ℕ) where
-  pub may_read : (len : ℕ) → IsAllowed c table (MemRead region addr len) → access_refusal c reading (table region.0) (touched addr len) ≡ None
-  may_read len may =
-      let off = AllOff-from_none (refusals (state_with_table may.rest c table) (MemRead region addr len)) may.free in
-      none_is _ off.1.1.1.0
+module _ (c : Content) (table : ℕ → ℕ → Option Entry) (root addr len p : ℕ) (start : p ≡ addr / PAGE) where
+  pub finds_one : (entry : Entry) → 0 < len → addr % PAGE + len ≤ PAGE → IsMappedInside c table root p entry → FindsOne c table root addr len entry
+  finds_one entry some fits shows = record {
+    fits = fits;
+    pages = touches_one addr len (addr / PAGE) refl some fits;
+    shows = subst (λ (q : ℕ). IsMappedInside c table root q entry) start shows;
+  }
 
-  pub may_write : (bytes : List ℕ) → IsAllowed c table (MemWrite region addr bytes)
-      → (access_refusal c writing (table region.0) (touched addr (length bytes)) ≡ None)
-      × (used c + need_each c (pages_shown (table region.0) (touched addr (length bytes))) ≤ c.frames)
-  may_write bytes may =
-      let off = AllOff-from_none (refusals (state_with_table may.rest c table) (MemWrite region addr bytes)) may.free in
-      (none_is _ off.1.1.1.0, ltb-false _ _ off.1.1.1.1.0)
+  pub finds_two : (first second : Entry) → PAGE < addr % PAGE + len → len ≤ PAGE → IsMappedInside c table root p first → IsMappedInside c table root (p + 1) second
+      → FindsTwo c table root addr len first second
+  finds_two first second passes few shows then_shows = record {
+    passes = passes;
+    pages = touches_two addr len (addr / PAGE) refl passes few;
+    first_shows = subst (λ (q : ℕ). IsMappedInside c table root q first) start shows;
+    second_shows = subst (λ (q : ℕ). IsMappedInside c table root (q + 1) second) start then_shows;
+  }
 
--- its first page shows a page that lies in its VMO, and so do the others
-pub shows_first : (c : Content) (right : ℕ) (table : ℕ → ℕ → Option Entry) (root p : ℕ) (ps : List ℕ) → access_refusal c right (table root) (p ∷ ps) ≡ None
-    → ShowsPage c table root p
-shows_first c right table root p ps free =
-    let found = refusal_at-entry c right (table root p) (access_refusal-parts c right (table root) p ps free).0 in
-    record { entry = found.0; shows = record { is = found.1; below = found.3 } }
+shown_one : (entries : ℕ → Option Entry) (p : ℕ) (entry : Entry) → entries p ≡ Some entry → pages_shown entries (p ∷ []) ≡ page_shown entry ∷ []
+unfolding pages_shown entry_at
+shown_one entries p entry is = rw is refl
 
--- which is the one of its entry
-pub shows_entry : (c : Content) (table : ℕ → ℕ → Option Entry) (root p : ℕ) (entry : Entry) → ShowsPage c table root p → table root p ≡ Some entry
-    → IsMappedInside c table root p entry
-shows_entry c table root p entry shows is = record {
-  is = is;
-  below = subst (λ (e : Entry). e.page < pages_of c e.koid.0) (some_same (sym shows.shows.is ∙ is)) shows.shows.below;
-}
+shown_two : (entries : ℕ → Option Entry) (p q : ℕ) (first second : Entry) → entries p ≡ Some first → entries q ≡ Some second
+    → pages_shown entries (p ∷ q ∷ []) ≡ page_shown first ∷ page_shown second ∷ []
+unfolding pages_shown entry_at
+shown_two entries p q first second is then_is = rw (is, then_is) refl
 
-pub shows_some : (c : Content) (table : ℕ → ℕ → Option Entry) (root p : ℕ) → ShowsPage c table root p → IsSome (table root p)
-shows_some c table root p shows = ap is_some shows.shows.is
+shown_none : (entries : ℕ → Option Entry) → pages_shown entries [] ≡ []
+unfolding pages_shown
+shown_none entries = refl
 
-pub shows_rest : (c : Content) (right : ℕ) (entries : ℕ → Option Entry) (p : ℕ) (ps : List ℕ) → access_refusal c right entries (p ∷ ps) ≡ None
-    → access_refusal c right entries ps ≡ None
-shows_rest c right entries p ps free = (access_refusal-parts c right entries p ps free).1
+module _ (c : Content) (table : ℕ → ℕ → Option Entry) (root addr len : ℕ) where
+  -- the pages that are found are those that are shown
+  pub shown_found : (found : Found) → AreTouched c table root addr len found → pages_shown (table root) (touched addr len) ≡ pages_found found
+  shown_found No are = rw are.pages (shown_none (table root))
+  shown_found (One entry) are = rw are.pages (shown_one (table root) (addr / PAGE) entry are.shows.is)
+  shown_found (Two first second) are = rw are.pages (shown_two (table root) (addr / PAGE) (addr / PAGE + 1) first second are.first_shows.is are.second_shows.is)
+
+  pub found_inside : (found : Found) → AreTouched c table root addr len found → LieInVmos c found
+  found_inside No are = tt
+  found_inside (One entry) are = are.shows.below
+  found_inside (Two first second) are = (are.first_shows.below, are.second_shows.below)
+
+  module _ (found : Found) (are : AreTouched c table root addr len found) (none : None ≡ access_refusal c writing (table root) (touched addr len)) where
+    -- a write that takes no more frames than are free
+    pub found_free : HasFramesFor c found → None ≡ first_of (write_refusals c (table root) (touched addr len))
+    found_free enough = write_free c (table root) (touched addr len) none (rw (shown_found found are) enough)
+
+    -- a write that takes more
+    pub found_short : c.frames < used c + need_each c (pages_found found) → Some NoMemory ≡ first_of (write_refusals c (table root) (touched addr len))
+    found_short short = write_short c (table root) (touched addr len) none (rw (shown_found found are) short)
+
+  -- two frames are enough
+  pub found_two : (found : Found) → AreTouched c table root addr len found → len ≤ PAGE → (free : ℕ) → 2 ≤ free → free + used c ≡ c.frames → HasFramesFor c found
+  found_two found are few free two all =
+      omega (arith, two, all, need_two c (table root) (touched addr len) (touched_few addr len few), ap (need_each c) (shown_found found are))

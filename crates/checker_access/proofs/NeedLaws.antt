@@ -14,6 +14,12 @@ use Rattle.pages.proofs.NeedLaws.{need-one, need-same, need-apart}
 use Rattle.checker_pages.specs.Eager.{IsSeenByThird}
 use Rattle.checker_access.specs.inside.Pages.{HaveOneFrame, need_after}
 
+-- ---- no page
+
+pub need-none : (c : Content) → 0 ≡ need_each c []
+unfolding need_from
+need-none c = refl
+
 -- ---- one page
 
 pub need-sole : (c : Content) (v p : ℕ) → sole c v p ≡ true → 0 ≡ need_each c (record { koid = v; page = p } ∷ [])

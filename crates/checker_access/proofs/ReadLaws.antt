@@ -1,5 +1,5 @@
 -- What reading through one page of an address space, or through two, gives.
-use Rattle.std.proofs.Common.{◌≡◌, ℕ, ◌+◌, ◌/◌, ◌%◌, ◌≤◌, not, cond, List, [], ◌∷◌, ◌++◌, length, take, drop, Option, None, Some, refl, sym, ap, ◌∙◌, arith}
+use Rattle.std.proofs.Common.{◌≡◌, ℕ, ◌+◌, ◌/◌, ◌%◌, ◌≤◌, not, cond, List, [], ◌∷◌, ◌++◌, length, take, drop, Option, None, Some, refl, sym, ap, subst, ◌∙◌, arith}
 use Rattle.std.specs.Prelude.{is_some}
 use Rattle.std.specs.List.{filter}
 use Rattle.vm_base.specs.declared.limits.TheConstants.{PAGE}
@@ -16,7 +16,7 @@ use Rattle.vm_model.proofs.OwningLaws.{length-shown}
 use Rattle.vm_model.proofs.ThroughLaws.{bytes_through-page, bytes_through-append}
 use Rattle.checker_ready.specs.Notes.{ReadyRows, ready_in}
 use Rattle.checker_access.specs.Accesses.{HasAccessEffect, machine_with}
-use Rattle.checker_access.specs.inside.Pages.{ReadsBytesOfPage, read_fault, after_one}
+use Rattle.checker_access.specs.inside.Pages.{FindsNone, FindsOne, ReadsBytesOfPage, read_fault, after_one}
 use Rattle.checker_access.proofs.NoteLaws.{after_one-other}
 
 -- ---- page faults
@@ -43,7 +43,7 @@ module _ (table : ℕ → ℕ → Option Entry) (c : Content) (old : ReadyRows) 
       λ s. (λ i. Access (count i) (read i), λ i. record (machine_with s c table old) { ready = ready i })
 
   -- no bytes
-  pub HasAccessEffect-none : (bytes : List ℕ) → length bytes ≡ 0 → HasAccessEffect table c old (MemRead region addr (length bytes)) (Access 0 bytes) c old
+  HasAccessEffect-none : (bytes : List ℕ) → length bytes ≡ 0 → HasAccessEffect table c old (MemRead region addr (length bytes)) (Access 0 bytes) c old
   unfolding touched read_faults bytes_through after_reading
   HasAccessEffect-none [] none = HasAccessEffect-read 0 0 [] old refl refl refl
   HasAccessEffect-none (b ∷ bs) none = absurd (omega arith)
@@ -57,7 +57,7 @@ module _ (table : ℕ → ℕ → Option Entry) (c : Content) (old : ReadyRows) 
         ∙ (ap (λ (k : ℕ). take n (drop k (shown c reads.entry.koid.0 reads.entry.page))) (sym place) ∙ sym reads.bytes_are)
 
     -- one page
-    pub HasAccessEffect-one : touched addr n ≡ p ∷ [] → HasAccessEffect table c old (MemRead region addr n) (Access faults bytes) c new
+    HasAccessEffect-one : touched addr n ≡ p ∷ [] → HasAccessEffect table c old (MemRead region addr n) (Access faults bytes) c new
     unfolding after_reading
     HasAccessEffect-one one = HasAccessEffect-read n faults bytes new
         (rw one (omega (arith, reads.faults_are, read_faults-more (ready_in old region.0) p [], read_faults-nil (ready_in old region.0))))
@@ -95,3 +95,27 @@ module _ (table : ℕ → ℕ → Option Entry) (c : Content) (old : ReadyRows) 
           )))
           (rw (← both) (sym (bytes_through-append c (table region.0) addr n m ∙ (λ i. bytes-here i ++ bytes-behind i))))
           (rw two (then.ready ∙ ap (λ (ready : Ready). after_one region.0 (p + 1) ready) reads.ready))
+
+-- ---- what was read, of a room
+
+module _ (table : ℕ → ℕ → Option Entry) (c : Content) (old : ReadyRows) (region : RegionName) (addr : ℕ) where
+  -- the effect on so many bytes that are lent, from equal notes
+  pub effect_lent : (len n faults : ℕ) (lent bytes : List ℕ) (mid new : ReadyRows) → n ≡ len → lent ≡ bytes → mid ≡ old
+      → HasAccessEffect table c mid (MemRead region addr n) (Access faults bytes) c new → HasAccessEffect table c old (MemRead region addr len) (Access faults lent) c new
+  effect_lent len n faults lent bytes mid new same is notes does =
+      subst (λ (m : ℕ). HasAccessEffect table c old (MemRead region addr m) (Access faults lent) c new) same
+      (subst (λ (bs : List ℕ). HasAccessEffect table c old (MemRead region addr n) (Access faults bs) c new) (sym is)
+      (subst (λ (rows : ReadyRows). HasAccessEffect table c rows (MemRead region addr n) (Access faults bytes) c new) notes does))
+
+  -- no bytes
+  pub effect_none : (len : ℕ) (lent : List ℕ) → length lent ≡ len → FindsNone addr len → HasAccessEffect table c old (MemRead region addr len) (Access 0 lent) c old
+  effect_none len lent same none =
+      effect_lent len (length lent) 0 lent lent old old same refl refl (HasAccessEffect-none table c old region addr lent (same ∙ none.none))
+
+  -- one page
+  pub effect_one : IsGood c → (len n p at faults : ℕ) (bytes : List ℕ) (new : ReadyRows) (entry : Entry) → n ≡ len → p ≡ addr / PAGE → at ≡ addr % PAGE
+      → FindsOne c table region.0 addr len entry → ReadsBytesOfPage c table region.0 p at n old faults bytes new
+      → HasAccessEffect table c old (MemRead region addr n) (Access faults bytes) c new
+  effect_one good len n p at faults bytes new entry same start place one reads =
+      HasAccessEffect-one table c old region addr good p at n faults bytes new start place (omega (arith, place, same, one.fits)) reads
+      (rw (same, start) one.pages)

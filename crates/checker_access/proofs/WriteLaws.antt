@@ -1,8 +1,7 @@
 -- What writing through one page of an address space, or through two, gives.
-use Rattle.std.proofs.Common.{◌≡◌, ℕ, ◌+◌, ◌<◌, ◌≤◌, List, [], ◌∷◌, length, Option, None, Some, refl, sym, ap, subst, ◌∙◌, arith}
+use Rattle.std.proofs.Common.{◌≡◌, ℕ, ◌+◌, ◌<◌, ◌≤◌, List, [], ◌∷◌, length, Option, refl, subst, arith}
 use Rattle.vm_base.specs.declared.limits.TheConstants.{PAGE}
 use Rattle.vm_base.specs.declared.names.RegionName.{RegionName}
-use Rattle.vm_base.proofs.EntryLaws.{some_same}
 use Rattle.vm_model.specs.declared.command.Command.{Command}
 use Rattle.vm_model.specs.declared.command.Command.TheVariants.{MemWrite}
 use Rattle.vm_model.specs.declared.reply.Reply.{Reply}
@@ -10,19 +9,17 @@ use Rattle.vm_model.specs.declared.reply.Reply.TheVariants.{Faults}
 use Rattle.vm_model.specs.declared.space.Entry.{Entry}
 use Rattle.vm_model.specs.declared.space.Readiness.TheVariants.{Write}
 use Rattle.vm_model.specs.Contents.Content.{Content, used, pages_of, IsGood}
-use Rattle.vm_model.specs.Contents.Owning.{need_from, need_each}
+use Rattle.vm_model.specs.Contents.Owning.{need_each}
 use Rattle.vm_model.specs.Contents.Writing.{touched, part_at, part_bytes, WritesPiece}
-use Rattle.vm_model.specs.Space.Rights.{writing}
-use Rattle.vm_model.specs.Machine.Access.{entry_at, pages_shown, page_shown, access_refusal, write_fault}
+use Rattle.vm_model.specs.Machine.Access.{page_shown, write_fault}
 use Rattle.vm_model.proofs.AccessLaws.{frame_at-other}
 use Rattle.vm_model.proofs.RangeLaws.{touched-nil}
 use Rattle.vm_model.proofs.WritingLaws.{Written, Written-from_WritesPiece}
+use Rattle.pages.specs.Needs.{MayOwn}
 use Rattle.pages.proofs.NeedLaws.{first-free, second-free}
 use Rattle.checker_ready.specs.Notes.{ReadyRows, ready_in, ChangesRange, NotesAreTrue}
 use Rattle.checker_access.specs.Accesses.{HasAccessEffect}
-use Rattle.checker_access.specs.inside.Pages.{IsMappedInside, ShowsPage, MayWrite, IsNotedReady, WritesPart, memory_with}
-use Rattle.checker_access.proofs.AskLaws.{shows_first, shows_rest}
-use Rattle.checker_access.proofs.NeedLaws.{may_own}
+use Rattle.checker_access.specs.inside.Pages.{IsMappedInside, LiesInVmo, IsNotedReady, WritesPart, memory_with}
 use Rattle.checker_access.proofs.NoteLaws.{ready-noted, true-noted}
 
 -- ---- one page
@@ -49,76 +46,30 @@ module _ (c d : Content) (table : ℕ → ℕ → Option Entry) (rows later : Re
           writes = rw (← place, ← same) writes;
           ready = ready-noted Write c d table root p entry rows later are shows.is below change noted;
         };
-        piece = λ other is. subst (λ (e : Entry). WritesPiece c (record { koid = e.koid.0; page = e.page; at = at; bytes = part }) d) (some_same (sym shows.is ∙ is)) writes;
         are_true = true-noted Write c d table root p entry rows later are shows.is below change noted;
       }
 
--- ---- the pages that are shown
+-- ---- what may be owned
 
-shown_one : (entries : ℕ → Option Entry) (p : ℕ) (entry : Entry) → entries p ≡ Some entry → pages_shown entries (p ∷ []) ≡ page_shown entry ∷ []
-unfolding pages_shown entry_at
-shown_one entries p entry is = rw is refl
+-- two pages, one after another
+module _ (c : Content) (good : IsGood c) (first second : Entry) (below : LiesInVmo c first)
+    (enough : used c + need_each c (page_shown first ∷ page_shown second ∷ []) ≤ c.frames) where
+  pub own_first : MayOwn c first.koid.0 first.page
+  own_first = first-free c first.koid.0 first.page second.koid.0 second.page good below enough
 
-shown_two : (entries : ℕ → Option Entry) (p q : ℕ) (first second : Entry) → entries p ≡ Some first → entries q ≡ Some second
-    → pages_shown entries (p ∷ q ∷ []) ≡ page_shown first ∷ page_shown second ∷ []
-unfolding pages_shown entry_at
-shown_two entries p q first second is then_is = rw (is, then_is) refl
+  module _ (at : ℕ) (part : List ℕ) (d : Content) (fits : at + length part ≤ PAGE)
+      (wrote : WritesPiece c (record { koid = first.koid.0; page = first.page; at = at; bytes = part }) d) where
+    written : Written c first.koid.0 first.page d
+    written = Written-from_WritesPiece c (record { koid = first.koid.0; page = first.page; at = at; bytes = part }) d good below fits wrote
 
-pub need-one_page : (c : Content) (entries : ℕ → Option Entry) (p : ℕ) (entry : Entry) (n : ℕ) → entries p ≡ Some entry → n ≡ need_each c (page_shown entry ∷ [])
-    → n ≡ need_each c (pages_shown entries (p ∷ []))
-need-one_page c entries p entry n is need = need ∙ ap (need_each c) (sym (shown_one entries p entry is))
+    pub good_between : IsGood d
+    good_between = written.kept.good
 
-pub need-two_pages : (c : Content) (entries : ℕ → Option Entry) (p q : ℕ) (first second : Entry) (n : ℕ) → entries p ≡ Some first → entries q ≡ Some second
-    → n ≡ need_each c (page_shown first ∷ page_shown second ∷ []) → n ≡ need_each c (pages_shown entries (p ∷ q ∷ []))
-need-two_pages c entries p q first second n is then_is need = need ∙ ap (need_each c) (sym (shown_two entries p q first second is then_is))
+    pub inside_between : (entry : Entry) → LiesInVmo c entry → LiesInVmo d entry
+    inside_between entry low = omega (arith, low, written.kept.pages entry.koid.0)
 
-pub need-no_page : (c : Content) (entries : ℕ → Option Entry) → 0 ≡ need_each c (pages_shown entries [])
-unfolding pages_shown need_from
-need-no_page c entries = refl
-
-module _ (c : Content) (table : ℕ → ℕ → Option Entry) (root p : ℕ) where
-  -- the only page of a write that nothing refuses may be written
-  pub MayWrite-one : access_refusal c writing (table root) (p ∷ []) ≡ None → used c + need_each c (pages_shown (table root) (p ∷ [])) ≤ c.frames
-      → MayWrite c table root p
-  MayWrite-one free frames =
-      let first = shows_first c writing table root p [] free in
-      record { entry = first.entry; shows = first.shows; own = may_own c first.entry.koid.0 first.entry.page (rw (shown_one (table root) p first.entry first.shows.is) at frames) }
-
-  -- the first page of two
-  module _ (good : IsGood c) (free : access_refusal c writing (table root) (p ∷ (p + 1) ∷ []) ≡ None)
-      (frames : used c + need_each c (pages_shown (table root) (p ∷ (p + 1) ∷ [])) ≤ c.frames) where
-    first : ShowsPage c table root p
-    first = shows_first c writing table root p ((p + 1) ∷ []) free
-
-    second : ShowsPage c table root (p + 1)
-    second = shows_first c writing table root (p + 1) [] (shows_rest c writing (table root) p ((p + 1) ∷ []) free)
-
-    both : used c + need_each c (page_shown first.entry ∷ page_shown second.entry ∷ []) ≤ c.frames
-    both = rw (shown_two (table root) p (p + 1) first.entry second.entry first.shows.is second.shows.is) at frames
-
-    pub MayWrite-first : MayWrite c table root p
-    MayWrite-first = record {
-      entry = first.entry;
-      shows = first.shows;
-      own = first-free c first.entry.koid.0 first.entry.page second.entry.koid.0 second.entry.page good first.shows.below both;
-    }
-
-    -- and the second, once the first was written
-    module _ (at : ℕ) (part : List ℕ) (rows later : ReadyRows) (d : Content) (fits : at + length part ≤ PAGE) (wrote : WritesPart table root p at part c rows d later) where
-      written : Written c first.entry.koid.0 first.entry.page d
-      written = Written-from_WritesPiece c (record { koid = first.entry.koid.0; page = first.entry.page; at = at; bytes = part }) d good first.shows.below fits
-          (wrote.piece first.entry first.shows.is)
-
-      pub IsGood-between : IsGood d
-      IsGood-between = written.kept.good
-
-      pub MayWrite-second : MayWrite d table root (p + 1)
-      MayWrite-second = record {
-        entry = second.entry;
-        shows = record { is = second.shows.is; below = omega (arith, second.shows.below, written.kept.pages second.entry.koid.0) };
-        own = second-free c first.entry.koid.0 first.entry.page second.entry.koid.0 second.entry.page good first.shows.below at part d fits
-            (wrote.piece first.entry first.shows.is) both;
-      }
+    pub own_second : MayOwn d second.koid.0 second.page
+    own_second = second-free c first.koid.0 first.page second.koid.0 second.page good below at part d fits wrote enough
 
 -- ---- the effect
 
@@ -158,3 +109,8 @@ pub HasAccessEffect-from : (table : ℕ → ℕ → Option Entry) (c d : Content
 HasAccessEffect-from table c d rows other command reply new later content same does =
     subst (λ (x : Content). HasAccessEffect table x other command reply new later) content
     (subst (λ (r : ReadyRows). HasAccessEffect table c r command reply new later) same does)
+
+-- what is noted is true of an equal content
+pub notes_same : (table : ℕ → ℕ → Option Entry) (c d : Content) (rows other : ReadyRows) → c ≡ d → rows ≡ other → NotesAreTrue c table rows → NotesAreTrue d table other
+notes_same table c d rows other content same are =
+    subst (λ (x : Content). NotesAreTrue x table other) content (subst (NotesAreTrue c table) same are)

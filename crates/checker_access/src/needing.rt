@@ -1,66 +1,27 @@
 //! How many frames a write takes (copy on write).
 
-ghost use Rattle.std.specs.Prelude.{◌≡◌, ℕ, ◌+◌, ◌<◌, ◌≤◌, ◌&&◌, ◌==◌, true, false, [], ◌∷◌, None, Some, IsSome};
-ghost use Rattle.vm_base.specs.declared.limits.TheConstants.{DATA_BYTES};
+ghost use Rattle.std.specs.Prelude.{◌≡◌, ℕ, ◌+◌, ◌<◌, ◌≤◌, ◌&&◌, ◌==◌, true, false, [], ◌∷◌};
 ghost use Rattle.vm_model.specs.Contents.Content.{pages_of, sole, IsGood};
 ghost use Rattle.vm_model.specs.Contents.Owning.{need_each};
-ghost use Rattle.vm_model.specs.Contents.Writing.{touched};
-ghost use Rattle.vm_model.specs.Machine.Access.{access_refusal, page_shown, pages_shown};
+ghost use Rattle.vm_model.specs.Machine.Access.{page_shown};
 ghost use Rattle.vm_model.specs.Space.Readiness.{frame_at};
-ghost use Rattle.vm_model.specs.Space.Rights.{writing};
-ghost use Rattle.mapping_set.specs.Tables.{table_of};
 ghost use Rattle.checker_pages.specs.Eager.{eager_content};
-ghost use Rattle.checker_access.specs.inside.Pages.{LiesInVmo, need_after, HaveOneFrame};
+ghost use Rattle.checker_access.specs.inside.Pages.{LiesInVmo, LieInVmos, pages_found, need_after, HaveOneFrame};
 
+use crate::finding::Found;
 use checker_pages::CheckerPages;
-use mapping_set::MappingSet;
-use vm_base::{PAGE, PageNo, RegionName, in_page, page_of};
 use vm_model::Entry;
 
-/// Returns the number of frames that it takes to own the pages that a write of `len` bytes touches, one after another. No
-/// page refuses it.
-pub(crate) fn frames_to_write(
-    pages: &CheckerPages,
-    maps: &MappingSet,
-    region: RegionName,
-    addr: u64,
-    len: u64,
-) -> u64
+/// Returns the number of frames that it takes to own the pages that a write touches, one after another.
+pub(crate) fn frames_to_own(pages: &CheckerPages, found: Found) -> u64
     requires good { IsGood (eager_content pages.now) }
-    requires len { len ≤ DATA_BYTES }
-    requires may { access_refusal (eager_content pages.now) writing (table_of maps.now region.0) (touched addr len) ≡ None }
-    ensures { result ≡ need_each (eager_content pages.now) (pages_shown (table_of maps.now region.0) (touched addr len)) }
+    requires inside { LieInVmos (eager_content pages.now) found }
+    ensures { result ≡ need_each (eager_content pages.now) (pages_found found) }
 {
-    if len == 0 {
-        return 0;
-    }
-    let page = page_of(addr);
-    if in_page(addr) + len <= PAGE {
-        return frames_for_one(pages, entry_of(maps, region, page));
-    }
-    frames_for_two(
-        pages,
-        entry_of(maps, region, page),
-        entry_of(maps, region, page + 1),
-    )
-}
-
-/// A place in a page of an address space: `at` bytes into the page.
-#[derive(Clone, Copy)]
-pub(crate) struct PagePlace {
-    pub root: RegionName,
-    pub page: PageNo,
-    pub at: u64,
-}
-
-/// Returns the entry of a page that has one.
-pub(crate) fn entry_of(maps: &MappingSet, root: RegionName, page: PageNo) -> Entry
-    requires { IsSome (table_of maps.now root.0 page) }
-    ensures { table_of maps.now root.0 page ≡ Some result }
-{
-    match maps.at(root, page) {
-        Some(entry) => entry,
-        None => unreachable!(),
+    match found {
+        Found::No => 0,
+        Found::One(entry) => frames_for_one(pages, entry),
+        Found::Two(first, second) => frames_for_two(pages, first, second),
     }
 }
 

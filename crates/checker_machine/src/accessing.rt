@@ -10,21 +10,14 @@ ghost use Rattle.region_tree.specs.Tree.{regions_of, spaces_of};
 ghost use Rattle.checker_ready.specs.Notes.{rows_of};
 ghost use Rattle.checker_machine.specs.inside.Steps.{AreSound, IsAccess, IsOwn};
 
-use checker_access::{read, refusal_to_read, refusal_to_write, write};
+use checker_access::{Place, Span, read, write};
 use checker_ready::ReadyMap;
 use checker_vmos::CheckerVmos;
 use mapping_set::MappingSet;
 use region_ops::RegionRange;
 use region_tree::Regions;
-use vm_base::{HostMemory, RegionName};
-use vm_model::{Answer, LentBytes};
-
-/// An address of the address space of a root region.
-#[derive(Clone, Copy)]
-pub(crate) struct Place {
-    pub region: RegionName,
-    pub addr: u64,
-}
+use vm_base::HostMemory;
+use vm_model::Answer;
 
 /// Reads the bytes of a range through the mappings of an address space, into `room`, which has at least `DATA_BYTES` bytes, and
 /// lends them from there.
@@ -43,18 +36,18 @@ pub(crate) fn mem_read<'a>(
         vmos.now (spaces_of (regions_of regions.now) (table_of maps.now)) (rows_of ready.new) }
     ensures own { IsOwn result }
 {
-    let (region, addr) = (range.region, range.addr);
-    match refusal_to_read(&vmos.pages, regions, maps, region, addr, range.len) {
-        Some(refusal) => return Ok(Answer::Refused(refusal)),
-        None => {}
-    }
-    let out = &mut room[..range.len as usize];
-    match read(&vmos.pages, maps, ready, region, addr, out) {
-        Ok(faults) => Ok(Answer::Access {
-            faults,
-            bytes: LentBytes::new(out),
-        }),
-        Err(lack) => Err(lack),
+    let span = Span {
+        region: range.region,
+        addr: range.addr,
+        len: range.len,
+    };
+    let done = match read(&vmos.pages, regions, maps, ready, span, room) {
+        Ok(done) => done,
+        Err(lack) => return Err(lack),
+    };
+    match done {
+        Ok((faults, bytes)) => Ok(Answer::Access { faults, bytes }),
+        Err(refusal) => Ok(Answer::Refused(refusal)),
     }
 }
 
@@ -74,13 +67,12 @@ pub(crate) fn mem_write(
         vmos.new (spaces_of (regions_of regions.now) (table_of maps.now)) (rows_of ready.new) }
     ensures own { IsOwn result }
 {
-    let (region, addr) = (place.region, place.addr);
-    match refusal_to_write(&vmos.pages, regions, maps, region, addr, bytes) {
-        Some(refusal) => return Ok(Answer::Refused(refusal)),
-        None => {}
-    }
-    match write(&mut vmos.pages, maps, ready, region, addr, bytes) {
+    let done = match write(&mut vmos.pages, regions, maps, ready, place, bytes) {
+        Ok(done) => done,
+        Err(lack) => return Err(lack),
+    };
+    match done {
         Ok(faults) => Ok(Answer::Faults(faults)),
-        Err(lack) => Err(lack),
+        Err(refusal) => Ok(Answer::Refused(refusal)),
     }
 }

@@ -14,7 +14,7 @@ ghost use Rattle.checker_machine.specs.inside.Steps.{AreSound, outcome_reply, Is
 ghost use Rattle.checker_machine.specs.inside.Groups.{checker_group_of};
 ghost use Rattle.checker_machine.specs.declared.groups.Group.{Group};
 
-use crate::accessing::{Place, mem_read, mem_write};
+use crate::accessing::{mem_read, mem_write};
 use crate::asking::{vmo_info, vmo_read, vmo_size};
 use crate::changing::{vmo_commit, vmo_decommit, vmo_fill, vmo_set_size, vmo_write, vmo_zero};
 use crate::mappings::{list_maps, vmar_map, vmar_protect, vmar_unmap};
@@ -23,6 +23,7 @@ use crate::pinning::{NamedRange, vmo_pin, vmo_unpin};
 use crate::requests::{RegionCommand, region_command};
 use crate::spaces::{root_create, vmar_allocate, vmar_destroy};
 use attribution::stat;
+use checker_access::Place;
 use checker_ready::ReadyMap;
 use checker_vmos::CheckerVmos;
 use mapping_set::MappingSet;

@@ -1,32 +1,63 @@
 -- The pages that an access touches, one by one.
-use Rattle.std.specs.Prelude.{◌≡◌, ℕ, ◌<◌, ◌≤◌, Bool, not, is_some, if◌then◌else◌, List, [], ◌∷◌, take, drop, Option, Some}
+use Rattle.std.specs.Prelude.{◌≡◌, ℕ, ◌+◌, ◌/◌, ◌%◌, ◌<◌, ◌≤◌, Bool, not, is_some, if◌then◌else◌, List, [], ◌∷◌, take, drop, Option, None, Some, Result, MatchResult, ⊤}
+use Rattle.vm_base.specs.declared.limits.TheConstants.{PAGE}
+use Rattle.vm_base.specs.declared.refusal.Refusal.{Refusal}
 use Rattle.vm_model.specs.declared.space.Entry.{Entry}
 use Rattle.vm_model.specs.declared.space.Readiness.{Readiness}
 use Rattle.vm_model.specs.declared.space.Readiness.TheVariants.{Read, Write}
-use Rattle.vm_model.specs.Contents.Content.{Content, pages_of, shown, hold}
+use Rattle.vm_model.specs.Contents.Content.{Content, pages_of, shown, used, hold}
 use Rattle.vm_model.specs.Contents.Owning.{VmoPage, need_each}
-use Rattle.vm_model.specs.Contents.Writing.{part_at, part_bytes, WritesPiece}
+use Rattle.vm_model.specs.Contents.Writing.{touched, part_at, part_bytes}
 use Rattle.vm_model.specs.Space.Readiness.{Ready, is_writable, with_ready, frame_at, frame_number}
-use Rattle.vm_model.specs.Machine.Access.{Memory, WritesPage}
-use Rattle.pages.specs.Needs.{MayOwn}
+use Rattle.vm_model.specs.Machine.Access.{Memory, WritesPage, page_shown}
 use Rattle.checker_ready.specs.declared.ready_map.ReadyPage.{ReadyPage}
 use Rattle.checker_ready.specs.Notes.{ReadyRows, ready_in, with_ready_row, kept_rows, agrees, NotesAreTrue}
+use Rattle.checker_access.specs.declared.finding.Found.{Found}
+use Rattle.checker_access.specs.declared.finding.Found.TheVariants.{No, One, Two}
 
 -- page p of an address space has this entry, and what it shows lies in its VMO
 pub record IsMappedInside (c : Content) (table : ℕ → ℕ → Option Entry) (root p : ℕ) (entry : Entry) : Type 0 where
   pub is : table root p ≡ Some entry
   pub below : entry.page < pages_of c entry.koid.0
 
--- Page p of an address space shows a page that lies in its VMO.
-pub record ShowsPage (c : Content) (table : ℕ → ℕ → Option Entry) (root p : ℕ) : Type 0 where
-  pub entry : Entry
-  pub shows : IsMappedInside c table root p entry
+-- an access to so many bytes touches no page
+pub record FindsNone (addr len : ℕ) : Type 0 where
+  pub none : len ≡ 0
+  pub pages : touched addr len ≡ []
 
--- Page p of an address space shows a page that may be owned.
-pub record MayWrite (c : Content) (table : ℕ → ℕ → Option Entry) (root p : ℕ) : Type 0 where
-  pub entry : Entry
-  pub shows : IsMappedInside c table root p entry
-  pub own : MayOwn c entry.koid.0 entry.page
+-- it touches one page, which has this entry
+pub record FindsOne (c : Content) (table : ℕ → ℕ → Option Entry) (root addr len : ℕ) (entry : Entry) : Type 0 where
+  pub fits : addr % PAGE + len ≤ PAGE
+  pub pages : touched addr len ≡ (addr / PAGE) ∷ []
+  pub shows : IsMappedInside c table root (addr / PAGE) entry
+
+-- it touches two pages, which have these entries
+pub record FindsTwo (c : Content) (table : ℕ → ℕ → Option Entry) (root addr len : ℕ) (first second : Entry) : Type 0 where
+  pub passes : PAGE < addr % PAGE + len
+  pub pages : touched addr len ≡ (addr / PAGE) ∷ (addr / PAGE + 1) ∷ []
+  pub first_shows : IsMappedInside c table root (addr / PAGE) first
+  pub second_shows : IsMappedInside c table root (addr / PAGE + 1) second
+
+-- these are the pages that an access to so many bytes touches, and what each shows lies in its VMO
+abbrev pub AreTouched : Content → (ℕ → ℕ → Option Entry) → (root addr len : ℕ) → Found → Type 0
+AreTouched c table root addr len No = FindsNone addr len
+AreTouched c table root addr len (One entry) = FindsOne c table root addr len entry
+AreTouched c table root addr len (Two first second) = FindsTwo c table root addr len first second
+
+-- the pages are found if this refuses nothing, and else what it refuses
+abbrev pub FindsTouched : Content → (ℕ → ℕ → Option Entry) → (root addr len : ℕ) → Option Refusal → Result Found Refusal → Type 0
+FindsTouched c table root addr len refusal outcome =
+    MatchResult outcome (λ found. (None ≡ refusal) × AreTouched c table root addr len found) (λ denied. Some denied ≡ refusal)
+
+-- the pages of VMOs that are shown
+abbrev pub pages_found : Found → List VmoPage
+pages_found No = []
+pages_found (One entry) = page_shown entry ∷ []
+pages_found (Two first second) = page_shown first ∷ page_shown second ∷ []
+
+-- so many frames are free that the pages that are shown can be owned, one after another
+abbrev pub HasFramesFor : Content → Found → Type 0
+HasFramesFor c found = used c + need_each c (pages_found found) ≤ c.frames
 
 -- a page is not ready for this
 abbrev pub is_unready : (wanted : Readiness) → Option Readiness → Bool
@@ -36,6 +67,12 @@ is_unready Write readiness = not (is_writable readiness)
 -- the page of a VMO that an entry shows lies in the VMO
 abbrev pub LiesInVmo : Content → Entry → Type 0
 LiesInVmo c entry = entry.page < pages_of c entry.koid.0
+
+-- so does each that is shown
+abbrev pub LieInVmos : Content → Found → Type 0
+LieInVmos c No = ⊤
+LieInVmos c (One entry) = LiesInVmo c entry
+LieInVmos c (Two first second) = LiesInVmo c first × LiesInVmo c second
 
 -- how many frames it takes to own a page, once another was owned that is not sole
 unfoldable pub need_after : Content → (first second : VmoPage) → ℕ
@@ -89,6 +126,4 @@ memory_with c rows = record { content = c; ready = ready_in rows }
 pub record WritesPart (table : ℕ → ℕ → Option Entry) (root p at : ℕ) (part : List ℕ) (old : Content) (rows : ReadyRows) (new : Content) (later : ReadyRows) : Type 0 where
   pub writes : (addr : ℕ) (bytes : List ℕ) → at ≡ part_at addr p → part ≡ part_bytes addr bytes p
       → WritesPage table root addr bytes p (memory_with old rows) (memory_with new later)
-  pub piece : (entry : Entry) → table root p ≡ Some entry
-      → WritesPiece old (record { koid = entry.koid.0; page = entry.page; at = at; bytes = part }) new
   pub are_true : NotesAreTrue new table later

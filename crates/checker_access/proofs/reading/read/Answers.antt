@@ -1,41 +1,47 @@
-use Rattle.std.proofs.Common.{length, [], eqb-true, sym, subst, ◌∙◌, arith}
-use Rattle.std.proofs.lemmas.Bool.{eqb-false}
-use Rattle.vm_model.specs.declared.command.Command.TheVariants.{MemRead}
-use Rattle.vm_model.specs.declared.reply.Reply.TheVariants.{Access}
-use Rattle.vm_model.specs.Space.Rights.{reading}
+use Rattle.std.proofs.Common.{◌≡◌, ℕ, length, take, sym, ap, subst, ◌∙◌, arith}
+use Rattle.std.proofs.lemmas.List.{length-take}
 use Rattle.mapping_set.specs.Tables.{table_of}
 use Rattle.checker_pages.specs.Eager.{eager_content}
-use Rattle.checker_ready.specs.Notes.{ReadyRows, rows_of}
-use Rattle.checker_access.specs.Accesses.{HasAccessEffect}
-use Rattle.checker_access.specs.inside.Pages.{ReadsBytesOfPage}
-use Rattle.checker_access.proofs.AskLaws.{may_read, shows_first, touches_one}
-use Rattle.checker_access.proofs.ReadLaws.{HasAccessEffect-none, HasAccessEffect-one}
+use Rattle.checker_ready.specs.Notes.{rows_of, NotesAreTrue}
+use Rattle.checker_access.specs.inside.Pages.{IsMappedInside, FindsTwo, AreTouched}
+use Rattle.checker_access.proofs.ReadLaws.{effect_lent, effect_none, effect_one}
 use Rattle.checker_access.proofs.reading.read.Goals as goal
 
-pub returns-then-is_empty-clause-read : goal.returns-then-is_empty-clause-read
-returns-then-is_empty-clause-read c =
-    HasAccessEffect-none (table_of c.args.maps.now) (eager_content c.args.pages.now) (rows_of c.args.ready.now) c.args.region c.args.addr c.args.out.now
-    (eqb-true _ 0 (sym c.is_empty.ensures ∙ c.if-is_empty.true))
+pub returns-in-No-clause-read : goal.returns-in-No-clause-read
+returns-in-No-clause-read c =
+    let same : length (take c.args.span.len c.args.room.now) ≡ c.args.span.len = omega (arith, c.in-Ok.ensures.1, c.requires.room, length-take c.args.span.len c.args.room.now) in
+    record {
+      free = c.in-Ok.ensures.0;
+      effect = effect_none (table_of c.args.maps.now) (eager_content c.args.pages.now) (rows_of c.args.ready.now) c.args.span.region c.args.span.addr c.args.span.len
+          c.new.result (ap length c.new.ensures ∙ same) (subst (AreTouched (eager_content c.args.pages.now) (table_of c.args.maps.now) c.args.span.region.0 c.args.span.addr c.args.span.len) c.in-No.is c.in-Ok.ensures.2);
+    }
 
-pub read_page-requires-clause-shows : goal.read_page-requires-clause-shows
-read_page-requires-clause-shows c =
-    let some = eqb-false (length c.args.out.now) 0 (sym c.is_empty.ensures ∙ c.if-is_empty.false) in
-    let one = touches_one c.args.addr (length c.args.out.now) c.page_of.result c.page_of.ensures (omega (arith, some)) (omega (arith, c.if-in_page-out-le-PAGE.true, c.in_page.ensures)) in
-    let free = may_read (eager_content c.args.pages.now) (table_of c.args.maps.now) c.args.region c.args.addr (length c.args.out.now) c.requires.may in
-    shows_first (eager_content c.args.pages.now) reading (table_of c.args.maps.now) c.args.region.0 c.page_of.result [] (rw one at free)
+pub returns-in-Ok-reserve-clause-read : goal.returns-in-Ok-reserve-clause-read
+returns-in-Ok-reserve-clause-read c =
+    let same : length (take c.args.span.len c.args.room.now) ≡ c.args.span.len = omega (arith, c.in-Ok.ensures.1, c.requires.room, length-take c.args.span.len c.args.room.now) in
+    let one = subst (AreTouched (eager_content c.args.pages.now) (table_of c.args.maps.now) c.args.span.region.0 c.args.span.addr c.args.span.len) c.in-One.is c.in-Ok.ensures.2 in
+    let reads = c.read_page-faults.ensures.reads (table_of c.args.maps.now)
+    (subst (NotesAreTrue (eager_content c.args.pages.now) (table_of c.args.maps.now)) (sym c.in-Ok-reserve.ensures.same) c.requires.true_rows)
+    (subst (λ (p : ℕ). IsMappedInside (eager_content c.args.pages.now) (table_of c.args.maps.now) c.args.span.region.0 p c.in-One.entry) (sym c.page_of.ensures) one.shows) in
+    record {
+      free = c.in-Ok.ensures.0;
+      effect = effect_lent (table_of c.args.maps.now) (eager_content c.args.pages.now) (rows_of c.args.ready.now) c.args.span.region c.args.span.addr c.args.span.len
+          (length (take c.args.span.len c.args.room.now)) c.read_page-faults.result c.new-in-One.result c.read_page-faults.new.out (rows_of c.reserve.new.self) (rows_of c.read_page-faults.new.ready) same c.new-in-One.ensures
+          c.in-Ok-reserve.ensures.same
+          (effect_one (table_of c.args.maps.now) (eager_content c.args.pages.now) (rows_of c.reserve.new.self) c.args.span.region c.args.span.addr c.requires.backed.good c.args.span.len _ _ _ _ _ _ _ same
+          c.page_of.ensures c.in_page.ensures one reads);
+    }
 
-pub returns-then-in_page-out-le-PAGE-clause-read : goal.returns-then-in_page-out-le-PAGE-clause-read
-returns-then-in_page-out-le-PAGE-clause-read c =
-    let some = eqb-false (length c.args.out.now) 0 (sym c.is_empty.ensures ∙ c.if-is_empty.false) in
-    let one = touches_one c.args.addr (length c.args.out.now) c.page_of.result c.page_of.ensures (omega (arith, some)) (omega (arith, c.if-in_page-out-le-PAGE.true, c.in_page.ensures)) in
-    let at = c.in_page-then-in_page-out-le-PAGE in
-    HasAccessEffect-one (table_of c.args.maps.now) (eager_content c.args.pages.now) (rows_of c.args.ready.now) c.args.region c.args.addr c.requires.backed.good
-    c.page_of.result at.result (length c.args.out.now) c.read_page.result c.read_page.new.out (rows_of c.read_page.new.ready) c.page_of.ensures at.ensures
-    (omega (arith, c.if-in_page-out-le-PAGE.true, c.in_page.ensures, at.ensures))
-    (subst (λ (rows : ReadyRows). ReadsBytesOfPage (eager_content c.args.pages.now) (table_of c.args.maps.now) c.args.region.0 c.page_of.result at.result (length c.args.out.now) rows
-    c.read_page.result c.read_page.new.out (rows_of c.read_page.new.ready)) c.in-Ok.ensures.same c.read_page.ensures.reads) one
-
-pub returns-else-in_page-out-le-PAGE-clause-read : goal.returns-else-in_page-out-le-PAGE-clause-read
-returns-else-in_page-out-le-PAGE-clause-read c =
-    subst (λ (rows : ReadyRows). HasAccessEffect (table_of c.args.maps.now) (eager_content c.args.pages.now) rows (MemRead c.args.region c.args.addr (length c.args.out.now))
-    (Access c.read_in_two.result c.read_in_two.new.out) (eager_content c.args.pages.now) (rows_of c.read_in_two.new.ready)) c.in-Ok.ensures.same c.read_in_two.ensures.read
+pub returns-in-Ok-reserve-2-clause-read : goal.returns-in-Ok-reserve-2-clause-read
+returns-in-Ok-reserve-2-clause-read c =
+    let same : length (take c.args.span.len c.args.room.now) ≡ c.args.span.len = omega (arith, c.in-Ok.ensures.1, c.requires.room, length-take c.args.span.len c.args.room.now) in
+    let two = subst (AreTouched (eager_content c.args.pages.now) (table_of c.args.maps.now) c.args.span.region.0 c.args.span.addr c.args.span.len) c.in-Two.is c.in-Ok.ensures.2 in
+    let reads = c.read_in_two-faults.ensures.read (table_of c.args.maps.now) c.requires.backed.good
+    (subst (NotesAreTrue (eager_content c.args.pages.now) (table_of c.args.maps.now)) (sym c.in-Ok-reserve-2.ensures.same) c.requires.true_rows)
+    (subst (λ (n : ℕ). FindsTwo (eager_content c.args.pages.now) (table_of c.args.maps.now) c.args.span.region.0 c.args.span.addr n c.in-Two.first c.in-Two.second) (sym same) two) in
+    record {
+      free = c.in-Ok.ensures.0;
+      effect = effect_lent (table_of c.args.maps.now) (eager_content c.args.pages.now) (rows_of c.args.ready.now) c.args.span.region c.args.span.addr c.args.span.len
+          (length (take c.args.span.len c.args.room.now)) c.read_in_two-faults.result c.new-in-Two.result c.read_in_two-faults.new.out (rows_of c.reserve-in-Two.new.self) (rows_of c.read_in_two-faults.new.ready) same c.new-in-Two.ensures
+          c.in-Ok-reserve-2.ensures.same reads.0;
+    }
