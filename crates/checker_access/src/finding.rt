@@ -29,7 +29,7 @@ pub(crate) enum Found {
     Two(Entry, Entry),
 }
 
-/// FindsTouched the entries of the pages that a read of `len` bytes touches, or what refuses it (`refusal_to_read`).
+/// Finds the entries of the pages that a read of `len` bytes touches, or what refuses it (`refusal_to_read`).
 #[tactic(auto, unfolding(vm_model::specs::Space::Regions::region_of))]
 pub(crate) fn find_to_read(
     pages: &CheckerPages,
@@ -62,7 +62,7 @@ pub(crate) fn find_to_read(
     }
 }
 
-/// FindsTouched the entries of the pages that a write of bytes touches, or what refuses it (`refusal_to_write`).
+/// Finds the entries of the pages that a write of bytes touches, or what refuses it (`refusal_to_write`).
 #[tactic(auto, unfolding(vm_model::specs::Space::Regions::region_of))]
 pub(crate) fn find_to_write(
     pages: &CheckerPages,
@@ -97,7 +97,7 @@ pub(crate) fn find_to_write(
     }
 }
 
-// FindsTouched the pages that a read of `len` bytes touches, or what refuses it on them.
+// Finds the pages that a read of `len` bytes touches, or what refuses it on them.
 fn find_readable(
     pages: &CheckerPages,
     maps: &MappingSet,
@@ -113,7 +113,7 @@ fn find_readable(
     find(pages, maps, region, addr, len, Perm::READ)
 }
 
-// FindsTouched the pages that a write of `len` bytes touches, or what refuses it on them. They are two at most, so the frames that
+// Finds the pages that a write of `len` bytes touches, or what refuses it on them. They are two at most, so the frames that
 // it takes are counted only if fewer than two are free.
 fn find_writable(
     pages: &CheckerPages,
@@ -142,7 +142,7 @@ fn find_writable(
     Ok(found)
 }
 
-// FindsTouched the pages that an access to `len` bytes touches, or what refuses it. It needs this right. The first page on which it
+// Finds the pages that an access to `len` bytes touches, or what refuses it. It needs this right. The first page on which it
 // is refused decides.
 fn find(
     pages: &CheckerPages,
@@ -174,7 +174,7 @@ fn find(
     }
 }
 
-// FindsTouched the entry of a page, or what refuses an access there that needs this right.
+// Finds the entry of a page, or what refuses an access there that needs this right.
 #[tactic(auto, using(vm_model::proofs::ThroughLaws::check_laws), unfolding(vm_model::specs::Machine::Access::refusal_at))]
 fn find_page(
     pages: &CheckerPages,
