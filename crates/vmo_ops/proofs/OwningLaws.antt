@@ -38,6 +38,12 @@ pub IsOwning-start : (run : Run) (v : ℕ) (old : Content) (offset len first end
     → IsOwning run v old (touched offset len) old first end spare
 IsOwning-start = grind (arith, IsUnderWay-start, need-count, length-range_with_len)
 
+-- no page of a row is owned yet
+pub IsOwning-row : (run : Run) (v : ℕ) (old : Content) (first end spare : ℕ) → IsGood old → end ≤ pages_of old v → first ≤ end
+    → HasRows old v (range_with_len first (end - first)) spare → used old + need old v (range_with_len first (end - first)) ≤ old.frames
+    → IsOwning run v old (range_with_len first (end - first)) old first end spare
+IsOwning-row = grind (arith, IsUnderWay-start, need-count, length-range_with_len)
+
 module _ {run : Run} {v : ℕ} {old : Content} {all : List ℕ} {now : Content} {from end spare : ℕ}
     (owning : IsOwning run v old all now from end spare) where
   -- no page is left

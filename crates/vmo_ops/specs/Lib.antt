@@ -1,3 +1,4 @@
+pub mod Ranges
 pub mod Targets
 pub mod Costs
 pub mod inside

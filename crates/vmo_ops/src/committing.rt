@@ -1,17 +1,17 @@
 //! Committing pages (`ZX_VMO_OP_COMMIT`).
 
-ghost use Rattle.std.specs.Prelude.{◌+◌, ◌*◌, ◌≤◌};
+ghost use Rattle.std.specs.Prelude.{◌+◌, ◌*◌, ◌≤◌, IfOk};
 ghost use Rattle.vm_model.specs.declared.command.Command.{Command};
 ghost use Rattle.vm_model.specs.declared.reply.Reply.{Reply};
 ghost use Rattle.vm_model.specs.Contents.Content.{pages_of, used, IsGood};
 ghost use Rattle.vm_model.specs.Contents.Owning.{need, OwnsAll};
-ghost use Rattle.vm_model.specs.Contents.Writing.{touched};
 ghost use Rattle.vm_model.specs.Machine.Step.{reply_of};
 ghost use Rattle.pages.specs.Names.{IsInside};
 ghost use Rattle.vmo_ops.specs.Costs.{HasRows};
+ghost use Rattle.vmo_ops.specs.Ranges.{touched_row, AreTouched};
 ghost use Rattle.vmo_ops.specs.Targets.{DoesByName};
 
-use crate::ranges::touched_pages;
+use crate::ranges::TouchedPages;
 use crate::ready::ready_to_own;
 use pages::Pages;
 use vm_base::{Koid, PAGE, Refusal};
@@ -30,24 +30,45 @@ pub fn commit<P: Pages>(store: &mut P, t: &Target, offset: u64, len: u64) -> Res
     ensures { DoesByName (λ name. Command.VmoCommit name offset len) t.now (P.content store.old)
         (reply_of (λ _. Reply.Done) result) (P.content store.new) }
 {
-    let at = match ready_to_own(store, t, offset, len) {
-        Ok(at) => at,
-        Err(refusal) => return Err(refusal),
-    };
-    own_pages(store, t.koid, at, len);
-    Ok(())
+    match commit_touching(store, t, offset, len) {
+        Ok(_) => Ok(()),
+        Err(refusal) => Err(refusal),
+    }
 }
 
-// Owns the pages that a range inside the VMO touches. There is room for it.
-fn own_pages<P: Pages>(store: &mut P, v: Koid, offset: u64, len: u64)
+/// Does what `commit` does, and answers the pages of the VMO that the range touches.
+#[inline(always)]
+pub fn commit_touching<P: Pages>(
+    store: &mut P,
+    t: &Target,
+    offset: u64,
+    len: u64,
+) -> Result<TouchedPages, Refusal>
     requires good { IsGood (P.content store.old) }
-    requires inside { offset + len ≤ pages_of (P.content store.old) v.0 * PAGE }
-    requires room { HasRows (P.content store.old) v.0 (touched offset len) (P.spare store.old) }
-    requires free { used (P.content store.old) + need (P.content store.old) v.0 (touched offset len)
-        ≤ (P.content store.old).frames }
-    ensures { OwnsAll (P.content store.old) v.0 (touched offset len) (P.content store.new) }
+    requires inside { IsInside (P.content store.old) t.now }
+    ensures step { DoesByName (λ name. Command.VmoCommit name offset len) t.now (P.content store.old)
+        (reply_of (λ _. Reply.Done) result) (P.content store.new) }
+    ensures touched { IfOk result (λ pages. AreTouched (t.now.first * PAGE + offset) len pages) }
 {
-    let (first, end) = touched_pages(offset, len);
+    let range = match ready_to_own(store, t, offset, len) {
+        Ok(range) => range,
+        Err(refusal) => return Err(refusal),
+    };
+    own_pages(store, t.koid, range.pages);
+    Ok(range.pages)
+}
+
+// Owns pages of a VMO. There is room for it.
+fn own_pages<P: Pages>(store: &mut P, v: Koid, pages: TouchedPages)
+    requires good { IsGood (P.content store.old) }
+    requires order { pages.first ≤ pages.end }
+    requires inside { pages.end ≤ pages_of (P.content store.old) v.0 }
+    requires room { HasRows (P.content store.old) v.0 (touched_row pages) (P.spare store.old) }
+    requires free { used (P.content store.old) + need (P.content store.old) v.0 (touched_row pages)
+        ≤ (P.content store.old).frames }
+    ensures { OwnsAll (P.content store.old) v.0 (touched_row pages) (P.content store.new) }
+{
+    let TouchedPages { first, end } = pages;
     for page in first..end {
         store.own(v, page);
     }

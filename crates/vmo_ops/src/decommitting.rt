@@ -1,6 +1,6 @@
 //! Giving frames of pages back (`ZX_VMO_OP_DECOMMIT`).
 
-ghost use Rattle.std.specs.Prelude.{◌≡◌, ◌+◌, ◌*◌, ◌/◌, ◌%◌, ◌≤◌, false, None, Some, IsSome, MatchResult};
+ghost use Rattle.std.specs.Prelude.{◌≡◌, ◌+◌, ◌*◌, ◌/◌, ◌%◌, ◌≤◌, false, None, Some, IsSome, IfOk, MatchResult};
 ghost use Rattle.vm_base.specs.declared.names.VmoName.{VmoName};
 ghost use Rattle.vm_model.specs.declared.command.Command.{Command};
 ghost use Rattle.vm_model.specs.declared.reply.Reply.{Reply};
@@ -12,9 +12,10 @@ ghost use Rattle.vm_model.specs.Machine.Step.{Step, reply_of};
 ghost use Rattle.vmo_table.specs.Table.{names_of, IsNamed};
 ghost use Rattle.pin_table.specs.Table.{pins_of};
 ghost use Rattle.vmo_ops.specs.Costs.{held_touched};
+ghost use Rattle.vmo_ops.specs.Ranges.{AreTouched};
 ghost use Rattle.vmo_ops.specs.Targets.{AreTogether, with_tables, IsPlaced, IsRefusalIn};
 
-use crate::ranges::{is_whole, place_in_vmo};
+use crate::ranges::{TouchedPages, is_whole, place_in_vmo, touched_by};
 use crate::ready::RangeToChange;
 use crate::zeroing::{room_to_zero, rows_to_clear, zero_pages};
 use pages::Pages;
@@ -45,16 +46,40 @@ pub fn decommit<P: Pages>(
         Step (with_tables s (P.content store.old) vmos.now pins.now) (Command.VmoDecommit name offset len)
         (reply_of (λ _. Reply.Done) result) (with_tables s (P.content store.new) vmos.now pins.now) }
 {
+    match decommit_touching(store, vmos, pins, t, offset, len) {
+        Ok(_) => Ok(()),
+        Err(refusal) => Err(refusal),
+    }
+}
+
+/// Does what `decommit` does, and answers the pages of the VMO that the range touches.
+#[inline(always)]
+pub fn decommit_touching<P: Pages>(
+    store: &mut P,
+    vmos: &VmoTable,
+    pins: &PinTable,
+    t: &Target,
+    offset: u64,
+    len: u64,
+) -> Result<TouchedPages, Refusal>
+    requires parts { AreTogether (P.content store.old) vmos.now pins.now }
+    requires named { IsNamed (names_of vmos.now) t.now }
+    ensures step { (s : State) (name : VmoName) → names_of vmos.now name.0 ≡ Some t.now →
+        Step (with_tables s (P.content store.old) vmos.now pins.now) (Command.VmoDecommit name offset len)
+        (reply_of (λ _. Reply.Done) result) (with_tables s (P.content store.new) vmos.now pins.now) }
+    ensures touched { IfOk result (λ pages. AreTouched (t.now.first * PAGE + offset) len pages) }
+{
     let at = match ask_to_decommit(store, vmos, pins, t, offset, len) {
         Ok(at) => at,
         Err(refusal) => return Err(refusal),
     };
-    let rows = rows_to_clear(store, pins, t.koid, at, len);
-    let Ok(()) = room_to_zero(store, pins, t.koid, RangeToChange { at, rows }, len) else {
+    let pages = touched_by(at, len);
+    let rows = rows_to_clear(store, pins, t.koid, at, len, pages);
+    let Ok(()) = room_to_zero(store, pins, t.koid, RangeToChange { at, pages, rows }, len) else {
         return Err(Refusal::HostMemory);
     };
-    clear_pages(store, pins, t.koid, at, len);
-    Ok(())
+    clear_pages(store, pins, t.koid, at, len, pages);
+    Ok(pages)
 }
 
 /// Finds the place in the VMO, in bytes, of a range whose frames are to be given back. Refusals as for `decommit`, without
@@ -96,7 +121,15 @@ pub fn ask_to_decommit<P: Pages>(
 
 // Makes the pages of a range of whole pages zero. None of them is pinned, and there is room for it.
 #[tactic(auto, using(crate::proofs::DecommitLaws::clear_laws))]
-fn clear_pages<P: Pages>(store: &mut P, pins: &PinTable, v: Koid, offset: u64, len: u64)
+fn clear_pages<P: Pages>(
+    store: &mut P,
+    pins: &PinTable,
+    v: Koid,
+    offset: u64,
+    len: u64,
+    pages: TouchedPages,
+)
+    requires touched { AreTouched offset len pages }
     requires good { IsGood (P.content store.old) }
     requires vmo { IsSome ((P.content store.old).count v.0) }
     requires inside { offset + len ≤ pages_of (P.content store.old) v.0 * PAGE }
@@ -105,5 +138,5 @@ fn clear_pages<P: Pages>(store: &mut P, pins: &PinTable, v: Koid, offset: u64, l
     requires room { held_touched (P.content store.old) v.0 offset len ≤ P.spare store.old }
     ensures { P.content store.new ≡ zeroed (P.content store.old) v.0 (offset / PAGE) ((offset + len) / PAGE) }
 {
-    zero_pages(store, pins, v, offset, len);
+    zero_pages(store, pins, v, offset, len, pages);
 }

@@ -1,6 +1,6 @@
 //! Filling a range with one byte.
 
-ghost use Rattle.std.specs.Prelude.{◌≡◌, ℕ, ◌+◌, ◌*◌, ◌<◌, ◌≤◌, ◌⊎◌, true, min, length, replicate};
+ghost use Rattle.std.specs.Prelude.{◌≡◌, ℕ, ◌+◌, ◌*◌, ◌<◌, ◌≤◌, ◌⊎◌, true, min, length, replicate, IfOk};
 ghost use Rattle.vm_model.specs.declared.command.Command.{Command};
 ghost use Rattle.vm_model.specs.declared.reply.Reply.{Reply};
 ghost use Rattle.vm_model.specs.Contents.Content.{pages_of, sole, used, IsGood};
@@ -9,9 +9,10 @@ ghost use Rattle.vm_model.specs.Contents.Writing.{touched, pieces, WritesPiece, 
 ghost use Rattle.vm_model.specs.Machine.Step.{reply_of};
 ghost use Rattle.pages.specs.Names.{IsInside};
 ghost use Rattle.vmo_ops.specs.Costs.{HasRows};
+ghost use Rattle.vmo_ops.specs.Ranges.{AreTouched};
 ghost use Rattle.vmo_ops.specs.Targets.{DoesByName};
 
-use crate::ranges::{PagePart, part_in_page, touched_pages};
+use crate::ranges::{PagePart, TouchedPages, part_in_page};
 use crate::ready::ready_to_own;
 use crate::writing::write_part;
 use pages::Pages;
@@ -35,22 +36,51 @@ pub fn fill<P: Pages>(
     ensures { DoesByName (λ name. Command.VmoFill name offset len byte) t.now (P.content store.old)
         (reply_of (λ _. Reply.Done) result) (P.content store.new) }
 {
-    let at = match ready_to_own(store, t, offset, len) {
-        Ok(at) => at,
+    match fill_touching(store, t, offset, len, byte) {
+        Ok(_) => Ok(()),
+        Err(refusal) => Err(refusal),
+    }
+}
+
+/// Does what `fill` does, and answers the pages of the VMO that the range touches.
+#[inline(always)]
+pub fn fill_touching<P: Pages>(
+    store: &mut P,
+    t: &Target,
+    offset: u64,
+    len: u64,
+    byte: u8,
+) -> Result<TouchedPages, Refusal>
+    requires good { IsGood (P.content store.old) }
+    requires inside { IsInside (P.content store.old) t.now }
+    ensures step { DoesByName (λ name. Command.VmoFill name offset len byte) t.now (P.content store.old)
+        (reply_of (λ _. Reply.Done) result) (P.content store.new) }
+    ensures touched { IfOk result (λ pages. AreTouched (t.now.first * PAGE + offset) len pages) }
+{
+    let range = match ready_to_own(store, t, offset, len) {
+        Ok(range) => range,
         Err(refusal) => return Err(refusal),
     };
     if len <= SHORT_FILL as u64 {
-        fill_pages::<P, SHORT_FILL>(store, t.koid, at, len, byte);
+        fill_pages::<P, SHORT_FILL>(store, t.koid, range.at, len, byte, range.pages);
     } else {
-        fill_pages::<P, PAGE_BYTES>(store, t.koid, at, len, byte);
+        fill_pages::<P, PAGE_BYTES>(store, t.koid, range.at, len, byte, range.pages);
     }
-    Ok(())
+    Ok(range.pages)
 }
 
 // Fills a range inside the VMO, page by page, from a buffer of `N` bytes. There is room for it. The function is not
 // inlined: a function writes all of its locals, and a short fill should not pay for a page.
 #[inline(never)]
-fn fill_pages<P: Pages, const N: usize>(store: &mut P, v: Koid, offset: u64, len: u64, byte: u8)
+fn fill_pages<P: Pages, const N: usize>(
+    store: &mut P,
+    v: Koid,
+    offset: u64,
+    len: u64,
+    byte: u8,
+    pages: TouchedPages,
+)
+    requires touched { AreTouched offset len pages }
     requires good { IsGood (P.content store.old) }
     requires inside { offset + len ≤ pages_of (P.content store.old) v.0 * PAGE }
     requires buffer { min len PAGE ≤ N }
@@ -61,7 +91,7 @@ fn fill_pages<P: Pages, const N: usize>(store: &mut P, v: Koid, offset: u64, len
     ensures { Writes (P.content store.old) (pieces v.0 offset (replicate len byte)) (P.content store.new) }
 {
     let bytes = [byte; N];
-    let (first, end) = touched_pages(offset, len);
+    let TouchedPages { first, end } = pages;
     for page in first..end {
         let part = part_in_page(offset, len, page);
         fill_part(store, v, page, part, &bytes);

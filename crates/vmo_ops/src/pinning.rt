@@ -19,9 +19,10 @@ ghost use Rattle.vmo_table.specs.Table.{keepers_of, lineage_in, names_of, Counts
 ghost use Rattle.pin_table.specs.Table.{pins_of, pin_room};
 ghost use Rattle.vmo_ops.specs.Costs.{HasRows};
 ghost use Rattle.vmo_ops.specs.inside.Pinning.{pin_in, IsPinnable, IsPinRange};
+ghost use Rattle.vmo_ops.specs.Ranges.{touched_row, AreTouched};
 ghost use Rattle.vmo_ops.specs.Targets.{with_pins, with_tables, IsRefusalIn};
 
-use crate::ranges::{is_whole, place_in_vmo, touched_pages};
+use crate::ranges::{is_whole, place_in_vmo, touched_by, touched_pages};
 use crate::ready::{RangeToChange, room_to_own, rows_to_own};
 use crate::requests::VmoRange;
 use pages::{Pages, drop_gone};
@@ -95,7 +96,7 @@ pub fn pin_into<'a, P: Pages>(
         Ok(range) => range,
         Err(refusal) => return Err(refusal),
     };
-    let Ok(()) = room_to_pin(store, pins, t.koid, range, len) else {
+    let Ok(()) = room_to_pin(store, pins, t.koid, range) else {
         return Err(Refusal::HostMemory);
     };
     let pinned = VmoRange {
@@ -116,6 +117,7 @@ pub fn ask_to_pin<P: Pages>(
     requires good { IsGood (P.content store.now) }
     requires inside { IsInside (P.content store.now) t.now }
     ensures ok { IfOk result (λ range. IsPinnable (P.content store.now) t.now offset len range.at range.rows) }
+    ensures touched { IfOk result (λ range. AreTouched range.at len range.pages) }
     ensures refusal { (pin : PinName) (pins : ℕ → Option Pin) → pins pin.0 ≡ None →
         let parts = with_pins (P.content store.now) pins in
         let command = λ (name : VmoName). Command.VmoPin pin name offset len in
@@ -128,8 +130,9 @@ pub fn ask_to_pin<P: Pages>(
     let Some(at) = place_in_vmo(store, t, offset, len) else {
         return Err(Refusal::OutOfRange);
     };
-    match rows_to_own(store, t.koid, at, len) {
-        Some(rows) => Ok(RangeToChange { at, rows }),
+    let pages = touched_by(at, len);
+    match rows_to_own(store, t.koid, pages) {
+        Some(rows) => Ok(RangeToChange { at, pages, rows }),
         None => Err(Refusal::NoMemory),
     }
 }
@@ -140,18 +143,18 @@ fn room_to_pin<P: Pages>(
     pins: &mut PinTable,
     v: Koid,
     range: RangeToChange,
-    len: u64,
 ) -> Result<(), HostMemory>
     requires good { IsGood (P.content store.old) }
     requires vmo { IsSome ((P.content store.old).count v.0) }
-    requires inside { range.at + len ≤ pages_of (P.content store.old) v.0 * PAGE }
-    requires rows { HasRows (P.content store.old) v.0 (touched range.at len) range.rows }
+    requires order { range.pages.first ≤ range.pages.end }
+    requires inside { range.pages.end ≤ pages_of (P.content store.old) v.0 }
+    requires rows { HasRows (P.content store.old) v.0 (touched_row range.pages) range.rows }
     ensures content { P.content store.new ≡ P.content store.old }
     ensures pins { pins_of pins.new ≡ pins_of pins.old }
-    ensures rows { OnOk result (HasRows (P.content store.old) v.0 (touched range.at len) (P.spare store.new)) }
+    ensures rows { OnOk result (HasRows (P.content store.old) v.0 (touched_row range.pages) (P.spare store.new)) }
     ensures room { OnOk result (1 ≤ pin_room pins.new) }
 {
-    let Ok(()) = room_to_own(store, v, range, len) else {
+    let Ok(()) = room_to_own(store, v, range.pages, range.rows) else {
         return Err(HostMemory);
     };
     pins.reserve()

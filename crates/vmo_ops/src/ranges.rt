@@ -6,6 +6,7 @@ ghost use Rattle.vm_model.specs.Contents.Content.{IsGood};
 ghost use Rattle.vm_model.specs.Contents.Writing.{touched, part_at};
 ghost use Rattle.vm_model.specs.Machine.State.{name_pages};
 ghost use Rattle.pages.specs.Names.{IsInside};
+ghost use Rattle.vmo_ops.specs.Ranges.{AreTouched};
 ghost use Rattle.vmo_ops.specs.Targets.{IsPlaced};
 
 use pages::{Pages, size_of_name};
@@ -61,6 +62,23 @@ pub fn touched_pages(offset: u64, len: u64) -> (PageNo, PageNo)
         page_of(offset + len + (PAGE - 1))
     };
     (first, end)
+}
+
+/// Pages of a VMO in a row: those from `first` to below `end`.
+#[derive(Clone, Copy)]
+pub struct TouchedPages {
+    pub first: PageNo,
+    pub end: PageNo,
+}
+
+/// Returns the pages that a range touches, as one value that is handed on.
+#[inline(always)]
+pub fn touched_by(offset: u64, len: u64) -> TouchedPages
+    requires { offset + len ≤ VMO_PAGES * PAGE }
+    ensures { AreTouched offset len result }
+{
+    let (first, end) = touched_pages(offset, len);
+    TouchedPages { first, end }
 }
 
 /// The part of a range of a VMO that falls into one page: `len` bytes, `at` bytes into the page and

@@ -10,19 +10,21 @@ ghost use Rattle.vm_model.specs.Contents.Owning.{need};
 ghost use Rattle.vm_model.specs.Contents.Writing.{touched};
 ghost use Rattle.pages.specs.Names.{IsInside};
 ghost use Rattle.vmo_ops.specs.Costs.{HasRows, LacksRoom};
+ghost use Rattle.vmo_ops.specs.Ranges.{touched_row, AreTouched};
 ghost use Rattle.vmo_ops.specs.Targets.{with_content, IsPlaced, IsBarred, IsRefusalIn};
 
 use crate::owning::{are_ample, need_of};
-use crate::ranges::{place_in_vmo, touched_pages};
+use crate::ranges::{TouchedPages, place_in_vmo, touched_by};
 use pages::Pages;
 use vm_base::{HostMemory, Koid, PAGE, PageNo, Refusal};
 use vmo_table::Target;
 
-/// A range of a name that may be changed: its place in the VMO, in bytes, and a number of rows of the store that is enough
-/// for the change.
+/// A range of a name that may be changed: its place in the VMO, in bytes, the pages that it touches there, and a number of
+/// rows of the store that is enough for the change.
 #[derive(Clone, Copy)]
 pub struct RangeToChange {
     pub at: u64,
+    pub pages: TouchedPages,
     pub rows: u64,
 }
 
@@ -49,32 +51,33 @@ pub(crate) fn place_to_change<P: Pages>(
     }
 }
 
-/// Makes a range of a name ready for owning its pages, and answers its place in the VMO, in bytes. It is refused as a
-/// change is, also for want of frames or of the host's memory. A refusal changes nothing.
+/// Makes a range of a name ready for owning its pages, and answers where it is in the VMO. It is refused as a change is,
+/// also for want of frames or of the host's memory. A refusal changes nothing.
 #[inline(always)]
 pub(crate) fn ready_to_own<P: Pages>(
     store: &mut P,
     t: &Target,
     offset: u64,
     len: u64,
-) -> Result<u64, Refusal>
+) -> Result<RangeToChange, Refusal>
     requires good { IsGood (P.content store.old) }
     requires inside { IsInside (P.content store.old) t.now }
     ensures same { P.content store.new ≡ P.content store.old }
     ensures err { IfErr result (λ refusal. IsBarred (P.content store.old) t.now offset len refusal
         ⊎ ((t.now.may_write ≡ true) × (at : ℕ) × IsPlaced (P.content store.old) t.now offset len at
         × LacksRoom (P.content store.old) t.now.koid.0 (touched at len) refusal)) }
-    ensures ok { IfOk result (λ at. (t.now.may_write ≡ true) × IsPlaced (P.content store.old) t.now offset len at
-        × HasRows (P.content store.old) t.now.koid.0 (touched at len) (P.spare store.new)
-        × (used (P.content store.old) + need (P.content store.old) t.now.koid.0 (touched at len)
+    ensures ok { IfOk result (λ range. (t.now.may_write ≡ true) × IsPlaced (P.content store.old) t.now offset len range.at
+        × HasRows (P.content store.old) t.now.koid.0 (touched range.at len) (P.spare store.new)
+        × (used (P.content store.old) + need (P.content store.old) t.now.koid.0 (touched range.at len)
         ≤ (P.content store.old).frames)) }
+    ensures touched { IfOk result (λ range. AreTouched range.at len range.pages) }
 {
     let range = match ask_to_own(store, t, offset, len) {
         Ok(range) => range,
         Err(refusal) => return Err(refusal),
     };
-    match room_to_own(store, t.koid, range, len) {
-        Ok(()) => Ok(range.at),
+    match room_to_own(store, t.koid, range.pages, range.rows) {
+        Ok(()) => Ok(range),
         Err(_) => Err(Refusal::HostMemory),
     }
 }
@@ -99,6 +102,7 @@ pub fn ask_to_own<P: Pages>(
         ⊎ ((t.now.may_write ≡ true) × (at : ℕ) × IsPlaced (P.content store.now) t.now offset len at
         × (refusal ≡ NoMemory) × ((P.content store.now).frames
         < used (P.content store.now) + need (P.content store.now) t.now.koid.0 (touched at len)))) }
+    ensures touched { IfOk result (λ range. AreTouched range.at len range.pages) }
     ensures refusal { let parts = with_content (P.content store.now) in
         let command = λ (name : VmoName). Command.VmoCommit name offset len in
         MatchResult result (λ range. IsRefusalIn parts t.now command None)
@@ -108,29 +112,31 @@ pub fn ask_to_own<P: Pages>(
         Ok(at) => at,
         Err(refusal) => return Err(refusal),
     };
-    match rows_to_own(store, t.koid, at, len) {
-        Some(rows) => Ok(RangeToChange { at, rows }),
+    let pages = touched_by(at, len);
+    match rows_to_own(store, t.koid, pages) {
+        Some(rows) => Ok(RangeToChange { at, pages, rows }),
         None => Err(Refusal::NoMemory),
     }
 }
 
-/// Returns how many rows of the store are enough to own the pages that a range of a VMO touches. `None` if and only if there
-/// are too few free frames. If the range is short and frames are free for all of it, no page is looked at.
+/// Returns how many rows of the store are enough to own pages of a VMO. `None` if and only if there are too few free frames.
+/// If the pages are few and frames are free for all of them, no page is looked at.
 #[inline(always)]
-pub(crate) fn rows_to_own<P: Pages>(store: &P, v: Koid, at: u64, len: u64) -> Option<u64>
+pub(crate) fn rows_to_own<P: Pages>(store: &P, v: Koid, pages: TouchedPages) -> Option<u64>
     requires good { IsGood (P.content store.now) }
     requires vmo { IsSome ((P.content store.now).count v.0) }
-    requires inside { at + len ≤ pages_of (P.content store.now) v.0 * PAGE }
-    ensures some { IfSome result (λ rows. HasRows (P.content store.now) v.0 (touched at len) rows
-        × (used (P.content store.now) + need (P.content store.now) v.0 (touched at len) ≤ (P.content store.now).frames)) }
+    requires order { pages.first ≤ pages.end }
+    requires inside { pages.end ≤ pages_of (P.content store.now) v.0 }
+    ensures some { IfSome result (λ rows. HasRows (P.content store.now) v.0 (touched_row pages) rows
+        × (used (P.content store.now) + need (P.content store.now) v.0 (touched_row pages) ≤ (P.content store.now).frames)) }
     ensures none { IfNone result ((P.content store.now).frames
-        < used (P.content store.now) + need (P.content store.now) v.0 (touched at len)) }
+        < used (P.content store.now) + need (P.content store.now) v.0 (touched_row pages)) }
 {
-    let (first, end) = touched_pages(at, len);
-    if are_ample(store, end - first) {
-        return Some(end - first);
+    let count = pages.end - pages.first;
+    if are_ample(store, count) {
+        return Some(count);
     }
-    rows_needed(store, v, first, end)
+    rows_needed(store, v, pages.first, pages.end)
 }
 
 // Does what `rows_to_own` does for the pages from `first` to below `end`, by a look at those that are held.
@@ -156,42 +162,43 @@ fn rows_needed<P: Pages>(store: &P, v: Koid, first: PageNo, end: PageNo) -> Opti
     Some(end - first)
 }
 
-/// Makes room for owning the pages of a range that was asked for. `HostMemory` only if one of them is not sole.
+/// Makes room for owning pages that were asked for, if `rows` rows are enough. `HostMemory` only if one of them is not sole.
 #[inline(always)]
 pub(crate) fn room_to_own<P: Pages>(
     store: &mut P,
     v: Koid,
-    range: RangeToChange,
-    len: u64,
+    pages: TouchedPages,
+    rows: u64,
 ) -> Result<(), HostMemory>
     requires good { IsGood (P.content store.old) }
     requires vmo { IsSome ((P.content store.old).count v.0) }
-    requires inside { range.at + len ≤ pages_of (P.content store.old) v.0 * PAGE }
-    requires rows { HasRows (P.content store.old) v.0 (touched range.at len) range.rows }
+    requires order { pages.first ≤ pages.end }
+    requires inside { pages.end ≤ pages_of (P.content store.old) v.0 }
+    requires rows { HasRows (P.content store.old) v.0 (touched_row pages) rows }
     ensures same { P.content store.new ≡ P.content store.old }
-    ensures rows { OnOk result (HasRows (P.content store.old) v.0 (touched range.at len) (P.spare store.new)) }
-    ensures err { OnErr result (list_any (λ p. not (sole (P.content store.old) v.0 p)) (touched range.at len) ≡ true) }
+    ensures rows { OnOk result (HasRows (P.content store.old) v.0 (touched_row pages) (P.spare store.new)) }
+    ensures err { OnErr result (list_any (λ p. not (sole (P.content store.old) v.0 p)) (touched_row pages) ≡ true) }
 {
-    if range.rows == 0 {
+    if rows == 0 {
         return Ok(());
     }
-    if let Ok(()) = store.reserve(range.rows) {
+    if let Ok(()) = store.reserve(rows) {
         return Ok(());
     }
-    are_sole(store, v, range.at, len)
+    are_sole(store, v, pages)
 }
 
-// Returns whether each page that a range touches is sole, after there was no memory for rows. `HostMemory` if one is not.
+// Returns whether each of these pages is sole, after there was no memory for rows. `HostMemory` if one is not.
 #[inline(never)]
-fn are_sole<P: Pages>(store: &P, v: Koid, at: u64, len: u64) -> Result<(), HostMemory>
+fn are_sole<P: Pages>(store: &P, v: Koid, pages: TouchedPages) -> Result<(), HostMemory>
     requires good { IsGood (P.content store.now) }
     requires vmo { IsSome ((P.content store.now).count v.0) }
-    requires inside { at + len ≤ pages_of (P.content store.now) v.0 * PAGE }
-    ensures ok { OnOk result (need (P.content store.now) v.0 (touched at len) ≡ 0) }
-    ensures err { OnErr result (list_any (λ p. not (sole (P.content store.now) v.0 p)) (touched at len) ≡ true) }
+    requires order { pages.first ≤ pages.end }
+    requires inside { pages.end ≤ pages_of (P.content store.now) v.0 }
+    ensures ok { OnOk result (need (P.content store.now) v.0 (touched_row pages) ≡ 0) }
+    ensures err { OnErr result (list_any (λ p. not (sole (P.content store.now) v.0 p)) (touched_row pages) ≡ true) }
 {
-    let (first, end) = touched_pages(at, len);
-    if need_of(store, v, first, end) == 0 {
+    if need_of(store, v, pages.first, pages.end) == 0 {
         return Ok(());
     }
     Err(HostMemory)
@@ -216,10 +223,11 @@ pub fn reserve_to_own<P: Pages>(
     ensures free { OnOk result (used (P.content store.old) + need (P.content store.old) v.0 (touched offset len)
         ≤ (P.content store.old).frames) }
 {
-    let Some(rows) = rows_to_own(store, v, offset, len) else {
+    let pages = touched_by(offset, len);
+    let Some(rows) = rows_to_own(store, v, pages) else {
         return Err(Refusal::NoMemory);
     };
-    match room_to_own(store, v, RangeToChange { at: offset, rows }, len) {
+    match room_to_own(store, v, pages, rows) {
         Ok(()) => Ok(()),
         Err(_) => Err(Refusal::HostMemory),
     }

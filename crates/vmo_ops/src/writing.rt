@@ -1,6 +1,6 @@
 //! Writing bytes to a VMO (`zx_vmo_write`).
 
-ghost use Rattle.std.specs.Prelude.{◌≡◌, ◌+◌, ◌*◌, ◌<◌, ◌≤◌, ◌⊎◌, true, length};
+ghost use Rattle.std.specs.Prelude.{◌≡◌, ◌+◌, ◌*◌, ◌<◌, ◌≤◌, ◌⊎◌, true, length, IfOk};
 ghost use Rattle.vm_model.specs.declared.command.Command.{Command};
 ghost use Rattle.vm_model.specs.declared.reply.Reply.{Reply};
 ghost use Rattle.vm_model.specs.Contents.Content.{pages_of, sole, used, IsGood};
@@ -9,9 +9,10 @@ ghost use Rattle.vm_model.specs.Contents.Writing.{touched, pieces, WritesPiece, 
 ghost use Rattle.vm_model.specs.Machine.Step.{reply_of};
 ghost use Rattle.pages.specs.Names.{IsInside};
 ghost use Rattle.vmo_ops.specs.Costs.{HasRows};
+ghost use Rattle.vmo_ops.specs.Ranges.{AreTouched};
 ghost use Rattle.vmo_ops.specs.Targets.{DoesByName};
 
-use crate::ranges::{part_in_page, touched_pages};
+use crate::ranges::{TouchedPages, part_in_page};
 use crate::ready::ready_to_own;
 use pages::Pages;
 use vm_base::{Koid, PAGE, PageNo, Refusal};
@@ -30,18 +31,38 @@ pub fn write<P: Pages>(store: &mut P, t: &Target, offset: u64, bytes: &[u8]) -> 
     ensures { DoesByName (λ name. Command.VmoWrite name offset bytes.now) t.now (P.content store.old)
         (reply_of (λ _. Reply.Done) result) (P.content store.new) }
 {
+    match write_touching(store, t, offset, bytes) {
+        Ok(_) => Ok(()),
+        Err(refusal) => Err(refusal),
+    }
+}
+
+/// Does what `write` does, and answers the pages of the VMO that the range touches.
+#[inline(always)]
+pub fn write_touching<P: Pages>(
+    store: &mut P,
+    t: &Target,
+    offset: u64,
+    bytes: &[u8],
+) -> Result<TouchedPages, Refusal>
+    requires good { IsGood (P.content store.old) }
+    requires inside { IsInside (P.content store.old) t.now }
+    ensures step { DoesByName (λ name. Command.VmoWrite name offset bytes.now) t.now (P.content store.old)
+        (reply_of (λ _. Reply.Done) result) (P.content store.new) }
+    ensures touched { IfOk result (λ pages. AreTouched (t.now.first * PAGE + offset) (length bytes.now) pages) }
+{
     match ready_to_own(store, t, offset, bytes.len() as u64) {
-        Ok(at) => {
-            write_range(store, t.koid, at, bytes);
-            Ok(())
+        Ok(range) => {
+            write_range(store, t.koid, range.at, bytes, range.pages);
+            Ok(range.pages)
         }
         Err(refusal) => Err(refusal),
     }
 }
 
-// Writes bytes inside the VMO. There is room for it. Most ranges lie in one page.
-#[tactic(auto, using(vm_model::proofs::ContentLaws::pages_of_le))]
-fn write_range<P: Pages>(store: &mut P, v: Koid, offset: u64, bytes: &[u8])
+// Writes bytes inside the VMO, to the pages that they touch. There is room for it. Most ranges lie in one page.
+fn write_range<P: Pages>(store: &mut P, v: Koid, offset: u64, bytes: &[u8], pages: TouchedPages)
+    requires touched { AreTouched offset (length bytes.now) pages }
     requires good { IsGood (P.content store.old) }
     requires inside { offset + length bytes.now ≤ pages_of (P.content store.old) v.0 * PAGE }
     requires room { HasRows (P.content store.old) v.0 (touched offset (length bytes.now)) (P.spare store.old) }
@@ -50,16 +71,17 @@ fn write_range<P: Pages>(store: &mut P, v: Koid, offset: u64, bytes: &[u8])
         ≤ (P.content store.old).frames }
     ensures { Writes (P.content store.old) (pieces v.0 offset bytes.now) (P.content store.new) }
 {
-    let (first, end) = touched_pages(offset, bytes.len() as u64);
+    let TouchedPages { first, end } = pages;
     if end - first == 1 {
         write_part(store, v, first, offset % PAGE, bytes);
     } else {
-        write_pages(store, v, offset, bytes);
+        write_pages(store, v, offset, bytes, pages);
     }
 }
 
 // Writes bytes inside the VMO, page by page. There is room for it.
-fn write_pages<P: Pages>(store: &mut P, v: Koid, offset: u64, bytes: &[u8])
+fn write_pages<P: Pages>(store: &mut P, v: Koid, offset: u64, bytes: &[u8], pages: TouchedPages)
+    requires touched { AreTouched offset (length bytes.now) pages }
     requires good { IsGood (P.content store.old) }
     requires inside { offset + length bytes.now ≤ pages_of (P.content store.old) v.0 * PAGE }
     requires room { HasRows (P.content store.old) v.0 (touched offset (length bytes.now)) (P.spare store.old) }
@@ -69,7 +91,7 @@ fn write_pages<P: Pages>(store: &mut P, v: Koid, offset: u64, bytes: &[u8])
     ensures { Writes (P.content store.old) (pieces v.0 offset bytes.now) (P.content store.new) }
 {
     let len = bytes.len() as u64;
-    let (first, end) = touched_pages(offset, len);
+    let TouchedPages { first, end } = pages;
     for page in first..end {
         let part = part_in_page(offset, len, page);
         let until = part.from + part.len;

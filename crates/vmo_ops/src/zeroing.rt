@@ -1,6 +1,6 @@
 //! Zeroing a range (`ZX_VMO_OP_ZERO`).
 
-ghost use Rattle.std.specs.Prelude.{◌≡◌, ℕ, ◌+◌, ◌-◌, ◌*◌, ◌/◌, ◌<◌, ◌≤◌, Bool, not, ◌&&◌, ◌==◌, true, false, if◌then◌else◌, None, Some, IsSome, ◌⊎◌, IfNone, IfSome, OnOk, OnErr, MatchResult};
+ghost use Rattle.std.specs.Prelude.{◌≡◌, ℕ, ◌+◌, ◌-◌, ◌*◌, ◌/◌, ◌<◌, ◌≤◌, Bool, not, ◌&&◌, ◌==◌, true, false, if◌then◌else◌, None, Some, IsSome, ◌⊎◌, IfNone, IfSome, IfOk, OnOk, OnErr, MatchResult};
 ghost use Rattle.vm_base.specs.declared.names.VmoName.{VmoName};
 ghost use Rattle.vm_model.specs.declared.command.Command.{Command};
 ghost use Rattle.vm_model.specs.declared.reply.Reply.{Reply};
@@ -13,13 +13,14 @@ ghost use Rattle.vm_model.specs.Machine.Step.{reply_of};
 ghost use Rattle.pages.specs.Names.{IsInside};
 ghost use Rattle.pages.specs.Held.{held_from};
 ghost use Rattle.pin_table.specs.Table.{pins_of};
+ghost use Rattle.vmo_ops.specs.Ranges.{AreTouched};
 ghost use Rattle.vmo_ops.specs.Targets.{with_pins, DoesWith, IsPlaced, IsRefusalIn};
 ghost use Rattle.vmo_ops.specs.Costs.{held_touched};
 
 use crate::filling::fill_part;
 use crate::held_pages::{is_held_at, next_held_below};
 use crate::owning::{UNSEEN_PAGES, are_ample, is_sole, with_one};
-use crate::ranges::{PagePart, part_in_page, touched_pages};
+use crate::ranges::{PagePart, TouchedPages, part_in_page, touched_by, touched_pages};
 use crate::ready::{RangeToChange, place_to_change};
 use pages::Pages;
 use pin_table::PinTable;
@@ -47,6 +48,27 @@ pub fn zero<P: Pages>(
     ensures { DoesWith (pins_of pins.now) (λ name. Command.VmoZero name offset len) t.now (P.content store.old)
         (reply_of (λ _. Reply.Done) result) (P.content store.new) }
 {
+    match zero_touching(store, pins, t, offset, len) {
+        Ok(_) => Ok(()),
+        Err(refusal) => Err(refusal),
+    }
+}
+
+/// Does what `zero` does, and answers the pages of the VMO that the range touches.
+#[inline(always)]
+pub fn zero_touching<P: Pages>(
+    store: &mut P,
+    pins: &PinTable,
+    t: &Target,
+    offset: u64,
+    len: u64,
+) -> Result<TouchedPages, Refusal>
+    requires good { IsGood (P.content store.old) }
+    requires inside { IsInside (P.content store.old) t.now }
+    ensures step { DoesWith (pins_of pins.now) (λ name. Command.VmoZero name offset len) t.now (P.content store.old)
+        (reply_of (λ _. Reply.Done) result) (P.content store.new) }
+    ensures touched { IfOk result (λ pages. AreTouched (t.now.first * PAGE + offset) len pages) }
+{
     let range = match ask_to_zero(store, pins, t, offset, len) {
         Ok(range) => range,
         Err(refusal) => return Err(refusal),
@@ -54,8 +76,8 @@ pub fn zero<P: Pages>(
     let Ok(()) = room_to_zero(store, pins, t.koid, range, len) else {
         return Err(Refusal::HostMemory);
     };
-    zero_pages(store, pins, t.koid, range.at, len);
-    Ok(())
+    zero_pages(store, pins, t.koid, range.at, len, range.pages);
+    Ok(range.pages)
 }
 
 /// Finds a range of a name that is to be made zero. Refusals as for `zero`, without `HostMemory`. Nothing changes.
@@ -75,22 +97,31 @@ pub fn ask_to_zero<P: Pages>(
         × (held_touched (P.content store.now) t.now.koid.0 range.at len ≤ range.rows)
         × (used (P.content store.now) + need (P.content store.now) t.now.koid.0
         (owned_by_zero (P.content store.now) t.now.koid.0 (is_pinned (pins_of pins.now) t.now.koid.0) range.at len)
-        ≤ (P.content store.now).frames))
+        ≤ (P.content store.now).frames) × AreTouched range.at len range.pages)
         (λ refusal. IsRefusalIn parts t.now command (Some refusal)) }
 {
     let at = match place_to_change(store, t, offset, len) {
         Ok(at) => at,
         Err(refusal) => return Err(refusal),
     };
-    match rows_to_zero(store, pins, t.koid, at, len) {
-        Some(rows) => Ok(RangeToChange { at, rows }),
+    let pages = touched_by(at, len);
+    match rows_to_zero(store, pins, t.koid, at, len, pages) {
+        Some(rows) => Ok(RangeToChange { at, pages, rows }),
         None => Err(Refusal::NoMemory),
     }
 }
 
 // Returns how many rows of the store are enough to zero a range inside a VMO. `None` if and only if owning takes more frames
 // than are free. If the range is short and frames are free for all of it, no page is looked at.
-fn rows_to_zero<P: Pages>(store: &P, pins: &PinTable, v: Koid, offset: u64, len: u64) -> Option<u64>
+fn rows_to_zero<P: Pages>(
+    store: &P,
+    pins: &PinTable,
+    v: Koid,
+    offset: u64,
+    len: u64,
+    pages: TouchedPages,
+) -> Option<u64>
+    requires touched { AreTouched offset len pages }
     requires good { IsGood (P.content store.now) }
     requires vmo { IsSome ((P.content store.now).count v.0) }
     requires inside { offset + len ≤ pages_of (P.content store.now) v.0 * PAGE }
@@ -102,9 +133,9 @@ fn rows_to_zero<P: Pages>(store: &P, pins: &PinTable, v: Koid, offset: u64, len:
         + need (P.content store.now) v.0
         (owned_by_zero (P.content store.now) v.0 (is_pinned (pins_of pins.now) v.0) offset len)) }
 {
-    let (first, end) = touched_pages(offset, len);
-    if are_ample(store, end - first) {
-        return Some(end - first);
+    let count = pages.end - pages.first;
+    if are_ample(store, count) {
+        return Some(count);
     }
     let cost = cost_to_zero(store, pins, v, offset, len);
     if cost.owned > u64::from(store.free()) {
@@ -121,15 +152,17 @@ pub(crate) fn rows_to_clear<P: Pages>(
     v: Koid,
     offset: u64,
     len: u64,
+    pages: TouchedPages,
 ) -> u64
+    requires touched { AreTouched offset len pages }
     requires good { IsGood (P.content store.now) }
     requires vmo { IsSome ((P.content store.now).count v.0) }
     requires inside { offset + len ≤ pages_of (P.content store.now) v.0 * PAGE }
     ensures { held_touched (P.content store.now) v.0 offset len ≤ result }
 {
-    let (first, end) = touched_pages(offset, len);
-    if end - first <= UNSEEN_PAGES {
-        return end - first;
+    let count = pages.end - pages.first;
+    if count <= UNSEEN_PAGES {
+        return count;
     }
     cost_to_zero(store, pins, v, offset, len).held
 }
@@ -228,7 +261,15 @@ fn is_cleared_page(pins: &PinTable, v: Koid, page: PageNo, part: PagePart) -> bo
 
 /// Zeroes a range inside the VMO: whole pages in a row at once, up to the next that is pinned or cut, and that page by
 /// itself. There is room for it.
-pub(crate) fn zero_pages<P: Pages>(store: &mut P, pins: &PinTable, v: Koid, offset: u64, len: u64)
+pub(crate) fn zero_pages<P: Pages>(
+    store: &mut P,
+    pins: &PinTable,
+    v: Koid,
+    offset: u64,
+    len: u64,
+    pages: TouchedPages,
+)
+    requires touched { AreTouched offset len pages }
     requires good { IsGood (P.content store.old) }
     requires vmo { IsSome ((P.content store.old).count v.0) }
     requires inside { offset + len ≤ pages_of (P.content store.old) v.0 * PAGE }
@@ -239,7 +280,7 @@ pub(crate) fn zero_pages<P: Pages>(store: &mut P, pins: &PinTable, v: Koid, offs
     ensures { Zeroes (P.content store.old) v.0 (is_pinned (pins_of pins.now) v.0) offset len (touched offset len)
         (P.content store.new) }
 {
-    let (first, end) = touched_pages(offset, len);
+    let TouchedPages { first, end } = pages;
     let mut from = first;
     loop {
         let stop = cleared_until(pins, v, offset, len, from);

@@ -1,8 +1,9 @@
-use Rattle.vm_model.specs.Contents.Writing.{touched}
+use Rattle.std.proofs.Common.{◌-◌}
+use Rattle.std.specs.List.{range_with_len}
 use Rattle.vmo_ops.proofs.OwningLaws.{IsOwning, owning_pages}
 use Rattle.vmo_ops.proofs.committing.own_pages.Given as goal
 
 abbrev pub invariant-loop-page : goal.invariant-loop-page
 invariant-loop-page g l =
-    IsOwning (owning_pages l.v.0) l.v.0 (g.P.Pages.content l.initial.store) (touched l.offset l.len)
+    IsOwning (owning_pages l.v.0) l.v.0 (g.P.Pages.content l.initial.store) (range_with_len l.first (l.end - l.first))
     (g.P.Pages.content l.store) l.page l.end (g.P.Pages.spare l.store)

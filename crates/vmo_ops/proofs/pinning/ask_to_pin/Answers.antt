@@ -24,7 +24,7 @@ returns-in-None-clause-refusal g c = λ pin pins free rest name named.
     let placed = c.in-Some.ensures.some in
     by_name s name.0 _ named (pin_rows s pin.0 c.args.offset c.args.len) _ (skip _ _ _ _ (ap is_some free)
     (skip _ _ _ _ (sym c.is_no_pin_range.ensures ∙ c.if-is_no_pin_range.false) (skip _ _ _ _ (le-ltb _ _ placed.range)
-    (hit _ _ _ (lacks_row s.content _ _ _ c.args.len _ _ placed.place refl (lt-ltb _ _ c.in-None.ensures.none))))))
+    (hit _ _ _ (lacks_row s.content _ _ _ c.args.len _ _ placed.place refl (lt-ltb _ _ (rw c.touched_by-pages.ensures.row c.in-None.ensures.none)))))))
 
 pub returns-in-Some-rows_to_own-clause-refusal : goal.returns-in-Some-rows_to_own-clause-refusal
 returns-in-Some-rows_to_own-clause-refusal g c = λ pin pins free rest name named.
@@ -32,12 +32,12 @@ returns-in-Some-rows_to_own-clause-refusal g c = λ pin pins free rest name name
     let placed = c.in-Some.ensures.some in
     by_name s name.0 _ named (pin_rows s pin.0 c.args.offset c.args.len) _ (skip _ _ _ _ (ap is_some free)
     (skip _ _ _ _ (sym c.is_no_pin_range.ensures ∙ c.if-is_no_pin_range.false) (skip _ _ _ _ (le-ltb _ _ placed.range)
-    (skip _ _ _ _ (lacks_row s.content _ _ _ c.args.len _ _ placed.place refl (le-ltb _ _ c.in-Some-rows_to_own.ensures.some.1)) refl))))
+    (skip _ _ _ _ (lacks_row s.content _ _ _ c.args.len _ _ placed.place refl (le-ltb _ _ (rw c.touched_by-pages.ensures.row c.in-Some-rows_to_own.ensures.some.1))) refl))))
 
 pub returns-in-Some-rows_to_own-clause-ok : goal.returns-in-Some-rows_to_own-clause-ok
 returns-in-Some-rows_to_own-clause-ok g c = record {
   range = pin_range c.args.offset c.args.len (sym c.is_no_pin_range.ensures ∙ c.if-is_no_pin_range.false);
   placed = c.in-Some.ensures.some;
-  rows = c.in-Some-rows_to_own.ensures.some.0;
-  frames = c.in-Some-rows_to_own.ensures.some.1;
+  rows = rw c.touched_by-pages.ensures.row c.in-Some-rows_to_own.ensures.some.0;
+  frames = rw c.touched_by-pages.ensures.row c.in-Some-rows_to_own.ensures.some.1;
 }

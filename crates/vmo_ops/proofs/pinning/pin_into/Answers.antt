@@ -1,4 +1,4 @@
-use Rattle.std.proofs.Common.{refl, sym}
+use Rattle.std.proofs.Common.{refl, sym, arith}
 use Rattle.vm_model.proofs.StepLaws.{Step-lacks}
 use Rattle.vmo_ops.specs.Targets.{with_tables}
 use Rattle.vmo_ops.proofs.AskLaws.{Step-refused}
@@ -20,10 +20,13 @@ pub room_to_pin-requires-clause-vmo : goal.room_to_pin-requires-clause-vmo
 room_to_pin-requires-clause-vmo g c = (named_inside _ _ c.requires.parts.1.good c.requires.named).vmo
 
 pub room_to_pin-requires-clause-inside : goal.room_to_pin-requires-clause-inside
-room_to_pin-requires-clause-inside g c = c.in-Ok.ensures.ok.placed.inside
+room_to_pin-requires-clause-inside g c = omega (arith, c.in-Ok.ensures.ok.placed.inside, c.in-Ok.ensures.touched.end)
+
+pub room_to_pin-requires-clause-order : goal.room_to_pin-requires-clause-order
+room_to_pin-requires-clause-order g c = c.in-Ok.ensures.touched.order
 
 pub room_to_pin-requires-clause-rows : goal.room_to_pin-requires-clause-rows
-room_to_pin-requires-clause-rows g c = c.in-Ok.ensures.ok.rows
+room_to_pin-requires-clause-rows g c = rw (← c.in-Ok.ensures.touched.row) c.in-Ok.ensures.ok.rows
 
 pub add_pin-requires-clause-good : goal.add_pin-requires-clause-good
 add_pin-requires-clause-good g c = rw c.room_to_pin.ensures.content c.requires.parts.1.good.content
@@ -35,7 +38,7 @@ pub add_pin-requires-clause-whole : goal.add_pin-requires-clause-whole
 add_pin-requires-clause-whole g c = placed_range _ _ _ _ _ c.in-Ok.ensures.ok.placed c.in-Ok.ensures.ok.range
 
 pub add_pin-requires-clause-rows : goal.add_pin-requires-clause-rows
-add_pin-requires-clause-rows g c = rw c.room_to_pin.ensures.content c.in-Ok-room_to_pin.ensures.rows
+add_pin-requires-clause-rows g c = rw (c.room_to_pin.ensures.content, c.in-Ok.ensures.touched.row) c.in-Ok-room_to_pin.ensures.rows
 
 pub add_pin-requires-clause-frames : goal.add_pin-requires-clause-frames
 add_pin-requires-clause-frames g c = rw c.room_to_pin.ensures.content c.in-Ok.ensures.ok.frames

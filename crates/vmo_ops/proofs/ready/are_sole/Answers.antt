@@ -4,5 +4,5 @@ use Rattle.vmo_ops.proofs.ready.are_sole.Goals as goal
 
 pub returns-clause-err : goal.returns-clause-err
 returns-clause-err g c =
-    let pages = c.touched_pages-first.result in
-    rw c.touched_pages-first.ensures.pages (need_any (g.P.Pages.content c.args.store.now) c.args.v.0 pages.0 (pages.1 - pages.0) (omega (arith, c.need_of.ensures, c.if-need_of-eq0.false)))
+    let pages = c.args.pages in
+    need_any (g.P.Pages.content c.args.store.now) c.args.v.0 pages.first (pages.end - pages.first) (omega (arith, c.need_of.ensures, c.if-need_of-eq0.false))

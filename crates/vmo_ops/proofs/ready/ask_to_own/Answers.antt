@@ -1,4 +1,4 @@
-use Rattle.std.proofs.Common.{ℕ, ◌+◌, ◌*◌, List, sym, ap}
+use Rattle.std.proofs.Common.{ℕ, ◌+◌, ◌*◌, List, sym, ap, ◌∙◌}
 use Rattle.vm_base.specs.declared.limits.TheConstants.{PAGE}
 use Rattle.vm_model.specs.Contents.Writing.{touched}
 use Rattle.vm_model.specs.declared.names.Target.{Target}
@@ -18,10 +18,10 @@ pub returns-in-None-clause-refusal : goal.returns-in-None-clause-refusal
 returns-in-None-clause-refusal g c = λ rest name named.
     let placed = c.in-Ok.ensures.ok in
     change_lacks (with_content (g.P.Pages.content c.args.store.now) rest) name.0 _ named c.args.offset c.args.len (owned c.args.offset c.args.len)
-    placed.0 placed.1.range _ (ap (λ (a : ℕ). touched a c.args.len) (sym placed.1.place)) c.in-None.ensures.none
+    placed.0 placed.1.range _ (ap (λ (a : ℕ). touched a c.args.len) (sym placed.1.place) ∙ c.touched_by-pages.ensures.row) c.in-None.ensures.none
 
 pub returns-in-Some-clause-refusal : goal.returns-in-Some-clause-refusal
 returns-in-Some-clause-refusal g c = λ rest name named.
     let placed = c.in-Ok.ensures.ok in
     change_fits (with_content (g.P.Pages.content c.args.store.now) rest) name.0 _ named c.args.offset c.args.len (owned c.args.offset c.args.len)
-    placed.0 placed.1.range _ (ap (λ (a : ℕ). touched a c.args.len) (sym placed.1.place)) c.in-Some.ensures.some.1
+    placed.0 placed.1.range _ (ap (λ (a : ℕ). touched a c.args.len) (sym placed.1.place) ∙ c.touched_by-pages.ensures.row) c.in-Some.ensures.some.1

@@ -39,4 +39,5 @@ returns-in-Some g c =
       placed.1,
       c.in-Some.ensures.some.0,
       c.in-Some.ensures.some.1,
+      c.touched_by-pages.ensures,
     )

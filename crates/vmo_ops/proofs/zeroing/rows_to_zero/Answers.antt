@@ -6,11 +6,11 @@ use Rattle.vmo_ops.proofs.zeroing.rows_to_zero.Goals as goal
 
 pub returns-then-are_ample-clause-some : goal.returns-then-are_ample-clause-some
 returns-then-are_ample-clause-some g c = (
-  held_touched-most (g.P.Pages.content c.args.store.now) c.args.v.0 c.args.offset c.args.len _ _ c.touched_pages-first.ensures.pages,
+  held_touched-most (g.P.Pages.content c.args.store.now) c.args.v.0 c.args.offset c.args.len _ _ c.requires.touched.row,
   omega (
     arith,
     c.are_ample.ensures c.if-are_ample.true,
     need-zero-most (g.P.Pages.content c.args.store.now) c.args.v.0 (is_pinned (pins_of c.args.pins.now) c.args.v.0)
-        c.args.offset c.args.len _ _ c.touched_pages-first.ensures.pages,
+        c.args.offset c.args.len _ _ c.requires.touched.row,
   ),
 )

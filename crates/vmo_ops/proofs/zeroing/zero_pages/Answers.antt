@@ -7,13 +7,13 @@ loop-v-init g c = search (rules, IsZeroing-start)
 
 pub zero_row-requires-clause-room : goal.zero_row-requires-clause-room
 zero_row-requires-clause-room g c =
-    let touched = c.touched_pages-first.ensures in
+    let touched = c.requires.touched in
     let stop = c.cleared_until-stop.ensures in
     IsZeroing-rows _ _ _ _ _ _ _ _ _ _ _ touched.first touched.order touched.all c.loop-v.invariant stop.order stop.end
 
 pub zero_part-requires-clause-good : goal.zero_part-requires-clause-good
 zero_part-requires-clause-good g c =
-    let touched = c.touched_pages-first.ensures in
+    let touched = c.requires.touched in
     let stop = c.cleared_until-stop.ensures in
     let way = IsZeroing-turn _ _ _ _ _ _ _ _ _ _ _ touched.first touched.order touched.all c.loop-v.invariant stop.order stop.end _ _ stop.cleared
     c.zero_row.ensures.zero c.zero_row.ensures.spare in
@@ -21,7 +21,7 @@ zero_part-requires-clause-good g c =
 
 pub zero_part-requires-clause-range : goal.zero_part-requires-clause-range
 zero_part-requires-clause-range g c =
-    let touched = c.touched_pages-first.ensures in
+    let touched = c.requires.touched in
     let stop = c.cleared_until-stop.ensures in
     let way = IsZeroing-turn _ _ _ _ _ _ _ _ _ _ _ touched.first touched.order touched.all c.loop-v.invariant stop.order stop.end _ _ stop.cleared
     c.zero_row.ensures.zero c.zero_row.ensures.spare in
@@ -29,7 +29,7 @@ zero_part-requires-clause-range g c =
 
 pub zero_part-requires-clause-room : goal.zero_part-requires-clause-room
 zero_part-requires-clause-room g c =
-    let touched = c.touched_pages-first.ensures in
+    let touched = c.requires.touched in
     let stop = c.cleared_until-stop.ensures in
     let way = IsZeroing-turn _ _ _ _ _ _ _ _ _ _ _ touched.first touched.order touched.all c.loop-v.invariant stop.order stop.end _ _ stop.cleared
     c.zero_row.ensures.zero c.zero_row.ensures.spare in
@@ -37,7 +37,7 @@ zero_part-requires-clause-room g c =
 
 pub zero_part-requires-clause-free : goal.zero_part-requires-clause-free
 zero_part-requires-clause-free g c =
-    let touched = c.touched_pages-first.ensures in
+    let touched = c.requires.touched in
     let stop = c.cleared_until-stop.ensures in
     let way = IsZeroing-turn _ _ _ _ _ _ _ _ _ _ _ touched.first touched.order touched.all c.loop-v.invariant stop.order stop.end _ _ stop.cleared
     c.zero_row.ensures.zero c.zero_row.ensures.spare in
@@ -45,7 +45,7 @@ zero_part-requires-clause-free g c =
 
 pub loop-v-preserved : goal.loop-v-preserved
 loop-v-preserved g c =
-    let touched = c.touched_pages-first.ensures in
+    let touched = c.requires.touched in
     let stop = c.cleared_until-stop.ensures in
     let way = IsZeroing-turn _ _ _ _ _ _ _ _ _ _ _ touched.first touched.order touched.all c.loop-v.invariant stop.order stop.end _ _ stop.cleared
     c.zero_row.ensures.zero c.zero_row.ensures.spare in
@@ -53,7 +53,7 @@ loop-v-preserved g c =
 
 pub returns-then-stop-end : goal.returns-then-stop-end
 returns-then-stop-end g c =
-    let touched = c.touched_pages-first.ensures in
+    let touched = c.requires.touched in
     let stop = c.cleared_until-stop.ensures in
     let way = IsZeroing-turn _ _ _ _ _ _ _ _ _ _ _ touched.first touched.order touched.all c.loop-v.invariant stop.order stop.end _ _ stop.cleared
     c.zero_row.ensures.zero c.zero_row.ensures.spare in

@@ -1,4 +1,4 @@
-use Rattle.vmo_ops.proofs.filling.fill.Goals as goal
+use Rattle.vmo_ops.proofs.filling.fill_touching.Goals as goal
 
 pub fill_pages-requires-clause-good : goal.fill_pages-requires-clause-good
 fill_pages-requires-clause-good g c = rw c.ready_to_own.ensures.same c.requires.good
