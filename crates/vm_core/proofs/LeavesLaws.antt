@@ -1,5 +1,7 @@
 -- What the handlers of commands leave of the translations, and what the calls that forget them ask for there.
-use Rattle.std.proofs.Common.{◌≡◌, ◌≢◌, ℕ, ◌+◌, ◌-◌, ◌*◌, ◌/◌, ◌<◌, ◌≤◌, ◌==◌, ◌||◌, Bool, true, false, not, cond, length, Option, None, Some, zero, suc, refl, sym, ap, subst, ◌∙◌, inl, inr, arith}
+use Rattle.std.proofs.Common.{◌≡◌, ◌≢◌, ℕ, ◌+◌, ◌-◌, ◌*◌, ◌/◌, ◌<◌, ◌≤◌, ◌==◌, ◌||◌, Bool, true, false, not, cond, length, Option, None, Some, refl, sym, ap, subst, ◌∙◌, inl, inr, arith}
+use Rattle.std.specs.Prelude.{Result, IfOk, MatchResult}
+use Rattle.std.specs.declared.result.Result.TheVariants.{Ok, Err}
 use Rattle.std.specs.Cmp.{both_ways}
 use Rattle.std.proofs.lemmas.Bool.{cases_lt, and_parts, and_from, or_left, or_right, or_cases, not-true, false_from_ne_true, both_ways as either}
 use Rattle.std.specs.Option.{option_map}
@@ -11,7 +13,7 @@ use Rattle.vm_base.specs.declared.refusal.Refusal.{Refusal}
 use Rattle.vm_model.specs.declared.command.Command.{Command}
 use Rattle.vm_model.specs.declared.names.Target.{Target}
 use Rattle.vm_model.specs.declared.reply.Reply.{Reply}
-use Rattle.vm_model.specs.declared.reply.Reply.TheVariants.{Refused}
+use Rattle.vm_model.specs.declared.reply.Reply.TheVariants.{Done, Refused}
 use Rattle.vm_model.specs.declared.space.Entry.{Entry}
 use Rattle.vm_model.specs.declared.space.Readiness.TheVariants.{Read}
 use Rattle.vm_model.specs.declared.space.Region.{Region}
@@ -21,34 +23,49 @@ use Rattle.vm_model.specs.Contents.Zeroing.{is_within}
 use Rattle.vm_model.specs.Space.Readiness.{shows_in, shows_but}
 use Rattle.vm_model.specs.Space.Regions.{region_of}
 use Rattle.vm_model.specs.Machine.State.{State, target_of, IsGoodState}
-use Rattle.vm_model.specs.Machine.Step.{Step}
+use Rattle.vm_model.specs.Machine.Step.{Step, reply_of}
 use Rattle.vm_model.proofs.NamesLaws.{target_of-at}
-use Rattle.vm_model.proofs.RangeLaws.{touched-row, touched-nil, touched_end-is}
 use Rattle.vm_model.proofs.RegionLaws.{region_of-at}
 use Rattle.vm_model.proofs.ZeroingLaws.{is_within-true, is_within-parts}
 use Rattle.pin_table.specs.Table.{IsNextPinned}
 use Rattle.fault.specs.declared.translation.Translation.{Translation}
-use Rattle.fault.specs.Table.{Places, translations_without, with_read_only, restricted}
+use Rattle.fault.specs.Table.{Places, translations_without, with_read_only, restricted, is_stale}
+use Rattle.vmo_ops.specs.declared.ranges.TouchedPages.{TouchedPages}
+use Rattle.vmo_ops.specs.Ranges.{AreTouched}
 use Rattle.vmo_table.specs.Table.{Vmos, names_of, with_vmos}
-use Rattle.vm_core.specs.inside.Resets.{restricted_but, with_read_only_but, left_by, left_after, unless_refused, without_changed, IsFirstBelow, IsRangeInVmo}
+use Rattle.vm_core.specs.inside.Resets.{restricted_but, with_read_only_but, left_by, left_after, unless_refused, without_changed, without_other, ArePagesOfVmo, IsFirstBelow, IsRangeInVmo}
 use Rattle.vm_core.proofs.BoundLaws.{bounds_of, done_bounds}
 
 -- ---- ranges of bytes
 
--- how many pages a range with a byte touches
-pub touched_count : (at len : ℕ) → 0 < len → length (touched at len) ≡ (at + (len - 1)) / PAGE - at / PAGE + 1
-touched_count at len some =
-    let row = ap length (touched-row at len some) in
-    omega (arith, row ∙ length-range_with_len (at / PAGE) _, touched_end-is at len)
+-- the pages that a range touches end behind as many as there are
+pub touched_ends : (at len : ℕ) (pages : TouchedPages) → AreTouched at len pages → pages.end ≡ at / PAGE + length (touched at len)
+touched_ends at len pages is =
+    let count : length (touched at len) ≡ pages.end - pages.first = ap length is.row ∙ length-range_with_len pages.first (pages.end - pages.first) in
+    omega (arith, count, is.first, is.order)
 
--- a range with no byte touches none
-pub touched_none : (at : ℕ) → length (touched at 0) ≡ 0
-touched_none at = ap length (touched-nil at)
+module _ (c : Content) (t : Target) (offset len : ℕ) where
+  -- those of a range that lies in a VMO lie there
+  pub touched_inside : (pages : TouchedPages) → IsRangeInVmo c t offset len → AreTouched (t.first * PAGE + offset) len pages → ArePagesOfVmo c t.koid pages
+  touched_inside pages range is = record { vmo = range.vmo; order = is.order; inside = omega (arith, range.inside, is.end) }
 
--- the pages that a range touches end where it lies inside
-pub touched_fit : (at len pages : ℕ) → at + len ≤ pages * PAGE → at / PAGE + length (touched at len) ≤ pages
-touched_fit at zero pages h = omega (arith, h, touched_none at)
-touched_fit at (suc len) pages h = omega (arith, h, touched_count at (suc len) (omega arith))
+  -- and what is left without them is what is left without the range
+  pub touched_without : (pages : TouchedPages) (places : Places) → AreTouched (t.first * PAGE + offset) len pages → without_other c t.koid pages places ≡ without_changed c t offset len places
+  touched_without pages places is =
+      let ends = touched_ends (t.first * PAGE + offset) len pages is in
+      λ i. translations_without (is_stale c t.koid.0 (is.first i) (ends i)) places
+
+  -- the same of the pages that a command answered, if it was done
+  pub outcome_inside : (outcome : Result TouchedPages Refusal) → IfOk outcome (λ pages. AreTouched (t.first * PAGE + offset) len pages)
+      → (reply_of (λ _. Done) outcome ≡ Done → IsRangeInVmo c t offset len) → IfOk outcome (λ pages. ArePagesOfVmo c t.koid pages)
+  outcome_inside (Ok pages) is range = touched_inside pages (range refl) is
+  outcome_inside (Err refusal) is range = tt
+
+  pub outcome_without : (outcome : Result TouchedPages Refusal) (places left : Places) → IfOk outcome (λ pages. AreTouched (t.first * PAGE + offset) len pages)
+      → MatchResult outcome (λ pages. left ≡ without_other c t.koid pages places) (λ _. left ≡ places)
+      → left ≡ unless_refused (reply_of (λ _. Done) outcome) (without_changed c t offset len places) places
+  outcome_without (Ok pages) places left is e = e ∙ touched_without pages places is
+  outcome_without (Err refusal) places left is e = e
 
 -- ---- where no page is translated
 

@@ -2,7 +2,7 @@
 //! `vmo_decommit`, `vmo_set_size`. Each is refused by `BadHandle` if the VMO's name is not open, and is otherwise the
 //! operation of its name. The translations of the pages that it changed are then forgotten.
 
-ghost use Rattle.std.specs.Prelude.{◌≡◌};
+ghost use Rattle.std.specs.Prelude.{◌≡◌, IfOk, MatchResult};
 ghost use Rattle.vm_model.specs.declared.command.Command.{Command};
 ghost use Rattle.vm_model.specs.declared.reply.Reply.{Reply};
 ghost use Rattle.vm_model.specs.Machine.Lent.{reply_for};
@@ -11,15 +11,15 @@ ghost use Rattle.vmo_table.specs.Table.{AreParts};
 ghost use Rattle.vmo_ops.specs.Targets.{AreTogether};
 ghost use Rattle.fault.specs.Table.{translations_of};
 ghost use Rattle.vm_core.specs.inside.Calls.{LeavesVmos, Steps, StepsVmos};
-ghost use Rattle.vm_core.specs.inside.Resets.{unless_refused, without_changed, IsRangeInVmo};
+ghost use Rattle.vm_core.specs.inside.Resets.{without_other, ArePagesOfVmo};
 
 use crate::resets::{forget_changed, forget_past};
 use fault::Translations;
 use page_store::PageStore;
 use pin_table::PinTable;
-use vm_base::{Refusal, VmoName};
-use vm_model::{Answer, Target};
-use vmo_ops::NameRange;
+use vm_base::{Koid, Refusal, VmoName};
+use vm_model::Answer;
+use vmo_ops::{NameRange, TouchedPages};
 use vmo_table::VmoTable;
 
 /// Writes bytes from `offset` bytes into the name on.
@@ -39,13 +39,8 @@ pub(crate) fn vmo_write<P: PageStore>(
 {
     match vmos.resolve(name) {
         Some(target) => {
-            let outcome = vmo_ops::write(store, &target, offset, bytes);
-            let range = NameRange {
-                name,
-                offset,
-                len: bytes.len() as u64,
-            };
-            changed(translations, store, &target, range, outcome)
+            let outcome = vmo_ops::write_touching(store, &target, offset, bytes);
+            changed(translations, store, target.koid, outcome)
         }
         None => Answer::Refused(Refusal::BadHandle),
     }
@@ -67,8 +62,8 @@ pub(crate) fn vmo_fill<P: PageStore>(
 {
     match vmos.resolve(range.name) {
         Some(target) => {
-            let outcome = vmo_ops::fill(store, &target, range.offset, range.len, byte);
-            changed(translations, store, &target, range, outcome)
+            let outcome = vmo_ops::fill_touching(store, &target, range.offset, range.len, byte);
+            changed(translations, store, target.koid, outcome)
         }
         None => Answer::Refused(Refusal::BadHandle),
     }
@@ -89,8 +84,8 @@ pub(crate) fn vmo_commit<P: PageStore>(
 {
     match vmos.resolve(range.name) {
         Some(target) => {
-            let outcome = vmo_ops::commit(store, &target, range.offset, range.len);
-            changed(translations, store, &target, range, outcome)
+            let outcome = vmo_ops::commit_touching(store, &target, range.offset, range.len);
+            changed(translations, store, target.koid, outcome)
         }
         None => Answer::Refused(Refusal::BadHandle),
     }
@@ -112,8 +107,8 @@ pub(crate) fn vmo_zero<P: PageStore>(
 {
     match vmos.resolve(range.name) {
         Some(target) => {
-            let outcome = vmo_ops::zero(store, pins, &target, range.offset, range.len);
-            changed(translations, store, &target, range, outcome)
+            let outcome = vmo_ops::zero_touching(store, pins, &target, range.offset, range.len);
+            changed(translations, store, target.koid, outcome)
         }
         None => Answer::Refused(Refusal::BadHandle),
     }
@@ -135,8 +130,15 @@ pub(crate) fn vmo_decommit<P: PageStore>(
 {
     match vmos.resolve(range.name) {
         Some(target) => {
-            let outcome = vmo_ops::decommit(store, vmos, pins, &target, range.offset, range.len);
-            changed(translations, store, &target, range, outcome)
+            let outcome = vmo_ops::decommit_touching(
+                store,
+                vmos,
+                pins,
+                &target,
+                range.offset,
+                range.len,
+            );
+            changed(translations, store, target.koid, outcome)
         }
         None => Answer::Refused(Refusal::BadHandle),
     }
@@ -169,23 +171,23 @@ pub(crate) fn vmo_set_size<P: PageStore>(
     }
 }
 
-// The answer to a command that changed a range of a name, or the refusal. If the command was done, the translations of
-// pages of the range that have another frame now are forgotten.
+// The answer to a command that changed pages of a VMO, or the refusal. If the command was done, the translations of those
+// pages that have another frame now are forgotten.
 fn changed<P: PageStore>(
     translations: &mut Translations,
     store: &P,
-    target: &Target,
-    range: NameRange,
-    outcome: Result<(), Refusal>,
+    koid: Koid,
+    outcome: Result<TouchedPages, Refusal>,
 ) -> Answer<'static>
-    requires { reply_of (λ _. Reply.Done) outcome ≡ Reply.Done → IsRangeInVmo (P.content store.now) target.now range.offset range.len }
+    requires { IfOk outcome (λ pages. ArePagesOfVmo (P.content store.now) koid pages) }
     ensures reply { reply_for result ≡ reply_of (λ _. Reply.Done) outcome }
-    ensures left { translations_of translations.new ≡ unless_refused (reply_for result)
-        (without_changed (P.content store.now) target.now range.offset range.len (translations_of translations.old)) (translations_of translations.old) }
+    ensures left { MatchResult outcome
+        (λ pages. translations_of translations.new ≡ without_other (P.content store.now) koid pages (translations_of translations.old))
+        (λ _. translations_of translations.new ≡ translations_of translations.old) }
 {
     match outcome {
-        Ok(()) => {
-            forget_changed(translations, store, target, range);
+        Ok(pages) => {
+            forget_changed(translations, store, koid, pages);
             Answer::Done
         }
         Err(refusal) => Answer::Refused(refusal),

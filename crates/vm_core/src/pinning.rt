@@ -9,7 +9,7 @@ ghost use Rattle.fault.specs.Table.{translations_of};
 ghost use Rattle.vm_core.specs.inside.Calls.{AreCounted, KeepsCounts, LeavesVmos, Steps};
 
 use crate::requests::PinRequest;
-use crate::resets::forget_changed;
+use crate::resets::forget_range;
 use fault::Translations;
 use page_store::PageStore;
 use pin_table::PinTable;
@@ -54,7 +54,7 @@ pub(crate) fn vmo_pin<'a, P: PageStore>(
         room,
     ) {
         Ok(numbers) => {
-            forget_changed(translations, store, &target, range);
+            forget_range(translations, store, &target, range);
             Answer::Pins(numbers)
         }
         Err(refusal) => Answer::Refused(refusal),

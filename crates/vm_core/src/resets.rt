@@ -1,15 +1,14 @@
 //! Forgetting the translations that a command made untrue, once it is done. If no page is translated, this costs one
 //! test.
 
-ghost use Rattle.std.specs.Prelude.{◌≡◌, ◌+◌, ◌*◌, ◌≤◌, length};
+ghost use Rattle.std.specs.Prelude.{◌≡◌, ◌+◌, ◌*◌, ◌≤◌};
 ghost use Rattle.vm_base.specs.Pages.{rounded};
 ghost use Rattle.vm_base.specs.declared.limits.TheConstants.{PAGE, PAGES_END, VMO_PAGES};
 ghost use Rattle.vm_model.specs.declared.command.ChildKind.TheVariants.{Snapshot};
-ghost use Rattle.vm_model.specs.Contents.Writing.{touched};
 ghost use Rattle.vm_model.specs.Naming.Pins.{is_pinned};
 ghost use Rattle.pin_table.specs.Table.{pins_of};
 ghost use Rattle.fault.specs.Table.{translations_of};
-ghost use Rattle.vm_core.specs.inside.Resets.{shared_by, without_changed, without_pages, without_past, with_read_only_but, with_shared, IsFirstBelow, IsRangeInVmo, IsShared};
+ghost use Rattle.vm_core.specs.inside.Resets.{shared_by, without_changed, without_other, without_pages, without_past, with_read_only_but, with_shared, ArePagesOfVmo, IsFirstBelow, IsRangeInVmo, IsShared};
 
 use crate::requests::ChildRequest;
 use fault::Translations;
@@ -18,12 +17,28 @@ use pages::pages_of_name;
 use pin_table::PinTable;
 use vm_base::{Koid, PAGE, PageNo, RegionName, VMO_PAGES, page_count, page_of};
 use vm_model::{ChildKind, Target};
-use vmo_ops::NameRange;
+use vmo_ops::{NameRange, TouchedPages, touched_by};
 
-/// Forgets, after a change to a range of a name, the translations of the range's pages that have another frame now.
+/// Forgets, after a change to pages of a VMO, the translations of those pages that have another frame now.
 #[inline(always)]
 #[tactic(auto, using(crate::proofs::LeavesLaws::without_none))]
 pub(crate) fn forget_changed<P: PageStore>(
+    translations: &mut Translations,
+    store: &P,
+    koid: Koid,
+    pages: TouchedPages,
+)
+    requires { ArePagesOfVmo (P.content store.now) koid pages }
+    ensures { translations_of translations.new ≡ without_other (P.content store.now) koid pages (translations_of translations.old) }
+{
+    if translations.is_empty() {
+        return;
+    }
+    translations.forget_changed(store, koid, pages.first, pages.end - pages.first);
+}
+
+/// Forgets, after a change to a range of a name, the translations of the range's pages that have another frame now.
+pub(crate) fn forget_range<P: PageStore>(
     translations: &mut Translations,
     store: &P,
     target: &Target,
@@ -33,27 +48,8 @@ pub(crate) fn forget_changed<P: PageStore>(
     ensures { translations_of translations.new
         ≡ without_changed (P.content store.now) target.now range.offset range.len (translations_of translations.old) }
 {
-    if translations.is_empty() {
-        return;
-    }
-    let at = target.first * PAGE + range.offset;
-    translations.forget_changed(
-        store,
-        target.koid,
-        page_of(at),
-        touched_count(at, range.len),
-    );
-}
-
-// How many pages hold a byte of a range that lies in a VMO.
-fn touched_count(at: u64, len: u64) -> u64
-    requires { at + len ≤ VMO_PAGES * PAGE }
-    ensures { result ≡ length (touched at len) }
-{
-    if len == 0 {
-        return 0;
-    }
-    page_of(at + len - 1) - page_of(at) + 1
+    let pages = touched_by(target.first * PAGE + range.offset, range.len);
+    forget_changed(translations, store, target.koid, pages);
 }
 
 /// Forgets the translations of pages past the end of a VMO, which has `size` bytes now, rounded up to whole pages.

@@ -3,6 +3,7 @@ use Rattle.std.specs.Prelude.{◌≡◌, ℕ, ◌+◌, ◌*◌, ◌/◌, ◌<◌
 use Rattle.std.specs.Option.{option_map}
 use Rattle.vm_base.specs.Pages.{rounded}
 use Rattle.vm_base.specs.declared.limits.TheConstants.{PAGE, VMO_PAGES}
+use Rattle.vm_base.specs.declared.names.Koid.{Koid}
 use Rattle.vm_base.specs.declared.names.RegionName.{RegionName}
 use Rattle.vm_model.specs.declared.command.Command.{Command}
 use Rattle.vm_model.specs.declared.command.Command.TheVariants.{VmoChild, VmoSetSize, VmoWrite, VmoFill, VmoCommit, VmoDecommit, VmoZero, VmoPin, VmarMap, VmarUnmap, VmarProtect, VmarDestroy, MemRead, MemWrite}
@@ -19,6 +20,7 @@ use Rattle.vm_model.specs.Space.Readiness.{shows_but}
 use Rattle.vm_model.specs.Space.Regions.{region_of}
 use Rattle.vm_model.specs.Machine.State.{State, target_of, name_pages, seen_pages}
 use Rattle.pages.specs.Names.{IsInside}
+use Rattle.vmo_ops.specs.declared.ranges.TouchedPages.{TouchedPages}
 use Rattle.fault.specs.declared.translation.Translation.{Translation}
 use Rattle.fault.specs.Table.{Places, translations_without, is_translation_of, is_stale, is_at}
 
@@ -29,6 +31,10 @@ abbrev pub without_changed : Content → Target → (offset len : ℕ) → Place
 without_changed c target offset len places =
     let at = target.first * PAGE + offset in
     translations_without (is_stale c target.koid.0 (at / PAGE) (at / PAGE + length (touched at len))) places
+
+-- the same of these pages of a VMO
+abbrev pub without_other : Content → Koid → TouchedPages → Places → Places
+without_other c koid pages places = translations_without (is_stale c koid.0 pages.first pages.end) places
 
 -- the translations, without those of pages of the target's VMO past this size
 abbrev pub without_past : Target → (size : ℕ) → Places → Places
@@ -105,6 +111,12 @@ pub record IsRangeInVmo (c : Content) (target : Target) (offset len : ℕ) : Typ
   pub vmo : IsSome (c.count target.koid.0)
   pub inside : target.first * PAGE + offset + len ≤ pages_of c target.koid.0 * PAGE
   pub few : pages_of c target.koid.0 ≤ VMO_PAGES
+
+-- These pages, from the first to the end, lie in a VMO that is there.
+pub record ArePagesOfVmo (c : Content) (koid : Koid) (pages : TouchedPages) : Type 0 where
+  pub vmo : IsSome (c.count koid.0)
+  pub order : pages.first ≤ pages.end
+  pub inside : pages.end ≤ pages_of c koid.0
 
 -- A name lies in its VMO, and the offset and the rounded size of a snapshot of it are together at most VMO_PAGES pages.
 pub record IsShared (c : Content) (target : Target) (offset size : ℕ) : Type 0 where

@@ -5,21 +5,23 @@ use Rattle.vmo_table.specs.Table.{with_vmos}
 use Rattle.vm_core.proofs.CallLaws.{inside_named, steps_named}
 use Rattle.fault.specs.Table.{translations_of}
 use Rattle.vm_model.specs.Machine.Lent.{reply_for}
-use Rattle.vm_core.proofs.LeavesLaws.{asked_range, left_changed}
+use Rattle.vm_core.proofs.LeavesLaws.{asked_range, left_changed, outcome_inside, outcome_without}
 use Rattle.vm_core.proofs.changing.vmo_fill.Goals as goal
 
-pub fill-outcome-requires-clause-inside : goal.fill-outcome-requires-clause-inside
-fill-outcome-requires-clause-inside g c = inside_named c.args.vmos.now c.args.range.name c.requires c.in-Some.ensures
+pub fill_touching-outcome-requires-clause-inside : goal.fill_touching-outcome-requires-clause-inside
+fill_touching-outcome-requires-clause-inside g c = inside_named c.args.vmos.now c.args.range.name c.requires c.in-Some.ensures
 
 pub changed-requires : goal.changed-requires
-changed-requires g c = λ done.
+changed-requires g c =
     let s = with_vmos c.requires.rest (g.P.PageStore.content c.args.store.now) c.args.vmos.now in
-    asked_range s c.args.range.name.0 (VmoFill c.args.range.name c.args.range.offset c.args.range.len c.args.byte) c.requires.good (c.fill-outcome.ensures s c.args.range.name (sym c.in-Some.ensures)) c.args.range.offset c.args.range.len c.in-Some.ensures (λ refusal e. cc) (λ asked. asked)
+    outcome_inside (g.P.PageStore.content c.fill_touching-outcome.new.store) _ c.args.range.offset c.args.range.len c.fill_touching-outcome.result c.fill_touching-outcome.ensures.touched (λ done. asked_range s c.args.range.name.0 (VmoFill c.args.range.name c.args.range.offset c.args.range.len c.args.byte) c.requires.good (c.fill_touching-outcome.ensures.step s c.args.range.name (sym c.in-Some.ensures)) c.args.range.offset c.args.range.len c.in-Some.ensures (λ refusal e. cc) (λ asked. asked))
 
 pub returns-in-Some-clause-step : goal.returns-in-Some-clause-step
 returns-in-Some-clause-step g c =
     let command = λ (name : VmoName). VmoFill name c.args.range.offset c.args.range.len c.args.byte in
-    rw c.changed.ensures.reply (steps_named command c.args.vmos.now c.args.range.name c.fill-outcome.ensures c.in-Some.ensures)
+    rw c.changed.ensures.reply (steps_named command c.args.vmos.now c.args.range.name c.fill_touching-outcome.ensures.step c.in-Some.ensures)
 
 pub returns-in-Some-clause-left : goal.returns-in-Some-clause-left
-returns-in-Some-clause-left g c = record { left = left_changed _ (g.P.PageStore.content c.fill-outcome.new.store) c.args.vmos.now c.args.range.name (reply_for c.changed.result) c.args.range.offset c.args.range.len (translations_of c.args.translations.now) c.in-Some.ensures c.changed.ensures.left }
+returns-in-Some-clause-left g c =
+    let done = outcome_without (g.P.PageStore.content c.fill_touching-outcome.new.store) c.in-Some.target c.args.range.offset c.args.range.len c.fill_touching-outcome.result (translations_of c.args.translations.now) _ c.fill_touching-outcome.ensures.touched c.changed.ensures.left in
+    record { left = left_changed _ (g.P.PageStore.content c.fill_touching-outcome.new.store) c.args.vmos.now c.args.range.name (reply_for c.changed.result) c.args.range.offset c.args.range.len (translations_of c.args.translations.now) c.in-Some.ensures (rw c.changed.ensures.reply done) }

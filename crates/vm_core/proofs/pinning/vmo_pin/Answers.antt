@@ -10,8 +10,8 @@ use Rattle.vm_core.proofs.pinning.vmo_pin.Goals as goal
 pub pin_into-requires-clause-parts : goal.pin_into-requires-clause-parts
 pin_into-requires-clause-parts g c = (c.requires.counted.rest, c.requires.counted.well)
 
-pub forget_changed-requires : goal.forget_changed-requires
-forget_changed-requires g c =
+pub forget_range-requires : goal.forget_range-requires
+forget_range-requires g c =
     let s = with_tables c.requires.counted.rest (g.P.PageStore.content c.args.store.now) c.args.vmos.now c.args.pins.now in
     asked_range s c.args.request.range.name.0 (VmoPin c.args.request.pin c.args.request.range.name c.args.request.range.offset c.args.request.range.len) c.requires.counted.well.good (c.in-Ok.ensures.step s c.args.request.range.name (sym c.in-Some.ensures))
     c.args.request.range.offset c.args.request.range.len c.in-Some.ensures (λ refusal e. cc) (λ asked. asked)
@@ -25,7 +25,7 @@ returns-in-Ok-clause-counted g c = record { counts = c.in-Ok.ensures.counted }
 
 pub returns-in-Ok-clause-left : goal.returns-in-Ok-clause-left
 returns-in-Ok-clause-left g c = record {
-  left = left_changed _ (g.P.PageStore.content c.pin_into.new.store) c.args.vmos.now c.args.request.range.name Done c.args.request.range.offset c.args.request.range.len (translations_of c.args.translations.now) c.in-Some.ensures c.forget_changed.ensures;
+  left = left_changed _ (g.P.PageStore.content c.pin_into.new.store) c.args.vmos.now c.args.request.range.name Done c.args.request.range.offset c.args.request.range.len (translations_of c.args.translations.now) c.in-Some.ensures c.forget_range.ensures;
 }
 
 pub returns-in-Err-clause-step : goal.returns-in-Err-clause-step
