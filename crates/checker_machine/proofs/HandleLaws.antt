@@ -1,6 +1,7 @@
 -- What a command asked for that was done by its handler, and what it leaves of the notes of ready pages.
-use Rattle.std.proofs.Common.{◌≡◌, ◌≢◌, ℕ, ◌+◌, ◌-◌, ◌*◌, ◌/◌, ◌≤◌, Bool, true, false, not, List, [], length, Option, None, Some, refl, sym, ap, subst, ◌∙◌, inl, inr, arith}
-use Rattle.std.specs.Prelude.{IsSome, is_some}
+use Rattle.std.proofs.Common.{◌≡◌, ◌≢◌, ℕ, ◌+◌, ◌-◌, ◌*◌, ◌/◌, ◌≤◌, Bool, true, false, not, [], length, Option, None, Some, refl, sym, ap, subst, ◌∙◌, inl, inr, arith}
+use Rattle.std.specs.Prelude.{Result, IfOk, MatchResult, IsSome, is_some}
+use Rattle.std.specs.declared.result.Result.TheVariants.{Ok, Err}
 use Rattle.std.specs.Option.{option_map}
 use Rattle.std.specs.List.{range_with_len}
 use Rattle.std.proofs.lemmas.Bool.{ltb-false}
@@ -13,7 +14,7 @@ use Rattle.vm_base.specs.declared.names.VmoName.{VmoName}
 use Rattle.vm_base.specs.declared.refusal.Refusal.{Refusal}
 use Rattle.vm_base.specs.declared.refusal.Refusal.TheVariants.{BadHandle, HostMemory}
 use Rattle.vm_model.specs.declared.command.Command.{Command}
-use Rattle.vm_model.specs.declared.command.Command.TheVariants.{VmoChild, VmoSize, VmoSetSize, VmoInfo, VmoDecommit, VmoPin}
+use Rattle.vm_model.specs.declared.command.Command.TheVariants.{VmoChild, VmoSize, VmoSetSize, VmoInfo, VmoPin}
 use Rattle.vm_model.specs.declared.command.ChildKind.{ChildKind}
 use Rattle.vm_model.specs.declared.command.ChildKind.TheVariants.{Snapshot, Slice, Reference}
 use Rattle.vm_model.specs.declared.names.Target.{Target}
@@ -26,25 +27,28 @@ use Rattle.vm_model.specs.Space.AddressSpaces.{Spaces}
 use Rattle.vm_model.specs.Machine.Given.{GivesName}
 use Rattle.vm_model.specs.Machine.State.{State, is_open, name_pages, seen_pages, size_of, IsGoodState}
 use Rattle.vm_model.specs.Machine.Attribution.{info_at}
-use Rattle.vm_model.specs.Machine.Refusals.{refusals, change_refusals, first_of}
-use Rattle.vm_model.specs.Machine.Step.{Effect, StepAfter, Step, may_lack_memory}
+use Rattle.vm_model.specs.Machine.Refusals.{refusals, first_of}
+use Rattle.vm_model.specs.Machine.Step.{Effect, StepAfter, Step, may_lack_memory, reply_of}
 use Rattle.vm_model.specs.Machine.Machine.{Machine}
 use Rattle.vm_model.specs.Machine.MachineStep.{MachineStepAfter, MachineStep}
 use Rattle.moving_model.proofs.HostLaws.{lack_only}
 use Rattle.vm_model.proofs.ContentLaws.{pages_of_le}
 use Rattle.vm_model.proofs.LeavingLaws.{name_vmo}
 use Rattle.vm_model.proofs.NamesLaws.{target_of-at}
-use Rattle.vm_model.proofs.StepLaws.{AllOff-from_none, change_parts, place_inside, effect_keeps}
+use Rattle.vm_model.proofs.StepLaws.{AllOff-from_none, place_inside, effect_keeps}
 use Rattle.vmo_table.specs.Table.{names_of, IsWellCounted}
 use Rattle.pin_table.specs.Table.{Pins, pin_of, pins_of}
+use Rattle.vmo_ops.specs.declared.ranges.TouchedPages.{TouchedPages}
+use Rattle.vmo_ops.specs.Ranges.{AreTouched}
 use Rattle.vmo_ops.proofs.StepRows.{first_of-skip, Step-done, open_at, size_of-at}
 use Rattle.pages.specs.Names.{IsInside}
 use Rattle.pages.proofs.NameLaws.{IsInside-good}
 use Rattle.region_ops.proofs.PlaceLaws.{Step-refused}
-use Rattle.checker_ready.specs.Notes.{ReadyRows}
+use Rattle.checker_ready.specs.Notes.{ReadyRows, kept_rows, is_current}
 use Rattle.checker_vmos.specs.declared.checker_vmos.CheckerVmos.{CheckerVmos}
 use Rattle.checker_vmos.specs.Vmos.{content_in, state_with_vmos, HasCountedKeepers}
 use Rattle.checker_machine.specs.Machine.{state_in}
+use Rattle.checker_machine.specs.declared.reaching.Reach.{Reach}
 use Rattle.checker_machine.proofs.ReachLaws.{reach_with}
 use Rattle.checker_machine.specs.inside.Leaving.{settled_rows, shared_rows, rows_shared_by}
 use Rattle.checker_machine.specs.inside.Reaching.{reach_at, range_of, seen_reach}
@@ -70,10 +74,6 @@ module _ (s : State) (name : ℕ) (t : Target) (named : s.names name ≡ Some t)
       let inside = subst (λ (x : Target). x.first * PAGE + offset + len ≤ pages_of s.content x.koid.0 * PAGE) (target_of-at s name t named) (place_inside s name t offset len good named range) in
       omega (arith, inside, pages_of_le s.content t.koid.0 good.content)
 
-  -- one of a change that nothing refuses
-  pub few_changed : (offset len : ℕ) (owned : List ℕ) → first_of (change_refusals s name offset len owned) ≡ None → t.first * PAGE + offset + len ≤ VMO_PAGES * PAGE
-  few_changed offset len owned none = let parts = change_parts s name offset len owned none in few_inside offset len parts.2
-
   -- the VMO is there still after a command that was done
   pub vmo_after : {new : State} {command : Command} {reply : Reply} → Step s command reply new → ((refusal : Refusal) → reply ≢ Refused refusal) → GivesName command
       → new.names name ≡ Some t → IsSome (new.content.count t.koid.0)
@@ -86,14 +86,7 @@ module _ (s : State) (name : ℕ) (t : Target) (named : s.names name ≡ Some t)
   range_after offset len {new} {command} {reply} step done given still few =
       record { vmo = vmo_after step done given still; few = few (done_parts step done).0 }
 
--- that of a range whose frames are given back
-pub few_decommit : (s : State) (name : VmoName) (t : Target) (named : s.names name.0 ≡ Some t) (good : IsGoodState s) (offset len : ℕ)
-    → first_of (refusals s (VmoDecommit name offset len)) ≡ None → t.first * PAGE + offset + len ≤ VMO_PAGES * PAGE
-few_decommit s name t named good offset len none =
-    let off = AllOff-from_none (refusals s (VmoDecommit name offset len)) none in
-    few_inside s name.0 t named good offset len (ltb-false (size_of s name.0) (offset + len) off.1.1.1.1.0)
-
--- and that of one that is pinned
+-- that of a range that is pinned
 pub few_pin : (s : State) (name : VmoName) (t : Target) (named : s.names name.0 ≡ Some t) (good : IsGoodState s) (pin : PinName) (offset len : ℕ)
     → first_of (refusals s (VmoPin pin name offset len)) ≡ None → t.first * PAGE + offset + len ≤ VMO_PAGES * PAGE
 few_pin s name t named good pin offset len none =
@@ -167,6 +160,15 @@ reach_is koid at len first end begins order row =
     let count : length (touched at len) ≡ end - first = ap length row ∙ length-range_with_len first (end - first) in
     let ends : end ≡ at / PAGE + length (touched at len) = omega (arith, count, begins, order) in
     λ i. reach_with koid (begins i) (ends i)
+
+-- the notes of the pages that a command answered are settled, if it was done
+pub left_touched : (c : Content) (t : Target) (offset len : ℕ) (outcome : Result TouchedPages Refusal) (rows later : ReadyRows)
+    → IfOk outcome (λ pages. AreTouched (t.first * PAGE + offset) len pages)
+    → MatchResult outcome (λ pages. later ≡ kept_rows (is_current c t.koid.0 pages.first pages.end) rows) (λ _. later ≡ rows)
+    → later ≡ rows_unless_refused (reply_of (λ _. Done) outcome) (settled_rows c (reach_at t.koid (t.first * PAGE + offset) len) rows) rows
+left_touched c t offset len (Ok pages) rows later is e =
+    e ∙ ap (λ (r : Reach). settled_rows c r rows) (reach_is t.koid (t.first * PAGE + offset) len pages.first pages.end is.first is.order is.row)
+left_touched c t offset len (Err refusal) rows later is e = e
 
 module _ (e : CheckerVmos) (c : Content) (rows later : ReadyRows) (name : ℕ) {t : Target} (named : Some t ≡ names_of e.vmos name) (reply : Reply) where
   -- the notes of a range are settled

@@ -30,15 +30,8 @@ pub(crate) fn vmo_write(
     let Some(target) = vmos.vmos.resolve(name) else {
         return Ok(Answer::Refused(Refusal::BadHandle));
     };
-    let outcome = vmo_ops::write(&mut vmos.pages, &target, offset, bytes);
-    changed(
-        ready,
-        &vmos.pages,
-        &target,
-        offset,
-        bytes.len() as u64,
-        outcome,
-    )
+    let outcome = vmo_ops::write_touching(&mut vmos.pages, &target, offset, bytes);
+    changed(ready, &vmos.pages, target.koid, outcome)
 }
 
 /// Writes one byte at every place of a range.
@@ -58,8 +51,8 @@ pub(crate) fn vmo_fill(
     let Some(target) = vmos.vmos.resolve(name) else {
         return Ok(Answer::Refused(Refusal::BadHandle));
     };
-    let outcome = vmo_ops::fill(&mut vmos.pages, &target, offset, len, byte);
-    changed(ready, &vmos.pages, &target, offset, len, outcome)
+    let outcome = vmo_ops::fill_touching(&mut vmos.pages, &target, offset, len, byte);
+    changed(ready, &vmos.pages, target.koid, outcome)
 }
 
 /// Gives each page that a range touches a frame of its own.
@@ -78,8 +71,8 @@ pub(crate) fn vmo_commit(
     let Some(target) = vmos.vmos.resolve(name) else {
         return Ok(Answer::Refused(Refusal::BadHandle));
     };
-    let outcome = vmo_ops::commit(&mut vmos.pages, &target, offset, len);
-    changed(ready, &vmos.pages, &target, offset, len, outcome)
+    let outcome = vmo_ops::commit_touching(&mut vmos.pages, &target, offset, len);
+    changed(ready, &vmos.pages, target.koid, outcome)
 }
 
 /// Makes the bytes of a range zero.
@@ -98,8 +91,8 @@ pub(crate) fn vmo_zero(
     let Some(target) = vmos.vmos.resolve(name) else {
         return Ok(Answer::Refused(Refusal::BadHandle));
     };
-    let outcome = vmo_ops::zero(&mut vmos.pages, &vmos.pins, &target, offset, len);
-    changed(ready, &vmos.pages, &target, offset, len, outcome)
+    let outcome = vmo_ops::zero_touching(&mut vmos.pages, &vmos.pins, &target, offset, len);
+    changed(ready, &vmos.pages, target.koid, outcome)
 }
 
 /// Makes the pages of a range zero and gives their frames back.
@@ -118,7 +111,7 @@ pub(crate) fn vmo_decommit(
     let Some(target) = vmos.vmos.resolve(name) else {
         return Ok(Answer::Refused(Refusal::BadHandle));
     };
-    let outcome = vmo_ops::decommit(
+    let outcome = vmo_ops::decommit_touching(
         &mut vmos.pages,
         &vmos.vmos,
         &vmos.pins,
@@ -126,7 +119,7 @@ pub(crate) fn vmo_decommit(
         offset,
         len,
     );
-    changed(ready, &vmos.pages, &target, offset, len, outcome)
+    changed(ready, &vmos.pages, target.koid, outcome)
 }
 
 /// Changes the size of the VMO to `size` bytes, rounded up to whole pages.

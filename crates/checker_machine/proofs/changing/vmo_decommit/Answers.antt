@@ -3,7 +3,7 @@ use Rattle.checker_pages.specs.Eager.{eager_content}
 use Rattle.checker_ready.specs.Notes.{rows_of}
 use Rattle.checker_vmos.specs.Vmos.{state_with_vmos}
 use Rattle.checker_machine.specs.inside.Steps.{outcome_reply}
-use Rattle.checker_machine.proofs.HandleLaws.{few_decommit, left_range, range_after, refused_vmos}
+use Rattle.checker_machine.proofs.HandleLaws.{left_range, left_touched, refused_vmos, vmo_after}
 use Rattle.checker_machine.proofs.changing.vmo_decommit.Goals as goal
 
 pub returns-in_default-clause-step : goal.returns-in_default-clause-step
@@ -13,12 +13,11 @@ pub changed-requires : goal.changed-requires
 changed-requires c = λ done.
     let s = state_with_vmos c.requires.rest c.args.vmos.now in
     let named = sym c.in-Some.ensures in
-    range_after s c.args.name.0 _ named c.requires.well.good c.args.offset c.args.len (c.decommit-outcome.ensures s c.args.name named) (λ refusal e. cc) tt named
-    (few_decommit s c.args.name _ named c.requires.well.good c.args.offset c.args.len)
+    vmo_after s c.args.name.0 _ named c.requires.well.good (c.decommit_touching-outcome.ensures.step s c.args.name named) (λ refusal e. cc) tt named
 
 pub returns-clause-step : goal.returns-clause-step
 returns-clause-step c = record {
-  step = λ s well. rw c.changed.ensures.reply (c.decommit-outcome.ensures (state_with_vmos s c.args.vmos.now) c.args.name (sym c.in-Some.ensures));
+  step = λ s well. rw c.changed.ensures.reply (c.decommit_touching-outcome.ensures.step (state_with_vmos s c.args.vmos.now) c.args.name (sym c.in-Some.ensures));
   counted = λ s counted. counted;
-  left = left_range c.args.vmos.now (eager_content c.decommit-outcome.new.store) (rows_of c.args.ready.now) _ c.args.name.0 c.in-Some.ensures (outcome_reply c.changed.result) c.args.offset c.args.len c.changed.ensures.left;
+  left = left_range c.args.vmos.now (eager_content c.decommit_touching-outcome.new.store) (rows_of c.args.ready.now) _ c.args.name.0 c.in-Some.ensures (outcome_reply c.changed.result) c.args.offset c.args.len (rw c.changed.ensures.reply (left_touched (eager_content c.decommit_touching-outcome.new.store) c.in-Some.target c.args.offset c.args.len c.decommit_touching-outcome.result (rows_of c.args.ready.now) _ c.decommit_touching-outcome.ensures.touched c.changed.ensures.left));
 }
