@@ -20,7 +20,7 @@ use Rattle.vm_model.proofs.RangeLaws.{touched-nil}
 use Rattle.vm_model.proofs.TouchedLaws.{touched-one, touched-two}
 use Rattle.checker_access.specs.declared.finding.Found.{Found}
 use Rattle.checker_access.specs.declared.finding.Found.TheVariants.{No, One, Two}
-use Rattle.checker_access.specs.inside.Pages.{IsMappedInside, LieInVmos, FindsOne, FindsTwo, AreTouched, HasFramesFor, pages_found}
+use Rattle.checker_access.specs.inside.Pages.{IsMappedInside, LieInVmos, FindsOne, FindsTwo, AreTouchedEntries, HasFramesFor, pages_found}
 
 -- ---- a test on one page or two
 
@@ -172,17 +172,17 @@ shown_none entries = refl
 
 module _ (c : Content) (table : ℕ → ℕ → Option Entry) (root addr len : ℕ) where
   -- the pages that are found are those that are shown
-  pub shown_found : (found : Found) → AreTouched c table root addr len found → pages_shown (table root) (touched addr len) ≡ pages_found found
+  pub shown_found : (found : Found) → AreTouchedEntries c table root addr len found → pages_shown (table root) (touched addr len) ≡ pages_found found
   shown_found No are = rw are.pages (shown_none (table root))
   shown_found (One entry) are = rw are.pages (shown_one (table root) (addr / PAGE) entry are.shows.is)
   shown_found (Two first second) are = rw are.pages (shown_two (table root) (addr / PAGE) (addr / PAGE + 1) first second are.first_shows.is are.second_shows.is)
 
-  pub found_inside : (found : Found) → AreTouched c table root addr len found → LieInVmos c found
+  pub found_inside : (found : Found) → AreTouchedEntries c table root addr len found → LieInVmos c found
   found_inside No are = tt
   found_inside (One entry) are = are.shows.below
   found_inside (Two first second) are = (are.first_shows.below, are.second_shows.below)
 
-  module _ (found : Found) (are : AreTouched c table root addr len found) (none : None ≡ access_refusal c writing (table root) (touched addr len)) where
+  module _ (found : Found) (are : AreTouchedEntries c table root addr len found) (none : None ≡ access_refusal c writing (table root) (touched addr len)) where
     -- a write that takes no more frames than are free
     pub found_free : HasFramesFor c found → None ≡ first_of (write_refusals c (table root) (touched addr len))
     found_free enough = write_free c (table root) (touched addr len) none (rw (shown_found found are) enough)
@@ -192,6 +192,6 @@ module _ (c : Content) (table : ℕ → ℕ → Option Entry) (root addr len : �
     found_short short = write_short c (table root) (touched addr len) none (rw (shown_found found are) short)
 
   -- two frames are enough
-  pub found_two : (found : Found) → AreTouched c table root addr len found → len ≤ PAGE → (free : ℕ) → 2 ≤ free → free + used c ≡ c.frames → HasFramesFor c found
+  pub found_two : (found : Found) → AreTouchedEntries c table root addr len found → len ≤ PAGE → (free : ℕ) → 2 ≤ free → free + used c ≡ c.frames → HasFramesFor c found
   found_two found are few free two all =
       omega (arith, two, all, need_two c (table root) (touched addr len) (touched_few addr len few), ap (need_each c) (shown_found found are))

@@ -11,7 +11,7 @@ ghost use Rattle.mapping_set.specs.Backed.{AreBacked};
 ghost use Rattle.region_tree.specs.Tree.{regions_of, spaces_of};
 ghost use Rattle.checker_pages.specs.Eager.{eager_content};
 ghost use Rattle.checker_access.specs.Accesses.{IsAccessRefusal};
-ghost use Rattle.checker_access.specs.inside.Pages.{IsMappedInside, AreTouched, HasFramesFor, FindsTouched};
+ghost use Rattle.checker_access.specs.inside.Pages.{IsMappedInside, AreTouchedEntries, HasFramesFor, FindsTouched};
 
 use crate::needing::frames_to_own;
 use bitflags::Flags;
@@ -43,7 +43,7 @@ pub(crate) fn find_to_read(
     ensures { MatchResult result
         (λ found. IsAccessRefusal (eager_content pages.now) (spaces_of (regions_of regions.now) (table_of maps.now))
         (Command.MemRead region addr len) None × (len ≤ DATA_BYTES)
-        × AreTouched (eager_content pages.now) (table_of maps.now) region.0 addr len found)
+        × AreTouchedEntries (eager_content pages.now) (table_of maps.now) region.0 addr len found)
         (λ refusal. IsAccessRefusal (eager_content pages.now) (spaces_of (regions_of regions.now) (table_of maps.now))
         (Command.MemRead region addr len) (Some refusal)) }
 {
@@ -77,7 +77,7 @@ pub(crate) fn find_to_write(
     ensures { MatchResult result
         (λ found. IsAccessRefusal (eager_content pages.now) (spaces_of (regions_of regions.now) (table_of maps.now))
         (Command.MemWrite region addr bytes.now) None
-        × AreTouched (eager_content pages.now) (table_of maps.now) region.0 addr (length bytes.now) found
+        × AreTouchedEntries (eager_content pages.now) (table_of maps.now) region.0 addr (length bytes.now) found
         × HasFramesFor (eager_content pages.now) found)
         (λ refusal. IsAccessRefusal (eager_content pages.now) (spaces_of (regions_of regions.now) (table_of maps.now))
         (Command.MemWrite region addr bytes.now) (Some refusal)) }

@@ -39,15 +39,15 @@ pub record FindsTwo (c : Content) (table : ℕ → ℕ → Option Entry) (root a
   pub second_shows : IsMappedInside c table root (addr / PAGE + 1) second
 
 -- these are the pages that an access to so many bytes touches, and what each shows lies in its VMO
-abbrev pub AreTouched : Content → (ℕ → ℕ → Option Entry) → (root addr len : ℕ) → Found → Type 0
-AreTouched c table root addr len No = FindsNone addr len
-AreTouched c table root addr len (One entry) = FindsOne c table root addr len entry
-AreTouched c table root addr len (Two first second) = FindsTwo c table root addr len first second
+abbrev pub AreTouchedEntries : Content → (ℕ → ℕ → Option Entry) → (root addr len : ℕ) → Found → Type 0
+AreTouchedEntries c table root addr len No = FindsNone addr len
+AreTouchedEntries c table root addr len (One entry) = FindsOne c table root addr len entry
+AreTouchedEntries c table root addr len (Two first second) = FindsTwo c table root addr len first second
 
 -- the pages are found if this refuses nothing, and else what it refuses
 abbrev pub FindsTouched : Content → (ℕ → ℕ → Option Entry) → (root addr len : ℕ) → Option Refusal → Result Found Refusal → Type 0
 FindsTouched c table root addr len refusal outcome =
-    MatchResult outcome (λ found. (None ≡ refusal) × AreTouched c table root addr len found) (λ denied. Some denied ≡ refusal)
+    MatchResult outcome (λ found. (None ≡ refusal) × AreTouchedEntries c table root addr len found) (λ denied. Some denied ≡ refusal)
 
 -- the pages of VMOs that are shown
 abbrev pub pages_found : Found → List VmoPage

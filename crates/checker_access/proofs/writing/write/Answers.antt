@@ -8,7 +8,7 @@ use Rattle.pages.specs.Needs.{MayOwn}
 use Rattle.mapping_set.specs.Tables.{table_of}
 use Rattle.checker_pages.specs.Eager.{eager_content}
 use Rattle.checker_ready.specs.Notes.{rows_of}
-use Rattle.checker_access.specs.inside.Pages.{IsMappedInside, FindsTwo, AreTouched, HasFramesFor}
+use Rattle.checker_access.specs.inside.Pages.{IsMappedInside, FindsTwo, AreTouchedEntries, HasFramesFor}
 use Rattle.checker_access.proofs.NeedLaws.{may_own}
 use Rattle.checker_access.proofs.WriteLaws.{notes_same, HasAccessEffect-none, HasAccessEffect-one, HasAccessEffect-from}
 use Rattle.checker_access.proofs.writing.write.Goals as goal
@@ -20,7 +20,7 @@ write_page-requires-clause-own c =
 
 pub returns-in-No-clause-wrote : goal.returns-in-No-clause-wrote
 returns-in-No-clause-wrote c =
-    let none = subst (AreTouched (eager_content c.args.pages.now) (table_of c.args.maps.now) c.args.place.region.0 c.args.place.addr (length c.args.bytes.now)) c.in-No.is c.in-Ok.ensures.1 in
+    let none = subst (AreTouchedEntries (eager_content c.args.pages.now) (table_of c.args.maps.now) c.args.place.region.0 c.args.place.addr (length c.args.bytes.now)) c.in-No.is c.in-Ok.ensures.1 in
     record {
       free = c.in-Ok.ensures.0;
       effect = HasAccessEffect-none (table_of c.args.maps.now) (eager_content c.args.pages.now) (rows_of c.args.ready.now) c.args.place.region c.args.place.addr c.args.bytes.now none.none;
@@ -28,7 +28,7 @@ returns-in-No-clause-wrote c =
 
 pub returns-in-Ok-make_room-clause-wrote : goal.returns-in-Ok-make_room-clause-wrote
 returns-in-Ok-make_room-clause-wrote c =
-    let one = subst (AreTouched (eager_content c.args.pages.now) (table_of c.args.maps.now) c.args.place.region.0 c.args.place.addr (length c.args.bytes.now)) c.in-One.is c.in-Ok.ensures.1 in
+    let one = subst (AreTouchedEntries (eager_content c.args.pages.now) (table_of c.args.maps.now) c.args.place.region.0 c.args.place.addr (length c.args.bytes.now)) c.in-One.is c.in-Ok.ensures.1 in
     let kept = c.in-Ok-make_room.ensures in
     let writes = c.write_page.ensures.writes (table_of c.args.maps.now)
     (notes_same (table_of c.args.maps.now) _ _ _ _ (sym kept.content) (sym kept.same) c.requires.true_rows)
@@ -46,7 +46,7 @@ returns-in-Ok-make_room-clause-wrote c =
 
 pub returns-in-Ok-make_room-2-clause-wrote : goal.returns-in-Ok-make_room-2-clause-wrote
 returns-in-Ok-make_room-2-clause-wrote c =
-    let two = subst (AreTouched (eager_content c.args.pages.now) (table_of c.args.maps.now) c.args.place.region.0 c.args.place.addr (length c.args.bytes.now)) c.in-Two.is c.in-Ok.ensures.1 in
+    let two = subst (AreTouchedEntries (eager_content c.args.pages.now) (table_of c.args.maps.now) c.args.place.region.0 c.args.place.addr (length c.args.bytes.now)) c.in-Two.is c.in-Ok.ensures.1 in
     let kept = c.in-Ok-make_room-2.ensures in
     let wrote = c.write_in_two.ensures.wrote (table_of c.args.maps.now)
     (notes_same (table_of c.args.maps.now) _ _ _ _ (sym kept.content) (sym kept.same) c.requires.true_rows)
