@@ -52,19 +52,19 @@ module _ {R : Type 0} (f : Functions R) where
       let e2 = pow-times (length (rows_of f t) + 1) 2 each in
       omega arith
 
-  -- thirteen steps for each row from top to bottom, and one more
-  pub change_cost : (t : SearchTree R) (before after : ℕ) → IsBalanced t → after ≤ before + 13 * height t + 1 → 2 ^ (after - before) ≤ (length (rows_of f t) + 2) ^ 32
+  -- fourteen steps for each row from top to bottom, and one more
+  pub change_cost : (t : SearchTree R) (before after : ℕ) → IsBalanced t → after ≤ before + 14 * height t + 1 → 2 ^ (after - before) ≤ (length (rows_of f t) + 2) ^ 32
   change_cost t before after h steps =
       let n = length (rows_of f t) + 2 in
       let bound = height-rows t h in
       let wide = pow-le-pow_left {n = length (rows_of f t) + 1} {m = n} (omega arith) 2 in
       let tall : 2 ^ height t ≤ n ^ 2 = omega arith in
-      let all_rows = pow-le-pow_left {n = 2 ^ height t} {m = n ^ 2} tall 13 in
-      let few = pow-le-pow_left {n = 2} {m = n} (omega arith) 6 in
-      let up = pow_mono {i = after - before} {j = height t * 13 + 6} (omega arith) in
-      let e1 = pow-add 2 (height t * 13) 6 in
-      let e2 = pow-times 2 (height t) 13 in
-      let e3 = pow-times n 2 13 in
-      let e4 = pow-add n 26 6 in
-      let all : 2 ^ (height t * 13) * 2 ^ 6 ≤ n ^ 26 * n ^ 6 = mul-le-mul (omega arith) few in
+      let all_rows = pow-le-pow_left {n = 2 ^ height t} {m = n ^ 2} tall 14 in
+      let few = pow-le-pow_left {n = 2} {m = n} (omega arith) 4 in
+      let up = pow_mono {i = after - before} {j = height t * 14 + 4} (omega arith) in
+      let e1 = pow-add 2 (height t * 14) 4 in
+      let e2 = pow-times 2 (height t) 14 in
+      let e3 = pow-times n 2 14 in
+      let e4 = pow-add n 28 4 in
+      let all : 2 ^ (height t * 14) * 2 ^ 4 ≤ n ^ 28 * n ^ 4 = mul-le-mul (omega arith) few in
       omega arith

@@ -6,9 +6,9 @@ use Rattle.balanced_tree.specs.declared.changes.Change.{Change}
 use Rattle.balanced_tree.specs.declared.changes.Change.TheVariants.{Hidden, Root}
 use Rattle.balanced_tree.specs.Row.{Functions, AreLawful}
 use Rattle.balanced_tree.specs.inside.Tree.{SearchTree, Leaf, Node, place_of, child_of, balanced, inserted}
-use Rattle.balanced_tree.specs.inside.Standing.{child_under, child_at, root_after, IsRooted, Same, IsStanding, Becomes, IsSplit, HasInserted}
-use Rattle.balanced_tree.proofs.Spelling.{Keeps-trans, Same-refl, split_over, split_with, place_over-tree}
-use Rattle.balanced_tree.proofs.Nodes.{IsNode, rank_here, height-left, height-right, right_is, left_is, same_again, left_again, right_again, again_left, again_right, split_left, split_right, kept_wider_left, kept_wider_right, has_rank-left, has_rank-right, has_rank-here}
+use Rattle.balanced_tree.specs.inside.Standing.{child_under, root_after, IsRooted, Same, IsStanding, Becomes, IsSplit, HasInserted}
+use Rattle.balanced_tree.proofs.Spelling.{Keeps-trans}
+use Rattle.balanced_tree.proofs.Nodes.{IsNode, rank_here, height-left, height-right, same_again, left_again, right_again, again_left, again_right, split_left, split_right, kept_wider_left, kept_wider_right, has_rank-left, has_rank-right}
 use Rattle.balanced_tree.proofs.Hiding.{rooted-at, rooted-hidden, rooted-link, rooted-again, still-left, still-right, becomes-still, even-left, even-right}
 
 module _ {R : Type 0} (f : Functions R) where
@@ -19,10 +19,6 @@ module _ {R : Type 0} (f : Functions R) where
   pub inserted-right : (q : ℕ) (w : R) (l : SearchTree R) (p : ℕ) (x : R) (r : SearchTree R) → f.rank x < f.rank w → inserted f q w (Node l p x r) ≡ balanced f l p x (inserted f q w r)
   unfolding inserted
   inserted-right q w l p x r h = cond-false (ltb (f.rank w) (f.rank x)) _ _ (le-ltb _ _ (omega arith)) ∙ cond-true (ltb (f.rank x) (f.rank w)) _ _ (lt-ltb _ _ h)
-
-  pub inserted-here : (q : ℕ) (w : R) (l : SearchTree R) (p : ℕ) (x : R) (r : SearchTree R) → f.rank w ≡ f.rank x → inserted f q w (Node l p x r) ≡ Node l p w r
-  unfolding inserted
-  inserted-here q w l p x r h = cond-false (ltb (f.rank w) (f.rank x)) _ _ (le-ltb _ _ (omega arith)) ∙ cond-false (ltb (f.rank x) (f.rank w)) _ _ (le-ltb _ _ (omega arith))
 
   -- what `balance` says of the trees that it is given
   abbrev pub Balances : Slab R → Slab R → ℕ → R → Option ℕ → Option ℕ → ℕ → Type 0
@@ -49,7 +45,7 @@ module _ {R : Type 0} (f : Functions R) where
       → HasInserted f s s1 w n.left low (f.rank n.row) part b1 b2 → left ≡ root_after part (f.left here)
       → get s1 p ≡ Some again → right ≡ f.right again
       → Rebalances s1 s2 p again left right change
-      → slab_len s2 ≡ slab_len s1 → b1 ≤ before + 1 → after ≤ b2 + 12
+      → slab_len s2 ≡ slab_len s1 → b1 ≤ before + 1 → after ≤ b2 + 13
       → HasInserted f s s2 w t low high change before after
   insert-left {s} {s1} {s2} {p} {here} {w = w} {low = low} {high} laws n less sub link_is e on_right balance len g1 g2 =
       let q = s.vacant_key in
@@ -69,7 +65,7 @@ module _ {R : Type 0} (f : Functions R) where
       → HasInserted f s s1 w n.right (f.rank n.row + 1) high part b1 b2 → right ≡ root_after part (f.right here)
       → get s1 p ≡ Some again → left ≡ f.left again
       → Rebalances s1 s2 p again left right change
-      → slab_len s2 ≡ slab_len s1 → b1 ≤ before + 1 → after ≤ b2 + 12
+      → slab_len s2 ≡ slab_len s1 → b1 ≤ before + 1 → after ≤ b2 + 13
       → HasInserted f s s2 w t low high change before after
   insert-right {s} {s1} {s2} {p} {here} {w = w} {low = low} {high} laws n more sub link_is e on_left balance len g1 g2 =
       let q = s.vacant_key in
@@ -116,26 +112,6 @@ module _ {R : Type 0} (f : Functions R) where
         rooted = subst (λ u. IsRooted f (child_of f t) u Hidden) (sym is) (rooted-hidden f still.like);
         len = sub.len ∙ ap (λ b. slab_len s + cond b 0 1) (sym (has_rank-right f n (f.rank w) more));
         steps = omega (arith, sub.steps, height-right f n);
-      }
-
-  pub insert-here :
-      {s s2 : Slab R} {p : ℕ} {here w : R} {t : SearchTree R} {low high before after root : ℕ} {left right : Option ℕ}
-      → AreLawful f → (n : IsNode f s p here t low high) → f.rank here ≤ f.rank w → f.rank w ≤ f.rank here
-      → left ≡ f.left here → right ≡ f.right here
-      → Updates s s2 p (Some (f.linked w (child_at s left) (child_at s right))) → root ≡ p
-      → slab_len s2 ≡ slab_len s → after ≤ before + 4
-      → HasInserted f s s2 w t low high (Root root) before after
-  insert-here {s} {s2} {p} {here} {w} {t} {low} {high} {before} {after} {root} laws n g h on_left on_right u root_is len steps =
-      let q = s.vacant_key in
-      let had : IsSplit f s n.left p n.row n.right low high = split_over f n.at (rank_here f n) n.left_standing.spelled n.right_standing.spelled n.left_standing.ordered n.right_standing.ordered in
-      let split : IsSplit f s n.left p w n.right low high = split_with f had (omega (arith, rank_here f n)) had.at had.left had.right had.left_ordered had.right_ordered in
-      let made = place_over-tree f laws split (Same-refl f w) (left_is f n on_left) (right_is f n on_right) refl u refl in
-      let is = ap (inserted f q w) n.is ∙ inserted-here q w n.left p n.row n.right (omega (arith, rank_here f n)) in
-      record {
-        becomes = subst (λ u. Becomes f s s2 u low high) (sym is) made.becomes;
-        rooted = rooted-at f (ap place_of is ∙ ap Some (sym root_is));
-        len = omega (arith, len, ap (λ b. slab_len s + cond b 0 1) (has_rank-here f n (f.rank w) g h));
-        steps = omega (arith, height-left f n);
       }
 
   pub insert-leaf_tree : (q : ℕ) (w : R) → inserted f q w Leaf ≡ Node Leaf q w Leaf

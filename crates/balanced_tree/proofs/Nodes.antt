@@ -1,8 +1,9 @@
 -- The root of a tree that stands in a slab, and its parts.
-use Rattle.std.proofs.Common.{◌≡◌, ◌⊎◌, ℕ, ◌+◌, ◌<◌, ◌≤◌, ◌^◌, max, Bool, true, false, not, cond, Option, None, Some, is_some, IsTrue, refl, sym, ap, ◌∙◌, subst, inl, inr, arith}
+use Rattle.std.proofs.Common.{◌≡◌, ℕ, ◌+◌, ◌<◌, ◌≤◌, ◌^◌, max, Bool, true, false, not, cond, Option, None, Some, is_some, refl, sym, ap, ◌∙◌, subst, inl, inr, arith}
 use Rattle.std.proofs.lemmas.Grind.{common_steps}
+use Rattle.std.proofs.lemmas.Bool.{cases_lt}
 use Rattle.std.proofs.lemmas.Option.{same_Some}
-use Rattle.slab.specs.Slab.{Slab, get, ContainsKey, HasRoomFor}
+use Rattle.slab.specs.Slab.{Slab, get, ContainsKey}
 use Rattle.std.specs.Option.{option_map}
 use Rattle.balanced_tree.specs.Row.{Functions, AreLawful, height_in, plain}
 use Rattle.balanced_tree.specs.inside.Tree.{SearchTree, Leaf, Node, place_of, height, child_of, stored, has_rank, row_in, found}
@@ -217,6 +218,15 @@ module _ {R : Type 0} (f : Functions R) where
           right_is = on_right;
         }
 
+  -- a row of no lower rank than this one has a higher rank, since no row has its rank yet
+  pub past-absent : {s : Slab R} {at : Option ℕ} {p m : ℕ} {here : R} → AreLawful f → StandsFor f s at m → at ≡ Some p → get s p ≡ Some here → f.rank here ≤ m → f.rank here < m
+  past-absent {m = m} {here} laws h is at from =
+      let n = node_of laws h.standing is at in
+      elim (cases_lt (f.rank here) m) [
+        | inl more ↦ more
+        | inr most ↦ (let clash : false ≡ true = sym h.absent ∙ has_rank-here n m from most in cc)
+      ]
+
   -- what a recursion into a part asks
   pub StandsFor-left : {s : Slab R} {at link : Option ℕ} {p m : ℕ} {here : R} → AreLawful f → StandsFor f s at m → at ≡ Some p → get s p ≡ Some here → link ≡ f.left here → m < f.rank here → StandsFor f s link m
   StandsFor-left {s} {m = m} laws h is at e less =
@@ -228,7 +238,8 @@ module _ {R : Type 0} (f : Functions R) where
         standing = standing-at (sym e) n.left_standing;
         from_low = h.from_low;
         below_high = omega (arith, rank_here n);
-        room = subst (λ b. IsTrue b ⊎ HasRoomFor s 1) (has_rank-left n m less) h.room;
+        absent = sym (has_rank-left n m less) ∙ h.absent;
+        room = h.room;
       }
 
   pub StandsFor-right : {s : Slab R} {at link : Option ℕ} {p m : ℕ} {here : R} → AreLawful f → StandsFor f s at m → at ≡ Some p → get s p ≡ Some here → link ≡ f.right here → f.rank here < m → StandsFor f s link m
@@ -241,7 +252,8 @@ module _ {R : Type 0} (f : Functions R) where
         standing = standing-at (sym e) n.right_standing;
         from_low = omega (arith, rank_here n);
         below_high = h.below_high;
-        room = subst (λ b. IsTrue b ⊎ HasRoomFor s 1) (has_rank-right n m more) h.room;
+        absent = sym (has_rank-right n m more) ∙ h.absent;
+        room = h.room;
       }
 
   pub Stands-left : {s : Slab R} {at link : Option ℕ} {p : ℕ} {here : R} → AreLawful f → Stands f s at → at ≡ Some p → get s p ≡ Some here → link ≡ f.left here → Stands f s link

@@ -20,9 +20,6 @@ to_next a e = omega arith
 pub to_second : (a : ℕ) {b c : ℕ} → b ≡ a + 1 → c ≡ b + 1 → c ≤ a + 2
 to_second a e h = omega arith
 
-pub to_fourth : (a : ℕ) {b c : ℕ} → b ≡ a + 1 → c ≤ b + 3 → c ≤ a + 4
-to_fourth a e h = omega arith
-
 pub to_fifth : (a : ℕ) {b c d : ℕ} → b ≡ a + 1 → c ≤ b + 3 → d ≡ c + 1 → d ≤ a + 5
 to_fifth a e h g = omega arith
 

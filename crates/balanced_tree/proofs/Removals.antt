@@ -107,7 +107,7 @@ module _ {R : Type 0} (f : Functions R) where
       → AreLawful f → (n : IsNode f s p here t low high) → f.left here ≡ Some q
       → HasTakenLeast f s s1 n.left low (f.rank n.row) y part b1 b2 → rest ≡ root_after part (f.left here)
       → get s1 p ≡ Some again → right ≡ f.right again → Rebalances f s1 s2 p again rest right change
-      → slab_len s2 ≡ slab_len s1 → b1 ≤ before + 1 → after ≤ b2 + 12
+      → slab_len s2 ≡ slab_len s1 → b1 ≤ before + 1 → after ≤ b2 + 13
       → HasTakenLeast f s s2 t low high y change before after
   take-later {s} {s1} {s2} {p} {q} {here} {y = y} {t} {low} {high} laws n some sub link_is e on_right balance len g1 g2 =
       let node = is_leaf-some n.left q (n.left_standing.is_at ∙ some) in
@@ -249,7 +249,7 @@ module _ {R : Type 0} (f : Functions R) where
       → AreLawful f → (n : IsNode f s p here t low high) → m < f.rank here
       → HasRemoved f s s1 m n.left low (f.rank n.row) y part b1 b2 → left ≡ root_after part (f.left here)
       → get s1 p ≡ Some again → right ≡ f.right again → Rebalances f s1 s2 p again left right change
-      → slab_len s2 ≡ slab_len s1 → b1 ≤ before + 1 → after ≤ b2 + 12
+      → slab_len s2 ≡ slab_len s1 → b1 ≤ before + 1 → after ≤ b2 + 13
       → HasRemoved f s s2 m t low high y change before after
   remove-left {s1 = s1} {s2} {p} {m} {low = low} {high} laws n less sub link_is e on_right balance len g1 g2 =
       let again_is = again_left f n sub.becomes.kept e in
@@ -268,7 +268,7 @@ module _ {R : Type 0} (f : Functions R) where
       → AreLawful f → (n : IsNode f s p here t low high) → f.rank here < m
       → HasRemoved f s s1 m n.right (f.rank n.row + 1) high y part b1 b2 → right ≡ root_after part (f.right here)
       → get s1 p ≡ Some again → left ≡ f.left again → Rebalances f s1 s2 p again left right change
-      → slab_len s2 ≡ slab_len s1 → b1 ≤ before + 1 → after ≤ b2 + 12
+      → slab_len s2 ≡ slab_len s1 → b1 ≤ before + 1 → after ≤ b2 + 13
       → HasRemoved f s s2 m t low high y change before after
   remove-right {s1 = s1} {s2} {p} {m} {low = low} {high} laws n more sub link_is e on_left balance len g1 g2 =
       let again_is = again_right f n sub.becomes.kept e in

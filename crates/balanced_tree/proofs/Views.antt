@@ -91,7 +91,7 @@ module _ {R : Type 0} (f : Functions R) (laws : AreLawful f) where
   pub look_cost-IsTree : {s : Slab R} {root : Option ℕ} (each before after : ℕ) → (h : IsTree f s root) → after ≤ before + each * height h.tree → 2 ^ (after - before) ≤ (length (rows_in f s root).rows + 1) ^ (2 * each)
   look_cost-IsTree each before after h steps = subst (λ u. 2 ^ (after - before) ≤ (length u + 1) ^ (2 * each)) (sym (rows_in-standing h.standing)) (look_cost f h.tree each before after h.balanced steps)
 
-  pub change_cost-IsTree : {s : Slab R} {root : Option ℕ} (before after : ℕ) → (h : IsTree f s root) → after ≤ before + 13 * height h.tree + 1 → 2 ^ (after - before) ≤ (length (rows_in f s root).rows + 2) ^ 32
+  pub change_cost-IsTree : {s : Slab R} {root : Option ℕ} (before after : ℕ) → (h : IsTree f s root) → after ≤ before + 14 * height h.tree + 1 → 2 ^ (after - before) ≤ (length (rows_in f s root).rows + 2) ^ 32
   change_cost-IsTree before after h steps = subst (λ u. 2 ^ (after - before) ≤ (length u + 2) ^ 32) (sym (rows_in-standing h.standing)) (change_cost f h.tree before after h.balanced steps)
 
   -- the height of a tree in a slab that fits the machine

@@ -5,14 +5,14 @@ ghost use Rattle.balanced_tree.specs.inside.Tree.{SearchTree};
 ghost use Rattle.balanced_tree.specs.inside.Standing.{IsStanding, StandsFor, HasInserted};
 
 use crate::changes::{Change, root_after};
-use crate::rotation::{put_over, rebalance};
+use crate::rotation::{rebalance_left, rebalance_right};
 use crate::row_slab::RowSlab;
 use crate::steps::Steps;
 use crate::tree_row::TreeRow;
 use std::sync::ledger::Ledger;
 
-/// Puts a row into the tree under a link, in place of the row of its rank if there is one, and answers what the row above
-/// the tree has to store anew. On the way back up nothing is done above the first row that hides the change.
+/// Puts a row of a rank that no row has yet into the tree under a link, and answers what the row above the tree has to store
+/// anew. On the way back up nothing is done above the first row that hides the change.
 pub fn insert_below<R: TreeRow, L: Ledger>(
     rows: &mut RowSlab<R>,
     at: Option<usize>,
@@ -33,28 +33,23 @@ pub fn insert_below<R: TreeRow, L: Ledger>(
     let there = here.rank();
     if rank < there {
         let below = here.left();
-        let other = here.right();
         let change = insert_below(rows, below, row, steps);
         match change {
             Change::Hidden => Change::Hidden,
             _ => {
                 let left = root_after(change, below);
-                rebalance(rows, place, left, other, steps)
+                rebalance_left(rows, place, left, steps)
             }
         }
-    } else if there < rank {
+    } else {
         let below = here.right();
-        let other = here.left();
         let change = insert_below(rows, below, row, steps);
         match change {
             Change::Hidden => Change::Hidden,
             _ => {
                 let right = root_after(change, below);
-                rebalance(rows, place, other, right, steps)
+                rebalance_right(rows, place, right, steps)
             }
         }
-    } else {
-        let (left, right) = (here.left(), here.right());
-        Change::Root(put_over(rows, place, *row, left, right, steps))
     }
 }

@@ -51,7 +51,7 @@ pub fn move_below<R: TreeRow, L: Ledger>(
         }
     } else {
         let had = *here;
-        put_over(rows, place, *row, left, right, steps);
+        put_over(rows, place, row, left, right, steps);
         let now = rows.row(place, steps);
         change_from(place, had, now)
     }

@@ -5,7 +5,7 @@ ghost use Rattle.balanced_tree.specs.inside.Tree.{SearchTree};
 ghost use Rattle.balanced_tree.specs.inside.Standing.{IsStanding, Stands, HasRemoved, HasTakenLeast, HasTakenRoot};
 
 use crate::changes::{Change, change_to, root_after};
-use crate::rotation::{balance, rebalance};
+use crate::rotation::{balance, rebalance_left, rebalance_right};
 use crate::row_slab::RowSlab;
 use crate::steps::Steps;
 use crate::tree_row::TreeRow;
@@ -38,7 +38,6 @@ fn take_least<R: TreeRow, L: Ledger>(
             rest: change_to(rest),
         };
     };
-    let other = here.right();
     let least = take_least(rows, next, steps);
     let row = least.row;
     match least.rest {
@@ -48,7 +47,7 @@ fn take_least<R: TreeRow, L: Ledger>(
         },
         _ => {
             let left = root_after(least.rest, Some(next));
-            let rest = rebalance(rows, place, left, other, steps);
+            let rest = rebalance_left(rows, place, left, steps);
             Least { row, rest }
         }
     }
@@ -99,24 +98,22 @@ pub fn remove_below<R: TreeRow, L: Ledger>(
     let there = here.rank();
     if rank < there {
         let below = here.left();
-        let other = here.right();
         let change = remove_below(rows, below, rank, taken, steps);
         match change {
             Change::Hidden => Change::Hidden,
             _ => {
                 let left = root_after(change, below);
-                rebalance(rows, place, left, other, steps)
+                rebalance_left(rows, place, left, steps)
             }
         }
     } else if there < rank {
         let below = here.right();
-        let other = here.left();
         let change = remove_below(rows, below, rank, taken, steps);
         match change {
             Change::Hidden => Change::Hidden,
             _ => {
                 let right = root_after(change, below);
-                rebalance(rows, place, other, right, steps)
+                rebalance_right(rows, place, right, steps)
             }
         }
     } else {

@@ -117,7 +117,7 @@ fn place_over<R: TreeRow, L: Ledger>(
 pub fn put_over<R: TreeRow, L: Ledger>(
     rows: &mut RowSlab<R>,
     place: usize,
-    row: R,
+    row: &R,
     left: Option<usize>,
     right: Option<usize>,
     steps: &mut Steps<L>,
@@ -127,14 +127,14 @@ pub fn put_over<R: TreeRow, L: Ledger>(
     requires right { ForSome right (ContainsKey rows.old) }
     ensures place { result ≡ place }
     ensures updates { Updates rows.old rows.new place
-        (Some (R.functions.linked row (child_at rows.old left) (child_at rows.old right))) }
+        (Some (R.functions.linked row.now (child_at rows.old left) (child_at rows.old right))) }
     ensures len { slab_len rows.new ≡ slab_len rows.old }
     ensures capacity { rows.new.capacity ≡ rows.old.capacity }
     ensures steps { steps.new ≤ steps.old + 3 }
 {
     let left = child_under(rows, left, steps);
     let right = child_under(rows, right, steps);
-    place_over(rows, place, row, left, right, steps).link
+    place_over(rows, place, *row, left, right, steps).link
 }
 
 /// Returns what the row above a place has to store anew, if a row stands there in place of another one.
@@ -286,13 +286,13 @@ pub fn balance<R: TreeRow, L: Ledger>(
     if left_height + 1 < right_height {
         return lean_left(rows, place, row, left, right, steps);
     }
-    put_over(rows, place, row, left, right, steps)
+    put_over(rows, place, &row, left, right, steps)
 }
 
 /// Balances the row that stands at a place over two children, and returns what the row above it has to store anew. The row
 /// is copied only if it moves: otherwise its links and its height change where it stands.
 #[inline(always)]
-pub fn rebalance<R: TreeRow, L: Ledger>(
+fn rebalance<R: TreeRow, L: Ledger>(
     rows: &mut RowSlab<R>,
     place: usize,
     left: Option<usize>,
@@ -309,10 +309,8 @@ pub fn rebalance<R: TreeRow, L: Ledger>(
     ensures capacity { rows.new.capacity ≡ rows.old.capacity }
     ensures steps { steps.new ≤ steps.old + 12 }
 {
-    let left_child = child_under(rows, left, steps);
-    let right_child = child_under(rows, right, steps);
-    let left_height = height_of(left_child);
-    let right_height = height_of(right_child);
+    let left_height = height_under(rows, left, steps);
+    let right_height = height_under(rows, right, steps);
     if right_height + 1 < left_height {
         let high = rows.row(place, steps);
         return Change::Root(lean_right(rows, place, high, left, right, steps));
@@ -321,7 +319,55 @@ pub fn rebalance<R: TreeRow, L: Ledger>(
         let low = rows.row(place, steps);
         return Change::Root(lean_left(rows, place, low, left, right, steps));
     }
+    let left_child = child_under(rows, left, steps);
+    let right_child = child_under(rows, right, steps);
     let had = rows.row(place, steps);
     let child = place_over(rows, place, had, left_child, right_child, steps);
     change_from(place, had, child.row)
+}
+
+/// Balances the row that stands at a place over this left child and the right one that it has, and returns what the row
+/// above it has to store anew. The function is not inlined: a call on the way down then keeps no more than the place.
+#[inline(never)]
+pub fn rebalance_left<R: TreeRow, L: Ledger>(
+    rows: &mut RowSlab<R>,
+    place: usize,
+    left: Option<usize>,
+    steps: &mut Steps<L>,
+) -> Change
+    requires { (row : R) × (get rows.old place ≡ Some row) × Splits R.functions rows.old left place row (R.functions.right row) }
+    ensures tree { (row : R) → get rows.old place ≡ Some row
+        → (l : SearchTree R) (x : R) (r : SearchTree R) (low high : ℕ) → IsSplit R.functions rows.old l place x r low high
+        → Same R.functions x row → place_of l ≡ left → place_of r ≡ R.functions.right row
+        → Becomes R.functions rows.old rows.new (balanced R.functions l place x r) low high
+        × IsRooted R.functions (Some (record { link = place; row = row })) (balanced R.functions l place x r) result }
+    ensures len { slab_len rows.new ≡ slab_len rows.old }
+    ensures capacity { rows.new.capacity ≡ rows.old.capacity }
+    ensures steps { steps.new ≤ steps.old + 13 }
+{
+    let right = rows.look(place, steps).right();
+    rebalance(rows, place, left, right, steps)
+}
+
+/// Balances the row that stands at a place over this right child and the left one that it has, and returns what the row
+/// above it has to store anew. The function is not inlined: a call on the way down then keeps no more than the place.
+#[inline(never)]
+pub fn rebalance_right<R: TreeRow, L: Ledger>(
+    rows: &mut RowSlab<R>,
+    place: usize,
+    right: Option<usize>,
+    steps: &mut Steps<L>,
+) -> Change
+    requires { (row : R) × (get rows.old place ≡ Some row) × Splits R.functions rows.old (R.functions.left row) place row right }
+    ensures tree { (row : R) → get rows.old place ≡ Some row
+        → (l : SearchTree R) (x : R) (r : SearchTree R) (low high : ℕ) → IsSplit R.functions rows.old l place x r low high
+        → Same R.functions x row → place_of l ≡ R.functions.left row → place_of r ≡ right
+        → Becomes R.functions rows.old rows.new (balanced R.functions l place x r) low high
+        × IsRooted R.functions (Some (record { link = place; row = row })) (balanced R.functions l place x r) result }
+    ensures len { slab_len rows.new ≡ slab_len rows.old }
+    ensures capacity { rows.new.capacity ≡ rows.old.capacity }
+    ensures steps { steps.new ≤ steps.old + 13 }
+{
+    let left = rows.look(place, steps).left();
+    rebalance(rows, place, left, right, steps)
 }

@@ -1,5 +1,5 @@
 -- How a tree stands in a slab, and what changes with a part of it.
-use Rattle.std.specs.Prelude.{◌≡◌, ◌⊎◌, ℕ, ◌+◌, ◌-◌, ◌*◌, ◌^◌, ◌<◌, ◌≤◌, cond, length, List, [], ◌∷◌, ◌++◌, zero, suc, IsTrue, Option, None, Some}
+use Rattle.std.specs.Prelude.{◌≡◌, ◌⊎◌, ℕ, ◌+◌, ◌-◌, ◌*◌, ◌^◌, ◌<◌, ◌≤◌, cond, length, List, [], ◌∷◌, ◌++◌, zero, suc, false, Option, None, Some}
 use Rattle.slab.specs.Slab.{Slab, get, slab_len, HasRoomFor}
 use Rattle.balanced_tree.specs.declared.changes.Change.{Change}
 use Rattle.balanced_tree.specs.declared.changes.Change.TheVariants.{Hidden, Empty, Root}
@@ -73,7 +73,7 @@ module _ {R : Type 0} (f : Functions R) where
     pub high : ℕ
     pub standing : IsStanding s at tree low high
 
-  -- some tree stands under this link whose bounds hold this rank, and it has a row of it or there is room for one
+  -- some tree stands under this link whose bounds hold this rank; it has no row of it, and there is room for one
   pub record StandsFor (s : Slab R) (at : Option ℕ) (n : ℕ) : Type 0 where
     pub tree : SearchTree R
     pub low : ℕ
@@ -81,7 +81,8 @@ module _ {R : Type 0} (f : Functions R) where
     pub standing : IsStanding s at tree low high
     pub from_low : low ≤ n
     pub below_high : n < high
-    pub room : IsTrue (has_rank f n tree) ⊎ HasRoomFor s 1
+    pub absent : has_rank f n tree ≡ false
+    pub room : HasRoomFor s 1
 
   -- some tree stands under this link whose bounds hold m, and in which no row has the rank m or one between n and m
   pub record StandsBeside (s : Slab R) (at : Option ℕ) (n m : ℕ) : Type 0 where
@@ -136,7 +137,7 @@ module _ {R : Type 0} (f : Functions R) where
     pub becomes : Becomes old new (inserted f old.vacant_key w t) low high
     pub rooted : IsRooted (child_of f t) (inserted f old.vacant_key w t) c
     pub len : slab_len new ≡ slab_len old + cond (has_rank f (f.rank w) t) 0 1
-    pub steps : after ≤ before + 13 * height t + 1
+    pub steps : after ≤ before + 14 * height t + 1
 
   -- The new slab has the tree with the row w in place of that of rank n, and c is what the row above it stores anew. The
   -- count of steps went from `before` to `after`.
@@ -145,7 +146,7 @@ module _ {R : Type 0} (f : Functions R) where
     pub becomes : Becomes old new (moved f n w t) low high
     pub rooted : IsRooted (child_of f t) (moved f n w t) c
     pub len : slab_len new ≡ slab_len old
-    pub steps : after ≤ before + 13 * height t
+    pub steps : after ≤ before + 14 * height t
 
   -- The new slab has the tree without the row of rank n, which is y with no children, and c is what the row above it
   -- stores anew. It has a row less where a row had this rank.
@@ -155,7 +156,7 @@ module _ {R : Type 0} (f : Functions R) where
     pub row : y ≡ row_in f n t
     pub rooted : IsRooted (child_of f t) (removed f n t) c
     pub len : slab_len new + cond (has_rank f n t) 1 0 ≡ slab_len old
-    pub steps : after ≤ before + 13 * height t
+    pub steps : after ≤ before + 14 * height t
 
   -- The new slab has the tree without its first row, which is y, and c is what the row above it stores anew.
   pub record HasTakenLeast (old new : Slab R) (t : SearchTree R) (low high : ℕ) (y : R) (c : Change)
@@ -167,7 +168,7 @@ module _ {R : Type 0} (f : Functions R) where
     pub row : Same (least f t y) y
     pub from_low : low ≤ f.rank (least f t y)
     pub len : slab_len new + 1 ≡ slab_len old
-    pub steps : after ≤ before + 13 * height t
+    pub steps : after ≤ before + 14 * height t
 
   -- The new slab has the tree without its root, and c is the link to the new root.
   pub record HasTakenRoot (old new : Slab R) (t : SearchTree R) (low high : ℕ) (c : Option ℕ)
@@ -175,7 +176,7 @@ module _ {R : Type 0} (f : Functions R) where
     pub becomes : Becomes old new (without_root f t) low high
     pub root : place_of (without_root f t) ≡ c
     pub len : slab_len new + 1 ≡ slab_len old
-    pub steps : after + 1 ≤ before + 13 * height t
+    pub steps : after + 1 ≤ before + 14 * height t
 
   -- the height that is stored in the row under a link
   abbrev pub height_at : Slab R → Option ℕ → ℕ

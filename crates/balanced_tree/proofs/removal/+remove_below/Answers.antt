@@ -26,23 +26,23 @@ remove_below-change-requires-then-there-rank g t c κs within =
     let less = lower-right f law c.requires.standing c.in-Some.is c.look-here.ensures.row c.right-below.ensures in
     (omega (arith, less), (within.0, (within.1, Stands-right f law c.requires c.in-Some.is c.look-here.ensures.row c.right-below.ensures)))
 
-pub rebalance-requires : goal.rebalance-requires
-rebalance-requires g t c =
+pub rebalance_left-requires : goal.rebalance_left-requires
+rebalance_left-requires g t c =
     let f = g.R.TreeRow.functions in
     let law = g.met.R.TreeRow.lawful in
     let n = node_of f law c.requires.standing c.in-Some.is c.look-here.ensures.row in
     let sub = c.remove_below-change.ensures.removed n.left c.requires.low (f.rank n.row) (standing-at f (sym c.left-below.ensures) n.left_standing) in
     let at = stays_left f n sub.becomes.kept in
-    (_, at, Splits-left f law n sub.becomes at (rooted-link f n.left sub.rooted n.left_standing.is_at ∙ sym (c.root_after-left.ensures ∙ ap (root_after c.remove_below-change.result) c.left-below.ensures)) c.right-other.ensures)
+    (_, at, Splits-left f law n sub.becomes at (rooted-link f n.left sub.rooted n.left_standing.is_at ∙ sym (c.root_after-left.ensures ∙ ap (root_after c.remove_below-change.result) c.left-below.ensures)) refl)
 
-pub rebalance-requires-in_default-change-2 : goal.rebalance-requires-in_default-change-2
-rebalance-requires-in_default-change-2 g t c =
+pub rebalance_right-requires : goal.rebalance_right-requires
+rebalance_right-requires g t c =
     let f = g.R.TreeRow.functions in
     let law = g.met.R.TreeRow.lawful in
     let n = node_of f law c.requires.standing c.in-Some.is c.look-here.ensures.row in
     let sub = c.remove_below-change-then-there-rank.ensures.removed n.right (f.rank n.row + 1) c.requires.high (standing-at f (sym c.right-below.ensures) n.right_standing) in
     let at = stays_right f n sub.becomes.kept in
-    (_, at, Splits-right f law n sub.becomes at c.left-other.ensures (rooted-link f n.right sub.rooted n.right_standing.is_at ∙ sym (c.root_after-right.ensures ∙ ap (root_after c.remove_below-change-then-there-rank.result) c.right-below.ensures)))
+    (_, at, Splits-right f law n sub.becomes at refl (rooted-link f n.right sub.rooted n.right_standing.is_at ∙ sym (c.root_after-right.ensures ∙ ap (root_after c.remove_below-change-then-there-rank.result) c.right-below.ensures)))
 
 pub returns-in_default-change-clause-removed : goal.returns-in_default-change-clause-removed
 returns-in_default-change-clause-removed g t c =
@@ -52,8 +52,8 @@ returns-in_default-change-clause-removed g t c =
     let n = node_of f law h c.in-Some.is c.look-here.ensures.row in
     let sub = c.remove_below-change.ensures.removed n.left low (f.rank n.row) (standing-at f (sym c.left-below.ensures) n.left_standing) in
     let at = stays_left f n sub.becomes.kept in
-    remove-left f law n (less_of refl c.rank-there.ensures c.if-rank-there.true) sub (c.root_after-left.ensures ∙ ap (root_after c.remove_below-change.result) c.left-below.ensures) at c.right-other.ensures (c.rebalance.ensures.tree _ at) c.rebalance.ensures.len
-    (to_next c.args.steps.now c.look-here.ensures.step) c.rebalance.ensures.steps
+    remove-left f law n (less_of refl c.rank-there.ensures c.if-rank-there.true) sub (c.root_after-left.ensures ∙ ap (root_after c.remove_below-change.result) c.left-below.ensures) at refl (c.rebalance_left.ensures.tree _ at) c.rebalance_left.ensures.len
+    (to_next c.args.steps.now c.look-here.ensures.step) c.rebalance_left.ensures.steps
 
 pub returns-in_default-change-2-clause-removed : goal.returns-in_default-change-2-clause-removed
 returns-in_default-change-2-clause-removed g t c =
@@ -63,8 +63,8 @@ returns-in_default-change-2-clause-removed g t c =
     let n = node_of f law h c.in-Some.is c.look-here.ensures.row in
     let sub = c.remove_below-change-then-there-rank.ensures.removed n.right (f.rank n.row + 1) high (standing-at f (sym c.right-below.ensures) n.right_standing) in
     let at = stays_right f n sub.becomes.kept in
-    remove-right f law n (less_of c.rank-there.ensures refl c.if-there-rank.true) sub (c.root_after-right.ensures ∙ ap (root_after c.remove_below-change-then-there-rank.result) c.right-below.ensures) at c.left-other.ensures (c.rebalance-in_default-change-2.ensures.tree _ at) c.rebalance-in_default-change-2.ensures.len
-    (to_next c.args.steps.now c.look-here.ensures.step) c.rebalance-in_default-change-2.ensures.steps
+    remove-right f law n (less_of c.rank-there.ensures refl c.if-there-rank.true) sub (c.root_after-right.ensures ∙ ap (root_after c.remove_below-change-then-there-rank.result) c.right-below.ensures) at refl (c.rebalance_right.ensures.tree _ at) c.rebalance_right.ensures.len
+    (to_next c.args.steps.now c.look-here.ensures.step) c.rebalance_right.ensures.steps
 
 pub returns-in-Hidden-clause-removed : goal.returns-in-Hidden-clause-removed
 returns-in-Hidden-clause-removed g t c =

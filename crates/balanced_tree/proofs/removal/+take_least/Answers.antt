@@ -21,14 +21,14 @@ take_least-least-requires g t c κs within =
     let less = lower-left f law c.requires.standing refl c.look-here.ensures.row is in
     (omega (arith, less), (within.0, (within.1, Stands-left f law c.requires refl c.look-here.ensures.row is)))
 
-pub rebalance-rest-requires : goal.rebalance-rest-requires
-rebalance-rest-requires g t c =
+pub rebalance_left-rest-requires : goal.rebalance_left-rest-requires
+rebalance_left-rest-requires g t c =
     let f = g.R.TreeRow.functions in
     let law = g.met.R.TreeRow.lawful in
     let n = node_of f law c.requires.standing refl c.look-here.ensures.row in
     let sub = c.take_least-least.ensures.taken n.left c.requires.low (f.rank n.row) (standing-at f (sym c.left.ensures ∙ c.in-Some.is) n.left_standing) in
     let at = stays_left f n sub.kept in
-    (_, at, Splits-least f law n sub (c.root_after-left.ensures ∙ ap (root_after c.take_least-least.result.rest) (sym c.in-Some.is ∙ c.left.ensures)) at c.right-other.ensures)
+    (_, at, Splits-least f law n sub (c.root_after-left.ensures ∙ ap (root_after c.take_least-least.result.rest) (sym c.in-Some.is ∙ c.left.ensures)) at refl)
 
 pub returns-in_default-rest-clause-taken : goal.returns-in_default-rest-clause-taken
 returns-in_default-rest-clause-taken g t c =
@@ -38,8 +38,8 @@ returns-in_default-rest-clause-taken g t c =
     let n = node_of f law h refl c.look-here.ensures.row in
     let sub = c.take_least-least.ensures.taken n.left low (f.rank n.row) (standing-at f (sym c.left.ensures ∙ c.in-Some.is) n.left_standing) in
     let at = stays_left f n sub.kept in
-    take-later f law n (sym c.left.ensures ∙ c.in-Some.is) sub (c.root_after-left.ensures ∙ ap (root_after c.take_least-least.result.rest) (sym c.in-Some.is ∙ c.left.ensures)) at c.right-other.ensures (c.rebalance-rest.ensures.tree _ at) c.rebalance-rest.ensures.len
-    (to_next c.args.steps.now c.look-here.ensures.step) c.rebalance-rest.ensures.steps
+    take-later f law n (sym c.left.ensures ∙ c.in-Some.is) sub (c.root_after-left.ensures ∙ ap (root_after c.take_least-least.result.rest) (sym c.in-Some.is ∙ c.left.ensures)) at refl (c.rebalance_left-rest.ensures.tree _ at) c.rebalance_left-rest.ensures.len
+    (to_next c.args.steps.now c.look-here.ensures.step) c.rebalance_left-rest.ensures.steps
 
 pub returns-in-Hidden-clause-taken : goal.returns-in-Hidden-clause-taken
 returns-in-Hidden-clause-taken g t c =

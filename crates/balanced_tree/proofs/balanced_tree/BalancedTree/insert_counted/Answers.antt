@@ -4,6 +4,23 @@ use Rattle.balanced_tree.specs.Rows.{row_at, with_row}
 use Rattle.balanced_tree.proofs.Views.{IsTree-inserted, rows-IsTree_inserted, change_cost-IsTree, not_there}
 use Rattle.balanced_tree.proofs.balanced_tree.BalancedTree.insert_counted.Goals as goal
 
+pub insert_below-change-requires : goal.insert_below-change-requires
+insert_below-change-requires g c =
+    let f = g.R.TreeRow.functions in
+    let law = g.met.R.TreeRow.lawful in
+    let h = c.self.invariant in
+    let spare = ap (λ v. v.spare) c.self.view_is in
+    record {
+      tree = h.tree;
+      low = 0;
+      high = 2 ^ 128;
+      standing = h.standing;
+      from_low = omega arith;
+      below_high = omega (arith, c.rank-rank.ensures, c.rank-rank.type_inv);
+      absent = not_there f law (f.rank c.args.row) h (subst (λ v. IsNone (row_at f (f.rank c.args.row) v.rows)) (sym c.self.view_is) c.requires.absent);
+      room = omega (arith, spare, c.requires.room);
+    }
+
 pub invariant_of-self : goal.invariant_of-self
 invariant_of-self g c =
     let f = g.R.TreeRow.functions in
