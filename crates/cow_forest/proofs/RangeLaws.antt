@@ -127,7 +127,7 @@ module _ (arena : Arena) where
         (λ q small apart. z.others v q (page q small) (λ same. apart same.1)) z.zero in
         elim (cases_Bool (is_some (frame_shown (tree_of arena old) v p))) [
           | inl some ↦ omega (arith, less, z.spare, bit-true (is_some (frame_shown (tree_of arena old) v p)) some)
-          | inr none ↦ omega (arith, less, z.room (none_is (frame_shown (tree_of arena old) v p) none), bit-false (is_some (frame_shown (tree_of arena old) v p)) none)
+          | inr none ↦ omega (arith, less, (z.same (none_is (frame_shown (tree_of arena old) v p) none)).spare, bit-false (is_some (frame_shown (tree_of arena old) v p)) none)
         ];
   }
 
@@ -219,9 +219,6 @@ module _ (arena : Arena) (old now : Rows Row) (before after : Pool) (v first end
   now-ready : IsReadyToZero arena now after v first end
   now-ready = ready-on arena old before v first end ready now after sweep-some
 
-  pub sweep-exact : IsExact (tree_of arena now) all_in_sight (is_taken after)
-  sweep-exact = is.some.exact
-
   module _ (row : ℕ) (low : from ≤ row) (less : row < to) where
     -- the page that comes to the row
     pub sweep-page : first ≤ row - (here - first) × (row - (here - first) < end) × (first + (row - here) ≡ row - (here - first))
@@ -232,13 +229,6 @@ module _ (arena : Arena) (old now : Rows Row) (before after : Pool) (v first end
 
     pub sweep-room : frame_shown (tree_of arena now) v (row - (here - first)) ≢ None → 1 ≤ now.spare
     sweep-room = ready-room arena now after v first end now-ready (row - (here - first)) sweep-page.0 sweep-page.1
-
-  -- the list has no row any more
-  pub sweep-end : IsNextRowBelow (slots_of now list) from to None → HasNoFrame (tree_of arena now) v first list here to
-  sweep-end next d tag shown row less shows at frame = elim (cases_lt (here + d) from) [
-    | inl passed ↦ is.passed d tag shown row passed shows at frame
-    | inr past ↦ let none = next.free (here + d) past less in absurd (cc)
-  ]
 
   -- the page that comes to the next row is zero now
   pub sweep-on : (own : (node : Node) → nodes_of arena v ≡ Some node → list ≡ node.list.0 → here ≡ first) (row : ℕ) →
@@ -285,16 +275,6 @@ module _ (arena : Arena) (old now : Rows Row) (before after : Pool) (v first end
         | inl was ↦ was
         | inr place ↦ absurd (let start = own ready.node ready.visible.at place.0 in omega (arith, place.2, found.0, is.order))
       ]
-
-pub sweep-start : (arena : Arena) (old : Rows Row) (before : Pool) (v first list here to begun : ℕ) → IsExact (tree_of arena old) all_in_sight (is_taken before) →
-    IsSweeping arena old old before before v first list here to begun begun here
-sweep-start arena old before v first list here to begun exact = record {
-  order = omega arith;
-  near = inr refl;
-  some = zeroed-none arena old before v first (first + (here - here)) exact;
-  passed = λ d tag shown row less shows at frame. absurd (omega arith);
-  cost = omega arith;
-}
 
 -- a page is zero, and those behind it
 pub zero-run : (t : Tree) (v p next : ℕ) → frame_shown t v p ≡ None → ShowsNoneIn t v (p + 1) next → AreZero t v p next

@@ -73,12 +73,6 @@ module _ (f : Forest) (s : IsStore f) (arena : Arena) (rows : Rows Row) (nodes o
   k_c : pair.child.0 ≢ k
   k_c same = let none = has.shared.new_child in let there = ap (nodes_of f.arena) same ∙ h.is.at in absurd (cc)
 
-  was_there : (j : ℕ) (n : Node) → nodes_of f.arena j ≡ Some n → (j ≢ pair.hidden.0) × (j ≢ pair.child.0)
-  was_there j n at = (
-    λ same. let none = has.shared.new_hidden in let there = ap (nodes_of f.arena) (sym same) ∙ at in absurd (cc),
-    λ same. let none = has.shared.new_child in let there = ap (nodes_of f.arena) (sym same) ∙ at in absurd (cc),
-  )
-
   -- the lists of the three nodes
   hidden-list : has.hidden.list.0 ≡ h.node.list.0
   hidden-list = elim (origin pair.hidden.0 has.hidden has.hidden_at) [

@@ -9,7 +9,7 @@ use Rattle.page_list.specs.declared.row.Row.{Row}
 use Rattle.cow_arena.specs.declared.node.NodeId.{NodeId}
 use Rattle.cow_arena.specs.Walk.{frame_shown}
 use Rattle.cow_split.specs.Trees.{tree_of}
-use Rattle.cow_split.specs.Sight.{IsPage, OthersShowSame}
+use Rattle.cow_split.specs.Sight.{IsPage, ShowsSame, IsNotPage}
 use Rattle.cow_split.specs.Exact.{IsExact, all_in_sight}
 use Rattle.cow_merge.specs.Ranges.{AreLinked}
 use Rattle.vm_model.proofs.CountLaws.{vmos_of-same}
@@ -47,7 +47,7 @@ pub record IsChangedAt (f : Forest) (rows : Rows Row) (pool : Pool) (k p : ℕ) 
   pub exact : IsExact (tree_of f.arena rows) all_in_sight (is_taken pool)
   pub linked : AreLinked rows pool
   pub frames : pool.frames ≡ f.pool.frames
-  pub others : OthersShowSame (tree f) (tree_of f.arena rows) k p
+  pub others : ShowsSame (tree f) (tree_of f.arena rows) (IsNotPage k p)
   pub bytes : (w q t : ℕ) → IsPage (tree f) w q → ((w ≡ k) × (q ≡ p) → ⊥) → frame_shown (tree f) w q ≡ Some t → frame_bytes pool t ≡ frame_bytes f.pool t
 
 -- a frame with the same bytes is the same page
@@ -119,11 +119,3 @@ module _ (f : Forest) (rows : Rows Row) (pool : Pool) (v k p : ℕ) (s : IsStore
       ((t : ℕ) → frame_shown (tree f) k p ≡ Some t → frame_bytes pool t ≡ frame_bytes f.pool t) → forest_content (with_rows f rows pool) ≡ forest_content f
   content-same shown bytes = content-is (forest_content f) refl refl (λ w. refl)
       (page-of f s v k p h ∙ sym (showing-same f.pool pool (frame_shown (tree f) k p) (frame_shown (tree_of f.arena rows) k p) shown bytes)) (λ w q apart. refl)
-
--- Each page shows the frame that it showed, with the bytes that it had.
-pub record IsUnchanged (f : Forest) (rows : Rows Row) (pool : Pool) : Type 0 where
-  pub exact : IsExact (tree_of f.arena rows) all_in_sight (is_taken pool)
-  pub linked : AreLinked rows pool
-  pub frames : pool.frames ≡ f.pool.frames
-  pub shows : (w q : ℕ) → IsPage (tree f) w q → frame_shown (tree_of f.arena rows) w q ≡ frame_shown (tree f) w q
-  pub bytes : (w q t : ℕ) → IsPage (tree f) w q → frame_shown (tree f) w q ≡ Some t → frame_bytes pool t ≡ frame_bytes f.pool t

@@ -14,7 +14,7 @@ use Rattle.cow_arena.specs.Ways.{KeepsBare}
 use Rattle.cow_split.specs.declared.answers.Holder.{Holder}
 use Rattle.cow_split.specs.declared.answers.Holder.TheVariants as holder
 use Rattle.cow_split.specs.Trees.{tree_of}
-use Rattle.cow_split.specs.Sight.{OthersShowSame}
+use Rattle.cow_split.specs.Sight.{ShowsSame, IsNotPage}
 use Rattle.cow_split.specs.Exact.{IsExact, all_in_sight}
 use Rattle.cow_fork.specs.Frames.{bytes_shown, IsSole}
 use Rattle.cow_merge.specs.Ranges.{AreLinked}
@@ -47,7 +47,7 @@ pub record HasOwned (arena : Arena) (old new : Rows Row) (before after : Pool) (
   pub exact : IsExact (tree_of arena new) all_in_sight (is_taken after)
   pub linked : AreLinked new after
   pub shows : frame_shown (tree_of arena new) v p ≡ Some tag
-  pub others : OthersShowSame (tree_of arena old) (tree_of arena new) v p
+  pub others : ShowsSame (tree_of arena old) (tree_of arena new) (IsNotPage v p)
   pub stays : (t : ℕ) → IsSole (tree_of arena old) v p t → (tag ≡ t) × (taken_frames after ≡ taken_frames before)
   pub taken : ((t : ℕ) → IsSole (tree_of arena old) v p t → ⊥) →
       Takes before after tag (bytes_shown before (frame_shown (tree_of arena old) v p))

@@ -12,7 +12,7 @@ use Rattle.cow_arena.specs.Nodes.{Arena, nodes_of, IsVisible, link_to}
 use Rattle.cow_arena.specs.Walk.{Slots, Tree, frame_shown, frame_in}
 use Rattle.cow_arena.specs.Ways.{HadRow}
 use Rattle.cow_split.specs.Trees.{tree_of}
-use Rattle.cow_split.specs.Sight.{IsPage}
+use Rattle.cow_split.specs.Sight.{IsPage, ShowsSame}
 use Rattle.cow_split.specs.Exact.{IsExact, all_in_sight}
 
 -- ---- what it costs
@@ -59,8 +59,7 @@ pub record IsReadyToZero (arena : Arena) (rows : Rows Row) (pool : Pool) (v firs
 -- nobody shows any more are given back.
 pub record HasZeroedSome (arena : Arena) (old new : Rows Row) (before after : Pool) (v first end : ℕ) : Type 0 where
   pub exact : IsExact (tree_of arena new) all_in_sight (is_taken after)
-  pub others : (w q : ℕ) → IsPage (tree_of arena old) w q → ((w ≡ v) × (first ≤ q) × (q < end) → ⊥) →
-      frame_shown (tree_of arena new) w q ≡ frame_shown (tree_of arena old) w q
+  pub others : ShowsSame (tree_of arena old) (tree_of arena new) (λ w q. (w ≡ v) × (first ≤ q) × (q < end) → ⊥)
   pub part : (w q t : ℕ) → IsPage (tree_of arena old) w q → frame_shown (tree_of arena new) w q ≡ Some t → frame_shown (tree_of arena old) w q ≡ Some t
   pub gives : (t : ℕ) → (taken_frames after t ≡ taken_frames before t) ⊎ (taken_frames after t ≡ None)
   -- the row of each frame stood where it stands, no backlink changes, and only pages that were made zero got rows

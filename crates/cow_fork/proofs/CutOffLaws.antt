@@ -13,7 +13,7 @@ use Rattle.cow_split.specs.declared.answers.Cut.{Cut}
 use Rattle.cow_split.specs.declared.answers.Cut.TheVariants as cut
 use Rattle.cow_split.specs.declared.answers.Holder.{Holder}
 use Rattle.cow_split.specs.Trees.{tree_of, holder_of, frame_held}
-use Rattle.cow_split.specs.Sight.{OthersShowSame}
+use Rattle.cow_split.specs.Sight.{ShowsSame, IsNotPage}
 use Rattle.cow_split.specs.Exact.{IsExact, all_in_sight, leaving_out, without_frame}
 use Rattle.cow_split.specs.Cutting.{HasCut, cut_slots, frame_left}
 use Rattle.cow_split.proofs.RowLaws.{only-none, frame-in_use}
@@ -52,10 +52,10 @@ module _ {arena : Arena} {old mid : Rows Row} {v p : ℕ} {node : Node} {answer 
       (λ e. let both = ways.0 e in record { shows = both.0; last = both.1 }, λ sole. ways.1 (sole.shows, sole.last))
 
   pub cut-other : (in_use : ℕ → Bool) → IsExact (tree_of arena old) all_in_sight in_use →
-      OthersShowSame (tree_of arena old) (tree_of arena mid) v p
+      ShowsSame (tree_of arena old) (tree_of arena mid) (IsNotPage v p)
   cut-other in_use exact =
       let t = tree_of arena old in
-      subst (λ (u : Tree). OthersShowSame t u v p) (sym (tree-with arena old mid (cut_slots t v p) is.slots))
+      subst (λ (u : Tree). ShowsSame t u (IsNotPage v p)) (sym (tree-with arena old mid (cut_slots t v p) is.slots))
       (cut-others t all_in_sight in_use exact v p (only-none v) node leaf.visible none)
 
 -- What the answer says of a page that was cut off from the row which held it, where these frames were in use.

@@ -13,7 +13,7 @@ use Rattle.cow_arena.specs.Forest.{IsForest}
 use Rattle.cow_arena.specs.Ways.{KeepsBare}
 use Rattle.cow_arena.proofs.AlikeLaws.{with_pair-same, with_pair-other}
 use Rattle.cow_split.specs.Trees.{tree_of, with_row}
-use Rattle.cow_split.specs.Sight.{IsPage, OthersShowSame}
+use Rattle.cow_split.specs.Sight.{IsPage, ShowsSame, IsNotPage}
 use Rattle.cow_split.proofs.ExactLaws.{cases_place}
 use Rattle.cow_split.proofs.PartLaws.{bare-put}
 use Rattle.cow_split.proofs.RowLaws.{own-shows}
@@ -50,7 +50,7 @@ with_row-there t l p row there = λ i. record t { slots = λ m r. same m r i }
     ]
 
 -- others show what they showed over two changes
-pub others-on : (t u w : Tree) (v p : ℕ) → u.nodes ≡ t.nodes → OthersShowSame t u v p → OthersShowSame u w v p → OthersShowSame t w v p
+pub others-on : (t u w : Tree) (v p : ℕ) → u.nodes ≡ t.nodes → ShowsSame t u (IsNotPage v p) → ShowsSame u w (IsNotPage v p) → ShowsSame t w (IsNotPage v p)
 others-on t u w v p nodes first second k q page differs =
     second k q (record { node = page.node; visible = rw nodes page.visible; below = page.below }) differs ∙ first k q page differs
 
@@ -72,8 +72,8 @@ module _ {arena : Arena} {old : Rows Row} {v p : ℕ} {node : Node} (leaf : IsLe
     pub put-row : (n : Node) → nodes_of arena v ≡ Some n → slots_of new n.list.0 p ≡ row
     put-row = leaf-row new row (ap (λ (s : Slots). s node.list.0 p) put ∙ with_pair-same (slots_of old) node.list.0 p row)
 
-    pub put-others : OthersShowSame (tree_of arena old) (tree_of arena new) v p
-    put-others = subst (λ (u : Tree). OthersShowSame (tree_of arena old) u v p) (sym put-tree)
+    pub put-others : ShowsSame (tree_of arena old) (tree_of arena new) (IsNotPage v p)
+    put-others = subst (λ (u : Tree). ShowsSame (tree_of arena old) u (IsNotPage v p)) (sym put-tree)
         (own-shows (tree_of arena old) v p node leaf.visible leaf.forest row)
 
     pub put-rows : (n : Node) → nodes_of arena v ≡ Some n → KeepsBare (slots_of old) (slots_of new) n.list.0

@@ -24,18 +24,18 @@ use Rattle.cow_split.specs.declared.answers.Cut.{Cut}
 use Rattle.cow_split.specs.declared.answers.Cut.TheVariants as cut
 use Rattle.cow_split.specs.declared.answers.Holder.{Holder}
 use Rattle.cow_split.specs.Trees.{tree_of, with_row, holder_of, frame_held}
-use Rattle.cow_split.specs.Sight.{IsLastViewer, OthersShowSame}
+use Rattle.cow_split.specs.Sight.{IsLastViewer, ShowsSame, IsNotPage}
 use Rattle.cow_split.specs.Exact.{IsExact, all_in_sight, leaving_out, with_frame, without_frame}
 use Rattle.cow_split.specs.Cutting.{HasCut, frame_left}
 use Rattle.cow_split.proofs.ExactLaws.{cases_place}
 use Rattle.cow_split.proofs.RowLaws.{without_frame-none, with_frame-none, exact-in_use_alike, exact-in_sight, own_comes-shows, exact-own_gone, exact-own_comes, with_row-twice, frame-once, frame-shown}
 use Rattle.cow_fork.specs.Frames.{IsSole, LeavesFrame}
 use Rattle.cow_split.proofs.PartLaws.{part-with_pair, part-cut, stood-with_pair}
-use Rattle.cow_fork.specs.Zeroing.{HasZeroed}
+use Rattle.cow_fork.specs.Zeroing.{HasKeptZero, HasZeroed}
 use Rattle.cow_fork.proofs.PoolLaws.{given-without, taken-same}
 use Rattle.cow_fork.proofs.HolderLaws.{own-shown, held-shown}
 use Rattle.cow_fork.proofs.LeafLaws.{IsLeaf, tree-with, with_row-there, others-on, put-tree, put-row, put-others}
-use Rattle.cow_fork.specs.inside.ZeroSteps.{HasLetGo, HasKeptZero, HasHidden}
+use Rattle.cow_fork.specs.inside.ZeroSteps.{HasLetGo, HasHidden}
 use Rattle.cow_fork.proofs.CutOffLaws.{cut-bare, cut-exact, cut-other, cut_off, leaves_cases}
 
 -- ---- an own frame goes
@@ -121,7 +121,7 @@ module _ {arena : Arena} {old : Rows Row} (mid : Rows Row) {v p : ℕ} {node : N
     exact = it.exact;
     last = subst (λ (u : Tree). (tag : Tag) → (answer ≡ cut.LastViewer tag) ↔ IsSole u v p tag.0) mid-same it.last;
     bare = it.bare;
-    others = subst (λ (u : Tree). OthersShowSame u (tree_of arena new) v p) mid-same it.others;
+    others = subst (λ (u : Tree). ShowsSame u (tree_of arena new) (IsNotPage v p)) mid-same it.others;
     part = subst (λ (u : Tree). IsPartOf u.slots (slots_of new)) mid-same it.part;
     spare = let more = it.spare in omega (arith, more, spare);
     shows = λ zero. it.shows (ap (λ (u : Tree). frame_shown u v p) mid-same ∙ zero);
@@ -265,7 +265,7 @@ zeroed-kept arena old new pool v p exact kept =
     record {
       exact = subst (λ (u : Tree). IsExact u all_in_sight (is_taken pool)) (sym same) exact;
       zero = ap (λ (u : Tree). frame_shown u v p) same ∙ kept.zero;
-      others = subst (λ (u : Tree). OthersShowSame t u v p) (sym same) (λ w q page differs. refl);
+      others = subst (λ (u : Tree). ShowsSame t u (IsNotPage v p)) (sym same) (λ w q page differs. refl);
       given = λ tag sole. let shows = sole.shows in let zero = kept.zero in absurd (cc);
       kept = λ shared. refl;
       stood = λ l q row tag at frame. record { row = row; at = ap (λ (s : Slots). s l q) (sym kept.slots) ∙ at; frame = refl };
@@ -273,11 +273,9 @@ zeroed-kept arena old new pool v p exact kept =
       frames = refl;
       gives = λ tag. inl refl;
       places = λ n at l q some. inl (subst (λ (s : Slots). IsSome (s l q)) kept.slots some);
-      slots = λ none. kept.slots;
-      count = λ none. kept.count;
-      needed = λ some. absurd (some kept.zero);
       spare = let spare = kept.spare in omega (arith, spare);
-      room = λ none. kept.spare;
+      same = λ none. kept;
+      needed = λ some. absurd (some kept.zero);
     }
 
 pub zeroed : {arena : Arena} {old mid new : Rows Row} {v p : ℕ} {answer : Cut} (before after : Pool) →
@@ -288,7 +286,6 @@ pub zeroed : {arena : Arena} {old mid new : Rows Row} {v p : ℕ} {answer : Cut}
     HasZeroed arena old new before after v p
 zeroed {arena} {old} {mid} {new} {v} {p} {answer} before after gone hidden given kept links frames =
     let t = tree_of arena old in
-    let shows = gone.shows in
     record {
       exact = exact-in_use_alike (tree_of arena new) all_in_sight (without_frame (is_taken before) (frame_left answer)) (is_taken after)
           (given-used before after answer given kept) hidden.exact;
@@ -301,11 +298,9 @@ zeroed {arena} {old} {mid} {new} {v} {p} {answer} before after gone hidden given
       frames = frames;
       gives = given-gives before after answer given kept;
       places = λ node at l q some. part-places old mid node.list.0 p l q gone.part (hidden.places node at l q some);
-      slots = λ none. absurd (shows none);
-      count = λ none. absurd (shows none);
-      needed = λ some. hidden.needed;
       spare = let room = gone.spare in let spare = hidden.spare in omega (arith, room, spare);
-      room = λ none. absurd (shows none);
+      same = λ none. absurd (gone.shows none);
+      needed = λ some. hidden.needed;
     }
 
 -- what is not None is there

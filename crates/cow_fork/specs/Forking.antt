@@ -11,7 +11,7 @@ use Rattle.cow_arena.specs.Nodes.{Arena, nodes_of}
 use Rattle.cow_arena.specs.Walk.{frame_shown, frame_in}
 use Rattle.cow_arena.specs.Ways.{HadRow, KeepsBare}
 use Rattle.cow_split.specs.Trees.{tree_of}
-use Rattle.cow_split.specs.Sight.{OthersShowSame}
+use Rattle.cow_split.specs.Sight.{ShowsSame, IsNotPage}
 use Rattle.cow_split.specs.Exact.{IsExact, all_in_sight}
 use Rattle.cow_fork.specs.Frames.{bytes_shown, IsSole}
 
@@ -21,7 +21,7 @@ pub record HasForked (arena : Arena) (old new : Rows Row) (before after : Pool) 
   pub exact : IsExact (tree_of arena new) all_in_sight (is_taken after)
   pub own : (node : Node) → nodes_of arena v ≡ Some node →
       slots_of new node.list.0 p ≡ Some (slot.Frame (record { 0 = tag }) false false)
-  pub others : OthersShowSame (tree_of arena old) (tree_of arena new) v p
+  pub others : ShowsSame (tree_of arena old) (tree_of arena new) (IsNotPage v p)
   pub moved : (t : ℕ) → IsSole (tree_of arena old) v p t → (tag ≡ t) × (taken_frames after ≡ taken_frames before)
   pub taken : ((t : ℕ) → IsSole (tree_of arena old) v p t → ⊥) →
       Takes before after tag (bytes_shown before (frame_shown (tree_of arena old) v p))

@@ -12,7 +12,7 @@ use Rattle.cow_arena.specs.Nodes.{Arena, nodes_of}
 use Rattle.cow_arena.specs.Walk.{frame_shown, frame_in}
 use Rattle.cow_arena.specs.Ways.{HadRow}
 use Rattle.cow_split.specs.Trees.{tree_of, with_row}
-use Rattle.cow_split.specs.Sight.{OthersShowSame}
+use Rattle.cow_split.specs.Sight.{ShowsSame, IsNotPage}
 use Rattle.cow_split.specs.Exact.{IsExact, all_in_sight}
 use Rattle.cow_fork.specs.Frames.{IsSole}
 
@@ -21,12 +21,19 @@ abbrev pub IsNeeded : (arena : Arena) → Rows Row → (v p : ℕ) → Type 0
 IsNeeded arena rows v p = (node : Node) → nodes_of arena v ≡ Some node → slots_of rows node.list.0 p ≡ Some slot.Zero →
     frame_shown (with_row (tree_of arena rows) node.list.0 p None) v p ≢ None
 
+-- Page p of v is zero, and every row stands as it stood.
+pub record HasKeptZero (arena : Arena) (old new : Rows Row) (v p : ℕ) : Type 0 where
+  pub zero : frame_shown (tree_of arena old) v p ≡ None
+  pub slots : slots_of new ≡ slots_of old
+  pub count : row_count new ≡ row_count old
+  pub spare : new.spare ≡ old.spare
+
 -- Page p of the visible node v is zero. A frame that v alone showed is given back. If the page was zero, nothing
 -- changes.
 pub record HasZeroed (arena : Arena) (old new : Rows Row) (before after : Pool) (v p : ℕ) : Type 0 where
   pub exact : IsExact (tree_of arena new) all_in_sight (is_taken after)
   pub zero : frame_shown (tree_of arena new) v p ≡ None
-  pub others : OthersShowSame (tree_of arena old) (tree_of arena new) v p
+  pub others : ShowsSame (tree_of arena old) (tree_of arena new) (IsNotPage v p)
   pub given : (t : ℕ) → IsSole (tree_of arena old) v p t → taken_frames after ≡ without_key (taken_frames before) t
   pub kept : ((t : ℕ) → IsSole (tree_of arena old) v p t → ⊥) → taken_frames after ≡ taken_frames before
   -- each row with a frame had this frame there before, and no backlink changes
@@ -38,9 +45,7 @@ pub record HasZeroed (arena : Arena) (old new : Rows Row) (before after : Pool) 
   pub gives : (t : ℕ) → (taken_frames after t ≡ taken_frames before t) ⊎ (taken_frames after t ≡ None)
   pub places : (node : Node) → nodes_of arena v ≡ Some node → (l q : ℕ) → IsSome (slots_of new l q) →
       IsSome (slots_of old l q) ⊎ ((l ≡ node.list.0) × (q ≡ p))
-  pub slots : frame_shown (tree_of arena old) v p ≡ None → slots_of new ≡ slots_of old
-  pub count : frame_shown (tree_of arena old) v p ≡ None → row_count new ≡ row_count old
   pub spare : old.spare ≤ new.spare + 1
-  pub room : frame_shown (tree_of arena old) v p ≡ None → new.spare ≡ old.spare
+  pub same : frame_shown (tree_of arena old) v p ≡ None → HasKeptZero arena old new v p
   -- a row that says zero stands there only if the page would otherwise show a frame
   pub needed : frame_shown (tree_of arena old) v p ≢ None → IsNeeded arena new v p

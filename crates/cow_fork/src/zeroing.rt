@@ -15,8 +15,8 @@ ghost use Rattle.cow_split.specs.Exact.{IsExact, all_in_sight, leaving_out};
 ghost use Rattle.cow_split.specs.declared.answers.Cut.TheVariants as cut;
 ghost use Rattle.cow_jump.specs.Jumps.{AreJumps, MayJump};
 ghost use Rattle.cow_fork.specs.Frames.{LeavesFrame};
-ghost use Rattle.cow_fork.specs.Zeroing.{HasZeroed};
-ghost use Rattle.cow_fork.specs.inside.ZeroSteps.{HasLetGo, HasKeptZero, HasHidden};
+ghost use Rattle.cow_fork.specs.Zeroing.{HasKeptZero, HasZeroed};
+ghost use Rattle.cow_fork.specs.inside.ZeroSteps.{HasLetGo, HasHidden};
 
 use cow_arena::{CowArena, NodeId};
 use cow_jump::{JumpTable, above_with};

@@ -15,11 +15,11 @@ use Rattle.cow_arena.specs.declared.node.Node.{Node}
 use Rattle.cow_arena.specs.declared.node.NodeId.{NodeId}
 use Rattle.cow_arena.specs.declared.node.Side.{Side}
 use Rattle.cow_arena.specs.declared.node.Side.TheVariants as side
-use Rattle.cow_arena.specs.Nodes.{Arena, nodes_of, link_to, other_side, side_of, side_in}
-use Rattle.cow_arena.specs.Forest.{IsForest, IsChild, HasPair}
+use Rattle.cow_arena.specs.Nodes.{Arena, nodes_of, link_to, other_side, side_of, side_in, child_on}
+use Rattle.cow_arena.specs.Forest.{IsForest, HasPair}
 use Rattle.cow_arena.specs.Walk.{Tree, walk, frame_shown}
 use Rattle.cow_arena.specs.Ways.{HasRow, Climbs, Reaches, Arrives}
-use Rattle.cow_arena.proofs.ReachLaws.{reach-apart, child-there, reach-deeper, reach-once, reach-hidden, side-is, arrives-on}
+use Rattle.cow_arena.proofs.ReachLaws.{reach-apart, reach-deeper, reach-once, reach-hidden, side-is, arrives-on}
 use Rattle.cow_split.specs.declared.answers.Holder.{Holder}
 use Rattle.cow_split.specs.declared.answers.Holder.TheVariants as holder
 use Rattle.cow_split.specs.Trees.{tree_of, holder_of}
@@ -227,7 +227,7 @@ beside-end {arena} {new} {after} {v} {first} {spared} {h} {above} {base} {to} {s
 
 -- ---- one page
 
-module _ (arena : Arena) (old : Rows Row) (pool : Pool) (v p h : ℕ) (has : IsExactFor arena old pool v) (bare : slots_of old has.node.list.0 p ≡ None)
+module _ {arena : Arena} {old : Rows Row} {pool : Pool} {v : ℕ} (p h : ℕ) (has : IsExactFor arena old pool v) (bare : slots_of old has.node.list.0 p ≡ None)
     (found : Holder) (is : found ≡ holder_of (walk (tree_of arena old) v p)) where
   no-frame : (it : Holder) → it ≡ holder_of (walk (tree_of arena old) v p) →
       ((node : NodeId) (page : ℕ) (side : Side) (slot : Slot) → it ≡ holder.Above node page side slot → ⊥) → (tag : ℕ) →
@@ -247,7 +247,7 @@ module _ (arena : Arena) (old : Rows Row) (pool : Pool) (v p h : ℕ) (has : IsE
       IsCutOr arena old old pool pool v p (ShowsOnlyOf (tree_of arena old) v p h)
   page-nothing none = inr (kept-same, λ tag shown. absurd (no-frame found is none tag shown))
 
-  module _ (node : NodeId) (page : ℕ) (side : Side) (slot : Slot) (above_is : found ≡ holder.Above node page side slot) where
+  module _ {node : NodeId} {page : ℕ} {side : Side} {slot : Slot} (above_is : found ≡ holder.Above node page side slot) where
     pub page-way : Reaches (tree_of arena old) v p side node.0 page
     page-way = held-way (tree_of arena old) has.exact.forest v p node page side slot (sym above_is ∙ is)
 
@@ -360,17 +360,9 @@ module _ (arena : Arena) (f : IsForest (nodes_of arena) arena.lists) (h : ℕ)
   pair-of : HasPair (nodes_of arena) h above
   pair-of = f.by.pairs h above at no-koid
 
-  pub left-child : (one : NodeId) → above.left ≡ Some one → IsChild (nodes_of arena) h one.0
-  left-child one is = child-there (nodes_of arena) arena.lists f h one.0 above side.Left at is
-
-  pub right-child : (one : NodeId) → above.right ≡ Some one → IsChild (nodes_of arena) h one.0
-  right-child one is = child-there (nodes_of arena) arena.lists f h one.0 above side.Right at is
-
-  pub left-there : above.left ≡ None → ⊥
-  left-there none = let pair = pair-of.left_is in absurd (cc)
-
-  pub right-there : above.right ≡ None → ⊥
-  right-there none = let pair = pair-of.right_is in absurd (cc)
+  pub both-there : (s : Side) → child_on above s ≡ None → ⊥
+  both-there side.Left none = let pair = pair-of.left_is in absurd (cc)
+  both-there side.Right none = let pair = pair-of.right_is in absurd (cc)
 
 pub no-koid_of : (o : Option Koid) → is_some o ≡ false → o ≡ None
 no-koid_of None e = refl

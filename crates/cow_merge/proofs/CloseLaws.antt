@@ -25,9 +25,9 @@ use Rattle.cow_arena.proofs.RenamedLaws.{renamed-at, renamed-each, frame-renamed
 use Rattle.cow_arena.proofs.RenamedOverLaws.{over-exchange, over-renamed_at, over-lists, tree-over}
 use Rattle.cow_split.proofs.RenamedExactLaws.{page-renamed, exact-renamed}
 use Rattle.cow_split.specs.Trees.{tree_of}
-use Rattle.cow_split.specs.Sight.{IsPage}
+use Rattle.cow_split.specs.Sight.{IsPage, ShowsSame}
 use Rattle.cow_split.specs.Exact.{IsExact, IsOnlyOf, all_in_sight}
-use Rattle.cow_merge.specs.Ranges.{leaving_range, IsAllOut, IsLeftOut, Moves, Accounts, ShowsBut}
+use Rattle.cow_merge.specs.Ranges.{leaving_range, IsAllOut, IsLeftOut, Moves, Accounts, IsNotFrom}
 use Rattle.cow_merge.specs.inside.Lifting.{IsFamilyOf}
 use Rattle.cow_merge.specs.inside.HandingOver.{HasHandedOver}
 use Rattle.cow_merge.specs.Merging.{WasThere, HasListOfParent, HasClosed}
@@ -167,7 +167,7 @@ module _ (arena : Arena) (rows : Rows Row) (slots : Slots) (in_use : ℕ → Boo
     (visible : IsVisible (nodes_of arena) v node) (family : AreFamily (nodes_of arena) v h s node parent sibling)
     (exact : IsExact (tree_with (nodes_of arena) arena.lists slots) (leaving_range all_in_sight v 0 node.count) in_use)
     (bare : (p : ℕ) → slots node.list.0 p ≡ None) (empty : (p : ℕ) → slots parent.list.0 p ≡ None)
-    (shows : ShowsBut (tree_of arena rows) (tree_with (nodes_of arena) arena.lists slots) v 0) where
+    (shows : ShowsSame (tree_of arena rows) (tree_with (nodes_of arena) arena.lists slots) (IsNotFrom v 0)) where
   abbrev t : Tree
   t = tree_with (nodes_of arena) arena.lists slots
 

@@ -462,7 +462,7 @@ module _ {arena : Arena} {old new : Rows Row} {before after : Pool} {k h s : ℕ
 
 -- a row of the child is next
 module _ {arena : Arena} {old new : Rows Row} {before after : Pool} {k h s from : ℕ} (up : IsHandedUpTo arena old new before after k h s from)
-    (child : Node) (child_at : nodes_of arena s ≡ Some child) (q : ℕ) (row : Slot) (next : IsNext (slots_of new child.list.0) from (Some q))
+    {child : Node} (child_at : nodes_of arena s ≡ Some child) {q : ℕ} {row : Slot} (next : IsNext (slots_of new child.list.0) from (Some q))
     (has : slots_of new child.list.0 q ≡ Some row) where
   abbrev was : IsHandingOver arena old new before after k h s up.at
   was = up.handing
@@ -484,7 +484,7 @@ module _ {arena : Arena} {old new : Rows Row} {before after : Pool} {k h s from 
   pub hand-taken : (tag : ℕ) → frame_in row ≡ Some tag → IsSome (taken_frames after tag)
   hand-taken tag frame = was.lifted.exact.used was.of.sibling.list.0 q row tag its-row frame
 
-  module _ (parent : Node) (parent_at : nodes_of arena h ≡ Some parent) (mid : Rows Row) (taken_out : slots_of mid ≡ with_pair (slots_of new) child.list.0 q None) where
+  module _ {parent : Node} (parent_at : nodes_of arena h ≡ Some parent) (mid : Rows Row) (taken_out : slots_of mid ≡ with_pair (slots_of new) child.list.0 q None) where
     parent-is : parent ≡ was.of.parent
     parent-is = some_same (sym parent_at ∙ was.of.family.parent_at)
 
@@ -516,7 +516,7 @@ module _ {arena : Arena} {old new : Rows Row} {before after : Pool} {k h s from 
         let it = frame-under (was.slots was.of.parent.list.0 q) tag (ap frame_there (sym under-is) ∙ e) in
         two-lists (was.lifted.exact.once was.of.sibling.list.0 q was.of.parent.list.0 q tag row it.0 its-row it.1 frame it.2).0
 
-    module _ (late : Rows Row) (last : Pool) (put : HasRowPut mid late after last parent.list.0 q row) where
+    module _ {late : Rows Row} {last : Pool} (put : HasRowPut mid late after last parent.list.0 q row) where
       -- the child has no row there then
       pub hand-gone : slots_of late child.list.0 q ≡ None
       hand-gone =

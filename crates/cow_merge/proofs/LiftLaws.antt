@@ -23,12 +23,12 @@ use Rattle.cow_arena.proofs.AlikeLaws.{with_pair-same, with_pair-other, with_pai
 use Rattle.cow_arena.proofs.SpliceWalkLaws.{family-side, family-both, family-parent}
 use Rattle.cow_split.specs.Trees.{with_row}
 use Rattle.cow_split.specs.Search.{reached_from}
-use Rattle.cow_split.specs.Sight.{IsPage, Sees, IsSeenFrom}
+use Rattle.cow_split.specs.Sight.{IsPage, Sees, IsSeenFrom, ShowsSame}
 use Rattle.cow_split.specs.Exact.{Denies, AreSplitBits, IsExact, IsOnlyOf, with_frame, without_frame}
 use Rattle.cow_split.proofs.SearchLaws.{reached-seen, seen-reached, reached-kept}
 use Rattle.cow_split.proofs.ExactLaws.{with_row-changes, frame-stays, frame-gone, frame-comes, exact-changed, seen-carried, Fits, FollowFrame}
 use Rattle.cow_split.proofs.RowLaws.{exact-in_use_alike, with_row-twice}
-use Rattle.cow_merge.specs.Ranges.{ShowsSame}
+use Rattle.cow_merge.specs.Ranges.{IsInSight}
 use Rattle.cow_merge.specs.inside.Lifting.{IsMoved, IsAside}
 use Rattle.cow_merge.proofs.SpliceLaws.{family-apart}
 use Rattle.cow_split.proofs.CutLaws.{page-over}
@@ -235,7 +235,7 @@ module _ (t : Tree) (f : IsForest t.nodes t.lists) (k h s : ℕ) (leaf parent si
         closed it.0 it.3)
 
     module _ (out : ℕ → ℕ → Bool) (aside : IsAside out k leaf q) where
-      pub dropped-shows : ShowsSame t (with_row t parent.list.0 q None) out
+      pub dropped-shows : ShowsSame t (with_row t parent.list.0 q None) (IsInSight out)
       dropped-shows w p page sight = ap frame_found (dropped-walks w p page (λ from way. sight-apart out q aside w p from sight way))
 
       module _ (in_use : ℕ → Bool) (exact : IsExact t out in_use) (row : Slot) (has : t.slots parent.list.0 q ≡ Some row) where
@@ -419,7 +419,7 @@ module _ (t : Tree) (f : IsForest t.nodes t.lists) (k h s : ℕ) (leaf parent si
         none from (subst (λ x. Arrives t w p from x to) (f.by.own i s n sibling at family.sibling_at list) way)))
   ]
 
-  pub moved-shows : (out : ℕ → ℕ → Bool) → IsAside out k leaf q → ShowsSame t (record t { slots = moved }) out
+  pub moved-shows : (out : ℕ → ℕ → Bool) → IsAside out k leaf q → ShowsSame t (record t { slots = moved }) (IsInSight out)
   moved-shows out aside w p page_of sight =
       let closed = closed-by both f k h s leaf parent sibling family visible q to now (with_pair-same t.slots sibling.list.0 to (Some now)) page in
       subst (λ (slots : Slots). frame_shown (record t { slots = slots }) w p ≡ frame_shown t w p)

@@ -30,7 +30,7 @@ use Rattle.cow_split.specs.declared.answers.Cut.{Cut}
 use Rattle.cow_split.specs.declared.answers.Cut.TheVariants as cut
 use Rattle.cow_split.specs.Trees.{tree_of, with_row}
 use Rattle.cow_split.specs.Search.{reached_from}
-use Rattle.cow_split.specs.Sight.{IsPage, IsSeenFrom}
+use Rattle.cow_split.specs.Sight.{IsPage, IsSeenFrom, ShowsSame}
 use Rattle.cow_split.specs.Exact.{Denies, AreSplitBits, IsExact, IsOnlyOf, all_in_sight, leaving_out, without_frame}
 use Rattle.cow_split.specs.Cutting.{split_on, answer_on, slots_from, answer_from, slots_after, answer_after, cut_slots, cut_answer, frame_left}
 use Rattle.cow_split.proofs.PartLaws.{part-none}
@@ -40,7 +40,7 @@ use Rattle.cow_split.proofs.ExactLaws.{cases_place}
 use Rattle.cow_split.proofs.CutLaws.{exact-cut, cut-shows, page-over}
 use Rattle.frame_pool.specs.declared.frame_pool.Backlink.{Backlink}
 use Rattle.frame_pool.specs.Pool.{Pool, taken_frames, is_taken, links_of}
-use Rattle.cow_merge.specs.Ranges.{bit_on, leaving_range, ShowsSame, AreLinked, IsLeftOut, IsHeldBy, IsSparing, Accounts, HasLost, ShowsBut, HasGiven}
+use Rattle.cow_merge.specs.Ranges.{bit_on, leaving_range, AreLinked, IsLeftOut, IsHeldBy, IsSparing, Accounts, HasLost, HasGiven, IsInSight, IsNotFrom}
 use Rattle.cow_merge.specs.inside.Lifting.{IsAside, AreLifted, IsLifting, IsBefore, IsFamilyOf, SeesRow, IsMoved, TellsSeen, HasLiftedRow, HasSettled, is_row_of_frame, HasLifted}
 use Rattle.cow_merge.proofs.PassingLaws.{range-exact}
 use Rattle.cow_merge.proofs.SpliceLaws.{family-apart}
@@ -165,7 +165,7 @@ pub record IsCut (t : Tree) (k : ℕ) (leaf : Node) (q : ℕ) (slots : Slots) (o
   pub only : IsOnlyOf now k
   pub aside : IsAside now k leaf q
   pub more : (w p : ℕ) → now w p ≡ false → out w p ≡ false
-  pub shows : ShowsSame t (record t { slots = slots }) now
+  pub shows : ShowsSame t (record t { slots = slots }) (IsInSight now)
 
 -- the row is still there, with its frame, and no other row has changed
 pub record StillThere (t : Tree) (k : ℕ) (leaf : Node) (list q : ℕ) (row : Slot) (out : ℕ → ℕ → Bool) (in_use : ℕ → Bool) : Type 0 where
@@ -622,7 +622,7 @@ IsUnseen slots parent k sibling q row =
 -- The rows and the pool changed: the tree of the new rows is like that of the old, and the other VMOs show what they showed.
 pub record HasLiftedOn (arena : Arena) (old new : Slots) (pool : Pool) (k h s : ℕ) (of : IsFamilyOf arena k h s) : Type 0 where
   pub lifted : AreLifted arena new pool k h of.node
-  pub shows : ShowsBut (tree_with (nodes_of arena) arena.lists old) (tree_with (nodes_of arena) arena.lists new) k 0
+  pub shows : ShowsSame (tree_with (nodes_of arena) arena.lists old) (tree_with (nodes_of arena) arena.lists new) (IsNotFrom k 0)
   pub below : KeepsBelow old new of.parent of.sibling
 
 -- One row of the parent goes, or moves.
@@ -797,7 +797,7 @@ module _ (arena : Arena) (first mid new : Rows Row) (between after : Pool) (k h 
       ]
 
 -- A row of the parent was taken out.
-module _ (arena : Arena) (first mid new : Rows Row) (between after : Pool) (k h s q : ℕ) (row : Slot)
+module _ {arena : Arena} {first : Rows Row} (mid : Rows Row) {between : Pool} {k h s : ℕ} (q : ℕ) (row : Slot)
     (was : IsLifting arena first between k h s) (has : slots_of first was.of.parent.list.0 q ≡ Some row)
     (taken_out : slots_of mid ≡ with_pair (slots_of first) was.of.parent.list.0 q None) where
   abbrev t : Tree
@@ -835,67 +835,68 @@ module _ (arena : Arena) (first mid new : Rows Row) (between after : Pool) (k h 
       (row-sees t k h s node parent sibling was.of.family was.of.visible q row has was.lifted.out (is_taken between) was.lifted.exact was.lifted.only
       tag left right e (ap (λ (from : Side). bit_on from left right) (sym (family-other arena k h s was.lifted.exact.forest was.of)) ∙ seen))
 
-  -- what the rows and the frames are now
-  next : (slots : Slots) → slots_of new ≡ slots → HasLiftedOn arena (slots_of first) slots after k h s was.of →
-      Accounts first new between after → HasLifted arena first new between after k h s
-  next slots is it accounts = record {
-    now = record { of = was.of; lifted = subst (λ (x : Slots). AreLifted arena x after k h node) (sym is) it.lifted };
-    moves = record { accounts = accounts; shows = subst (λ (x : Slots). ShowsBut t (record t { slots = x }) k 0) (sym is) it.shows };
-    rows = subst (λ (x : Slots). KeepsBelow (slots_of first) x parent sibling) (sym is) it.below;
-  }
+  module _ {new : Rows Row} {after : Pool} where
+    -- what the rows and the frames are now
+    next : (slots : Slots) → slots_of new ≡ slots → HasLiftedOn arena (slots_of first) slots after k h s was.of →
+        Accounts first new between after → HasLifted arena first new between after k h s
+    next slots is it accounts = record {
+      now = record { of = was.of; lifted = subst (λ (x : Slots). AreLifted arena x after k h node) (sym is) it.lifted };
+      moves = record { accounts = accounts; shows = subst (λ (x : Slots). ShowsSame t (record t { slots = x }) (IsNotFrom k 0)) (sym is) it.shows };
+      rows = subst (λ (x : Slots). KeepsBelow (slots_of first) x parent sibling) (sym is) it.below;
+    }
 
-  -- ---- the row is gone
+    -- ---- the row is gone
 
-  module _ (gone : (new ≡ mid) × HasGiven between after (frame_in row)) where
-    gone-next : IsUnseen (slots_of first) parent k sibling q row → row_count mid + 1 ≡ row_count first → mid.spare ≡ first.spare + 1 →
+    module _ (gone : (new ≡ mid) × HasGiven between after (frame_in row)) where
+      gone-next : IsUnseen (slots_of first) parent k sibling q row → row_count mid + 1 ≡ row_count first → mid.spare ≡ first.spare + 1 →
+          HasLifted arena first new between after k h s
+      gone-next unseen count spare =
+          let spare_is = ap (λ (r : Rows Row). r.spare) gone.0 in
+          let count_is = ap (λ (r : Rows Row). row_count r) gone.0 in
+          next (with_pair (slots_of first) parent.list.0 q None) (gone-slots arena first mid new between after k h s was.of q row has taken_out gone)
+          (lifted-gone arena (slots_of first) between after k h s was.of q row was.lifted has unseen gone.1.taken) (record {
+            gives = gone.1.gives;
+            linked = gone-linked arena first mid new between after k h s was.of q row has taken_out gone;
+            spare = omega arith;
+            count = omega arith;
+          })
+
+    -- ---- the row has moved
+
+    module _ (moved : HasLiftedRow arena mid new between after s sibling q row) where
+      moved-next : SeesRow (slots_of first) sibling q →
+          ((tag : Tag) (left right : Bool) → row ≡ slot.Frame tag left right → bit_on (other_side (side_of parent k)) left right ≡ false) →
+          row_count mid + 1 ≡ row_count first → mid.spare ≡ first.spare + 1 → HasLifted arena first new between after k h s
+      moved-next sees bit count spare =
+          let bits = subst (λ (x : Slots). IsMoved (record (tree_of arena first) { slots = x }) s (q - sibling.first) sibling row moved.now) taken_out moved.moved in
+          next (with_pair (with_pair (slots_of first) parent.list.0 q None) sibling.list.0 (q - sibling.first) (Some moved.now))
+          (moved-slots arena first mid new between after k h s was.of q row has taken_out moved)
+          (lifted-moved arena (slots_of first) between after k h s was.of q row was.lifted has moved.now sees bit bits (λ x. ap (λ f. is_some (f x)) moved.taken))
+          (record {
+            gives = record { frames = moved.frames; kept = λ x. inl (ap (λ f. f x) moved.taken) };
+            linked = moved-linked arena first mid new between after k h s was.of q row has taken_out moved;
+            spare = omega (arith, moved.spare);
+            count = omega (arith, moved.count);
+          })
+
+    -- the row is gone, or has moved
+    pub lifting-settled : HasSettled arena mid new between after parent s sibling q row → row_count mid + 1 ≡ row_count first → mid.spare ≡ first.spare + 1 →
         HasLifted arena first new between after k h s
-    gone-next unseen count spare =
-        let spare_is = ap (λ (r : Rows Row). r.spare) gone.0 in
-        let count_is = ap (λ (r : Rows Row). row_count r) gone.0 in
-        next (with_pair (slots_of first) parent.list.0 q None) (gone-slots arena first mid new between after k h s was.of q row has taken_out gone)
-        (lifted-gone arena (slots_of first) between after k h s was.of q row was.lifted has unseen gone.1.taken) (record {
-          gives = gone.1.gives;
-          linked = gone-linked arena first mid new between after k h s was.of q row has taken_out gone;
-          spare = omega arith;
-          count = omega arith;
-        })
+    lifting-settled done count spare = elim (cases_Bool done.seen) [
+      | inl on ↦ moved-next (done.moves on) (sees-first (settle-sees (slots_of mid) parent s sibling q row done.seen done.tells row-sees-mid on)) (bit-off on) count spare
+      | inr off ↦ gone-next (done.gone off) (
+        (λ tag left right e. ap (λ (from : Side). bit_on from left right) (sym other) ∙ untold _ _ (done.tells.frame tag left right e) off),
+        (λ e sees. let seen = (done.tells.zero e).1 (sees-mid sees) in absurd (cc)),
+      ) count spare
+    ]
+      where
+        other : side_of parent s ≡ other_side (side_of parent k)
+        other = family-other arena k h s was.lifted.exact.forest was.of
 
-  -- ---- the row has moved
+        bit-off : done.seen ≡ true → (tag : Tag) (left right : Bool) → row ≡ slot.Frame tag left right → bit_on (other_side (side_of parent k)) left right ≡ false
+        bit-off on tag left right e = ap (λ (from : Side). bit_on from left right) (sym other) ∙ told _ _ (done.tells.frame tag left right e) on
 
-  module _ (moved : HasLiftedRow arena mid new between after s sibling q row) where
-    moved-next : SeesRow (slots_of first) sibling q →
-        ((tag : Tag) (left right : Bool) → row ≡ slot.Frame tag left right → bit_on (other_side (side_of parent k)) left right ≡ false) →
-        row_count mid + 1 ≡ row_count first → mid.spare ≡ first.spare + 1 → HasLifted arena first new between after k h s
-    moved-next sees bit count spare =
-        let bits = subst (λ (x : Slots). IsMoved (record (tree_of arena first) { slots = x }) s (q - sibling.first) sibling row moved.now) taken_out moved.moved in
-        next (with_pair (with_pair (slots_of first) parent.list.0 q None) sibling.list.0 (q - sibling.first) (Some moved.now))
-        (moved-slots arena first mid new between after k h s was.of q row has taken_out moved)
-        (lifted-moved arena (slots_of first) between after k h s was.of q row was.lifted has moved.now sees bit bits (λ x. ap (λ f. is_some (f x)) moved.taken))
-        (record {
-          gives = record { frames = moved.frames; kept = λ x. inl (ap (λ f. f x) moved.taken) };
-          linked = moved-linked arena first mid new between after k h s was.of q row has taken_out moved;
-          spare = omega (arith, moved.spare);
-          count = omega (arith, moved.count);
-        })
-
-  -- the row is gone, or has moved
-  pub lifting-settled : HasSettled arena mid new between after parent s sibling q row → row_count mid + 1 ≡ row_count first → mid.spare ≡ first.spare + 1 →
-      HasLifted arena first new between after k h s
-  lifting-settled done count spare = elim (cases_Bool done.seen) [
-    | inl on ↦ moved-next (done.moves on) (sees-first (settle-sees (slots_of mid) parent s sibling q row done.seen done.tells row-sees-mid on)) (bit-off on) count spare
-    | inr off ↦ gone-next (done.gone off) (
-      (λ tag left right e. ap (λ (from : Side). bit_on from left right) (sym other) ∙ untold _ _ (done.tells.frame tag left right e) off),
-      (λ e sees. let seen = (done.tells.zero e).1 (sees-mid sees) in absurd (cc)),
-    ) count spare
-  ]
-    where
-      other : side_of parent s ≡ other_side (side_of parent k)
-      other = family-other arena k h s was.lifted.exact.forest was.of
-
-      bit-off : done.seen ≡ true → (tag : Tag) (left right : Bool) → row ≡ slot.Frame tag left right → bit_on (other_side (side_of parent k)) left right ≡ false
-      bit-off on tag left right e = ap (λ (from : Side). bit_on from left right) (sym other) ∙ told _ _ (done.tells.frame tag left right e) on
-
-  -- the parent's list has lost this row alone
-  pub lifting-list : HasSettled arena mid new between after parent s sibling q row → (p : ℕ) →
-      slots_of new parent.list.0 p ≡ (if p == q then None else slots_of first parent.list.0 p)
-  lifting-list = settled-list arena first mid new between after k h s was.of q row has taken_out lists.2
+    -- the parent's list has lost this row alone
+    pub lifting-list : HasSettled arena mid new between after parent s sibling q row → (p : ℕ) →
+        slots_of new parent.list.0 p ≡ (if p == q then None else slots_of first parent.list.0 p)
+    lifting-list = settled-list arena first mid new between after k h s was.of q row has taken_out lists.2

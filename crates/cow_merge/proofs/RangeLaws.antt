@@ -304,13 +304,14 @@ dropping-start arena rows pool v node first exact visible = record {
 }
 
 -- the own row of one page more goes
-module _ (arena : Arena) (old new : Rows Row) (before after : Pool) (v : ℕ) (node : Node) (first end page : ℕ) (row : Slot)
+module _ {arena : Arena} {old : Rows Row} {before : Pool} {v : ℕ} {node : Node} {first end : ℕ} (page : ℕ) {row : Slot}
     (was : IsDropping arena old before v node first end) (at : slots_of old node.list.0 page ≡ Some row) where
   pub dropping-taken : (tag : ℕ) → frame_in row ≡ Some tag → IsSome (taken_frames before tag)
   dropping-taken tag frame = was.exact.used node.list.0 page row tag at frame
 
-  module _ (from : first ≤ end) (next : IsNext (slots_of old node.list.0) end (Some page)) (slots : slots_of new ≡ with_pair (slots_of old) node.list.0 page None)
-      (given : HasGiven before after (frame_in row)) (spare : old.spare ≤ new.spare) (count : row_count new ≤ row_count old) where
+  module _ (new : Rows Row) {after : Pool} (from : first ≤ end) (next : IsNext (slots_of old node.list.0) end (Some page))
+      (slots : slots_of new ≡ with_pair (slots_of old) node.list.0 page None) (given : HasGiven before after (frame_in row))
+      (spare : old.spare ≤ new.spare) (count : row_count new ≤ row_count old) where
     step : HasLeftPageOut arena old new before after v page
     step = drop-left_out arena old new v page node was.visible before after row was.exact.forest at slots given spare count
 
@@ -333,9 +334,9 @@ module _ (arena : Arena) (old new : Rows Row) (before after : Pool) (v : ℕ) (n
     pub dropping-lost : HasLost arena old new before after v first
     dropping-lost = more-lost arena old new before after v first page step past was.out was.exact was.only was.within
 
-pub dropping-end : (arena : Arena) (rows : Rows Row) (pool : Pool) (v : ℕ) (node : Node) (first end : ℕ) →
+pub dropping-end : {arena : Arena} {rows : Rows Row} {pool : Pool} {v : ℕ} {node : Node} {first end : ℕ} →
     IsDropping arena rows pool v node first end → first ≤ end → IsNext (slots_of rows node.list.0) end None → IsLeftBare arena rows pool v first
-dropping-end arena rows pool v node first end was from next = record {
+dropping-end {arena} {rows} {pool} {v} {node} {first} {end} was from next = record {
   has = record { out = was.out; exact = was.exact; only = was.only; node = node; visible = was.visible };
   within = was.within;
   bare = λ p start. elim (cases_lt p end) [ inl before ↦ was.bare p start before | inr past ↦ next.none refl p past ];

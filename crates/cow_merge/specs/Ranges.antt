@@ -14,7 +14,7 @@ use Rattle.cow_arena.specs.Nodes.{Arena, Nodes, nodes_of, IsVisible}
 use Rattle.cow_arena.specs.Walk.{Slots, Tree, tree_with, frame_shown, frame_in}
 use Rattle.cow_arena.specs.Ways.{Reaches, Arrives, IsPartOf}
 use Rattle.cow_split.specs.Trees.{tree_of}
-use Rattle.cow_split.specs.Sight.{IsPage}
+use Rattle.cow_split.specs.Sight.{IsPage, ShowsSame}
 use Rattle.cow_split.specs.Exact.{IsExact, IsOnlyOf, all_in_sight, leaving_out, without_frame}
 use Rattle.cow_merge.specs.declared.ranges.Pages.{Pages}
 
@@ -39,18 +39,18 @@ pub record Accounts (old new : Rows Row) (before after : Pool) : Type 0 where
   pub spare : old.spare ≤ new.spare
   pub count : row_count new ≤ row_count old
 
--- Each visible node shows what it showed, at the pages that are in sight.
-abbrev pub ShowsSame : (old new : Tree) → (out : ℕ → ℕ → Bool) → Type 0
-ShowsSame old new out = (w q : ℕ) → IsPage old w q → out w q ≡ false → frame_shown new w q ≡ frame_shown old w q
+-- page q of w is not left out of sight
+abbrev pub IsInSight : (ℕ → ℕ → Bool) → (w q : ℕ) → Type 0
+IsInSight out w q = out w q ≡ false
 
--- Each visible node shows what it showed, but for the pages of v from `first` on.
-abbrev pub ShowsBut : (old new : Tree) → (v first : ℕ) → Type 0
-ShowsBut old new v first = (w q : ℕ) → IsPage old w q → (w ≡ v → q < first) → frame_shown new w q ≡ frame_shown old w q
+-- page q of w is none of the pages of v from `first` on
+abbrev pub IsNotFrom : (v first w q : ℕ) → Type 0
+IsNotFrom v first w q = w ≡ v → q < first
 
 -- The rows and the frames change under the same nodes. The pages of v from `first` on may show something else.
 pub record Moves (arena : Arena) (old new : Rows Row) (before after : Pool) (v first : ℕ) : Type 0 where
   pub accounts : Accounts old new before after
-  pub shows : ShowsBut (tree_of arena old) (tree_of arena new) v first
+  pub shows : ShowsSame (tree_of arena old) (tree_of arena new) (IsNotFrom v first)
 
 -- The same, and rows go, but none comes.
 pub record HasLost (arena : Arena) (old new : Rows Row) (before after : Pool) (v first : ℕ) : Type 0 where
@@ -73,7 +73,7 @@ pub record HasLeftPageOut (arena : Arena) (old new : Rows Row) (before after : P
   pub exact : (out : ℕ → ℕ → Bool) → IsExact (tree_of arena old) out (is_taken before) → IsOnlyOf out v →
       IsExact (tree_of arena new) (leaving_out out v p) (is_taken after)
   pub shows : (out : ℕ → ℕ → Bool) → IsExact (tree_of arena old) out (is_taken before) → IsOnlyOf out v →
-      ShowsSame (tree_of arena old) (tree_of arena new) (leaving_out out v p)
+      ShowsSame (tree_of arena old) (tree_of arena new) (IsInSight (leaving_out out v p))
   pub part : IsPartOf (slots_of old) (slots_of new)
   pub accounts : Accounts old new before after
 

@@ -25,7 +25,7 @@ use Rattle.cow_split.specs.declared.answers.Cut.{Cut}
 use Rattle.cow_split.specs.declared.answers.Cut.TheVariants as cut
 use Rattle.cow_split.specs.Trees.{with_row, list_in}
 use Rattle.cow_split.specs.Search.{reached_from}
-use Rattle.cow_split.specs.Sight.{IsPage, Sees, IsSeenFrom, IsLastViewer, OthersShowSame}
+use Rattle.cow_split.specs.Sight.{IsPage, Sees, IsSeenFrom, IsLastViewer, ShowsSame, IsNotPage}
 use Rattle.cow_split.specs.Exact.{Denies, AreSplitBits, IsExact, IsOnlyOf, leaving_out, without_frame}
 use Rattle.cow_split.specs.Cutting.{split_on, answer_on, slots_from, answer_from, slots_after, answer_after, cut_slots, cut_answer, frame_left}
 use Rattle.cow_split.proofs.SearchLaws.{reached-seen, seen-reached, IsSeenBut}
@@ -210,7 +210,7 @@ record OthersAlike (t : Tree) (slots : Slots) (v p : ℕ) : Type 0 where
       Sees (record t { slots = slots }) w r from h q
   back : (w r : ℕ) (from : Option Side) (h q : ℕ) → ((w ≡ v) × (r ≡ p) → ⊥) →
       Sees (record t { slots = slots }) w r from h q → Sees t w r from h q
-  frames : OthersShowSame t (record t { slots = slots }) v p
+  frames : ShowsSame t (record t { slots = slots }) (IsNotPage v p)
 
 -- a page is one whatever the rows are
 pub page-over : (t : Tree) (slots : Slots) (w r : ℕ) → IsPage t w r → IsPage (record t { slots = slots }) w r
@@ -546,7 +546,7 @@ module _ (t : Tree) (out : ℕ → ℕ → Bool) (in_use : ℕ → Bool) (exact 
   cut-last tag = (cut-keeps.last tag, λ both. cut-keeps.is_last tag both.0 both.1)
 
   -- each other page of a visible node shows what it showed
-  pub cut-others : OthersShowSame t (record t { slots = cut_slots t v p }) v p
+  pub cut-others : ShowsSame t (record t { slots = cut_slots t v p }) (IsNotPage v p)
   cut-others = cut-keeps.others.frames
 
   pub cut-shows : (w r : ℕ) → IsPage t w r → leaving_out out v p w r ≡ false →

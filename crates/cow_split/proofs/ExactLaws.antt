@@ -76,16 +76,6 @@ denies-alike bit P Q alike denies = record {
 }
 
 module _ (old new : Tree) (l q : ℕ) (before after : Option Slot) (changes : ChangesRow old new l q before after) where
-  -- read the other way round
-  pub turned : ChangesRow new old l q after before
-  turned = record {
-    nodes = sym changes.nodes;
-    lists = sym changes.lists;
-    was = changes.is;
-    is = changes.was;
-    others = λ m r differs. sym (changes.others m r differs);
-  }
-
   -- a row that is there now came, or was there
   origin : (m r : ℕ) (row : Slot) → new.slots m r ≡ Some row →
       ((m ≡ l) × (r ≡ q) × (after ≡ Some row)) ⊎ (((m ≡ l) × (r ≡ q) → ⊥) × (old.slots m r ≡ Some row))

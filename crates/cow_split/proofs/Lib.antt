@@ -12,7 +12,6 @@ pub mod ViewersLaws
 pub mod FoundLaws
 pub mod ExactLaws
 pub mod RowLaws
-pub mod ExampleLaws
 pub mod CutLaws
 pub mod PartLaws
 pub mod HolderLaws

@@ -19,7 +19,7 @@ use Rattle.cow_arena.proofs.WalkLaws.{walk-own}
 use Rattle.cow_arena.proofs.ReachLaws.{walk-ends}
 use Rattle.cow_arena.proofs.AlikeLaws.{with_pair-same, walk-beside}
 use Rattle.cow_split.specs.Trees.{with_row}
-use Rattle.cow_split.specs.Sight.{IsPage, Sees, IsSeenFrom, OthersShowSame}
+use Rattle.cow_split.specs.Sight.{IsPage, Sees, IsSeenFrom, ShowsSame, IsNotPage}
 use Rattle.cow_split.specs.Exact.{IsExact, IsOnlyOf, all_in_sight, leaving_out, with_frame, without_frame}
 use Rattle.cow_split.proofs.ExactLaws.{with_row-changes, exact-changed, exact-seen_alike, seen-carried, frame-gone, frame-comes}
 
@@ -46,26 +46,6 @@ module _ (out : ℕ → ℕ → Bool) (v p : ℕ) where
   pub left_out-here : leaving_out out v p v p ≡ true
   unfolding leaving_out
   left_out-here = ap (λ (b : Bool). b || out v p) (and_from (v == v) (p == p) (eqb_same v) (eqb_same p))
-
--- pages are left out once, and in any order
-pub left_out-twice : (out : ℕ → ℕ → Bool) (v p w q : ℕ) → leaving_out (leaving_out out v p) v p w q ≡ leaving_out out v p w q
-unfolding leaving_out
-left_out-twice out v p w q = twice ((w == v) && (q == p)) (out w q)
-  where
-    twice : (a b : Bool) → (a || (a || b)) ≡ (a || b)
-    twice true b = refl
-    twice false b = refl
-
-pub left_out-swapped : (out : ℕ → ℕ → Bool) (v p k r w q : ℕ) →
-    leaving_out (leaving_out out v p) k r w q ≡ leaving_out (leaving_out out k r) v p w q
-unfolding leaving_out
-left_out-swapped out v p k r w q = swapped ((w == k) && (q == r)) ((w == v) && (q == p)) (out w q)
-  where
-    swapped : (a b c : Bool) → (a || (b || c)) ≡ (b || (a || c))
-    swapped true true c = refl
-    swapped true false c = refl
-    swapped false true c = refl
-    swapped false false c = refl
 
 -- only pages of one node are left out, before the first and after one more
 pub only-none : (v : ℕ) → IsOnlyOf all_in_sight v
@@ -144,15 +124,6 @@ module _ (t : Tree) (out : ℕ → ℕ → Bool) (in_use : ℕ → Bool) (v p : 
   pub exact-in_sight : IsExact t (leaving_out out v p) in_use → IsExact t out in_use
   exact-in_sight exact = exact-in_by t out in_use v p (λ w q side. sees-other exact.forest w q (Some side)) exact
 
--- The page shows its own row.
-module _ (t : Tree) (out : ℕ → ℕ → Bool) (in_use : ℕ → Bool) (v p : ℕ) (own : Node) (own_row : Slot) (own_at : t.nodes v ≡ Some own)
-    (has : t.slots own.list.0 p ≡ Some own_row) where
-  sees-own : IsForest t.nodes t.lists → (w q : ℕ) (side : Side) (k r : ℕ) (node : Node) (tag : Tag) (left right : Bool) → t.nodes k ≡ Some node →
-      t.slots node.list.0 r ≡ Some (slot.Frame tag left right) → Sees t w q (Some side) k r → (w ≡ v) × (q ≡ p) → ⊥
-  sees-own forest w q side k r node tag left right at row sees both =
-      let here = ap (λ i. walk t i q) both.0 ∙ (ap (walk t v) both.1 ∙ walk-own t forest v p own own_row own_at has) in
-      absurd (let none = ap (λ (it : Found). it.side) (some_same (sym sees.found ∙ here)) in cc)
-
 -- ---- own rows
 
 -- a row of a visible node says nothing of sides
@@ -207,7 +178,7 @@ module _ (t : Tree) (v p : ℕ) (node : Node) (visible : IsVisible t.nodes v nod
   own-walks forest row w q differs = walk-beside t forest v p node row w q visible (λ one other. differs (one, other))
 
   -- and show what they showed, before and after
-  pub own-shows : IsForest t.nodes t.lists → (row : Option Slot) → OthersShowSame t (with_row t node.list.0 p row) v p
+  pub own-shows : IsForest t.nodes t.lists → (row : Option Slot) → ShowsSame t (with_row t node.list.0 p row) (IsNotPage v p)
   own-shows forest row w q page differs = ap frame_found (own-walks forest row w q differs)
 
   -- the page shows its own row

@@ -36,9 +36,13 @@ pub record IsSeenFrom (t : Tree) (out : ℕ → ℕ → Bool) (side : Side) (h q
 abbrev pub IsLastViewer : Tree → (v tag : ℕ) → Type 0
 IsLastViewer t v tag = (w p : ℕ) → IsPage t w p → frame_shown t w p ≡ Some tag → w ≡ v
 
--- each page of a visible node but page p of v shows the frame that it showed before, or is zero as before
-abbrev pub OthersShowSame : (old new : Tree) → (v p : ℕ) → Type 0
-OthersShowSame old new v p = (w q : ℕ) → IsPage old w q → ((w ≡ v) × (q ≡ p) → ⊥) → frame_shown new w q ≡ frame_shown old w q
+-- each page of a visible node of which this holds shows the frame that it showed before, or is zero as before
+abbrev pub ShowsSame : (old new : Tree) → (Holds : ℕ → ℕ → Type 0) → Type 0
+ShowsSame old new Holds = (w q : ℕ) → IsPage old w q → Holds w q → frame_shown new w q ≡ frame_shown old w q
+
+-- page q of w is another than page p of v
+abbrev pub IsNotPage : (v p w q : ℕ) → Type 0
+IsNotPage v p w q = (w ≡ v) × (q ≡ p) → ⊥
 
 -- node w is visible as before, with its koid and its count
 pub record StaysVisible (old new : Nodes) (w : ℕ) (node : Node) : Type 0 where

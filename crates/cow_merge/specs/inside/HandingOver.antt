@@ -17,7 +17,8 @@ use Rattle.cow_arena.specs.Walk.{Slots, tree_with, frame_in}
 use Rattle.cow_arena.specs.Ways.{KeepsBelow}
 use Rattle.cow_split.specs.Trees.{tree_of}
 use Rattle.cow_split.specs.Exact.{without_frame}
-use Rattle.cow_merge.specs.Ranges.{bit_on, ShowsBut, Accounts, GivesBack}
+use Rattle.cow_split.specs.Sight.{ShowsSame}
+use Rattle.cow_merge.specs.Ranges.{bit_on, Accounts, GivesBack, IsNotFrom}
 use Rattle.cow_merge.specs.inside.Lifting.{IsFamilyOf, AreLifted, is_row_of_frame}
 use Rattle.cow_merge.specs.inside.Sharing.{IsReached}
 
@@ -49,7 +50,7 @@ pub record IsHandingOver (arena : Arena) (old new : Rows Row) (before after : Po
   pub of : IsFamilyOf arena k h s
   pub slots : Slots
   pub lifted : AreLifted arena slots after k h of.node
-  pub shows : ShowsBut (tree_of arena old) (tree_with (nodes_of arena) arena.lists slots) k 0
+  pub shows : ShowsSame (tree_of arena old) (tree_with (nodes_of arena) arena.lists slots) (IsNotFrom k 0)
   pub below : KeepsBelow (slots_of old) slots of.parent of.sibling
   pub first : of.sibling.first ≡ 0
   pub shared : of.sibling.koid ≡ None → (q : ℕ) → IsSome (slots of.parent.list.0 q) → (side : Side) →
@@ -75,7 +76,7 @@ pub record HasHandedOver (arena : Arena) (old new : Rows Row) (before after : Po
   pub of : IsFamilyOf arena k h s
   pub slots : Slots
   pub lifted : AreLifted arena slots after k h of.node
-  pub shows : ShowsBut (tree_of arena old) (tree_with (nodes_of arena) arena.lists slots) k 0
+  pub shows : ShowsSame (tree_of arena old) (tree_with (nodes_of arena) arena.lists slots) (IsNotFrom k 0)
   pub below : KeepsBelow (slots_of old) slots of.parent of.sibling
   pub empty : (p : ℕ) → slots of.parent.list.0 p ≡ None
   pub rows : AreExchanged slots (slots_of new) of.parent.list.0 of.sibling.list.0

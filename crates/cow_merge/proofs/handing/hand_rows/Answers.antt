@@ -15,32 +15,28 @@ loop-page-init c = record {
 
 pub put_row-requires-clause-taken : goal.put_row-requires-clause-taken
 put_row-requires-clause-taken c =
-    hand-taken c.loop-page.invariant.handing c.node-2.result c.node-2.ensures c.in-Some.page c.in-Some.slot c.in-Some.ensures.page c.in-Some.ensures.slot
+    hand-taken c.loop-page.invariant.handing c.node-2.ensures c.in-Some.ensures.page c.in-Some.ensures.slot
 
 pub put_row-requires-clause-under : goal.put_row-requires-clause-under
 put_row-requires-clause-under c =
-    hand-under c.loop-page.invariant.handing c.node-2.result c.node-2.ensures c.in-Some.page c.in-Some.slot c.in-Some.ensures.page
-    c.in-Some.ensures.slot c.node.result c.node.ensures c.take_next.new.self c.in-Some.ensures.slots
+    hand-under c.loop-page.invariant.handing c.node-2.ensures c.in-Some.ensures.page c.in-Some.ensures.slot c.node.ensures c.take_next.new.self c.in-Some.ensures.slots
 
 pub put_row-requires-clause-apart : goal.put_row-requires-clause-apart
 put_row-requires-clause-apart c =
-    hand-apart c.loop-page.invariant.handing c.node-2.result c.node-2.ensures c.in-Some.page c.in-Some.slot c.in-Some.ensures.page
-    c.in-Some.ensures.slot c.node.result c.node.ensures c.take_next.new.self c.in-Some.ensures.slots
+    hand-apart c.loop-page.invariant.handing c.node-2.ensures c.in-Some.ensures.page c.in-Some.ensures.slot c.node.ensures c.take_next.new.self c.in-Some.ensures.slots
 
 pub loop-page-smaller : goal.loop-page-smaller
 loop-page-smaller c =
     let least = c.in-Some.ensures.page.least c.in-Some.page refl in
     ahead-less (slots_of c.loop-page.lists c.node-2.result.list.0) (slots_of c.put_row.new.lists c.node-2.result.list.0) c.loop-page.from c.in-Some.page c.in-Some.slot
     least.0 c.in-Some.ensures.fits c.in-Some.ensures.slot
-    (hand-gone c.loop-page.invariant.handing c.node-2.result c.node-2.ensures c.in-Some.page c.in-Some.slot c.in-Some.ensures.page
-    c.in-Some.ensures.slot c.node.result c.node.ensures c.take_next.new.self c.in-Some.ensures.slots c.put_row.new.lists c.put_row.new.frames c.put_row.ensures)
+    (hand-gone c.loop-page.invariant.handing c.node-2.ensures c.in-Some.ensures.page c.in-Some.ensures.slot c.node.ensures c.take_next.new.self c.in-Some.ensures.slots c.put_row.ensures)
 
 pub loop-page-preserved : goal.loop-page-preserved
 loop-page-preserved c = record {
   handing =
-      hand-next c.loop-page.invariant.handing c.node-2.result c.node-2.ensures c.in-Some.page c.in-Some.slot c.in-Some.ensures.page
-      c.in-Some.ensures.slot c.node.result c.node.ensures c.take_next.new.self c.in-Some.ensures.slots
-      c.put_row.new.lists c.put_row.new.frames c.put_row.ensures c.in-Some.ensures.spare c.in-Some.ensures.count;
+      hand-next c.loop-page.invariant.handing c.node-2.ensures c.in-Some.ensures.page c.in-Some.ensures.slot c.node.ensures c.take_next.new.self c.in-Some.ensures.slots
+      c.put_row.ensures c.in-Some.ensures.spare c.in-Some.ensures.count;
 }
 
 pub returns : goal.returns

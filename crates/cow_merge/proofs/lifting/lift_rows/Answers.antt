@@ -16,14 +16,12 @@ loop-page-init c = record { lifted = lifted-same c.requires; below = λ p least 
 pub settle-requires-clause-taken : goal.settle-requires-clause-taken
 settle-requires-clause-taken c =
     let was = lifting-with c.loop-page.invariant.lifted.now c.node-above.result c.node.result c.node-above.ensures c.node.ensures in
-    row-taken c.args.arena.now c.loop-page.lists c.take_below.new.lists c.take_below.new.lists c.loop-page.frames c.loop-page.frames
-    c.args.family.leaf.0 c.args.family.hidden.0 c.args.family.sibling.0 c.in-Some.page c.in-Some.slot was c.in-Some.ensures.slot c.in-Some.ensures.slots
+    row-taken c.take_below.new.lists c.in-Some.page c.in-Some.slot was c.in-Some.ensures.slot c.in-Some.ensures.slots
 
 pub settle-requires-clause-seen : goal.settle-requires-clause-seen
 settle-requires-clause-seen c = λ tag left right e seen.
     let was = lifting-with c.loop-page.invariant.lifted.now c.node-above.result c.node.result c.node-above.ensures c.node.ensures in
-    row-sees-mid c.args.arena.now c.loop-page.lists c.take_below.new.lists c.take_below.new.lists c.loop-page.frames c.loop-page.frames
-    c.args.family.leaf.0 c.args.family.hidden.0 c.args.family.sibling.0 c.in-Some.page c.in-Some.slot was c.in-Some.ensures.slot c.in-Some.ensures.slots tag left right e seen
+    row-sees-mid c.take_below.new.lists c.in-Some.page c.in-Some.slot was c.in-Some.ensures.slot c.in-Some.ensures.slots tag left right e seen
 
 pub loop-page-smaller : goal.loop-page-smaller
 loop-page-smaller c =
@@ -31,25 +29,22 @@ loop-page-smaller c =
     let least = c.in-Some.ensures.page.least c.in-Some.page refl in
     ahead-less (slots_of c.loop-page.lists c.node-above.result.list.0) (slots_of c.settle.new.lists c.node-above.result.list.0) c.loop-page.at c.in-Some.page
     c.in-Some.slot least.0 c.in-Some.ensures.fits c.in-Some.ensures.slot
-    (lifting-list c.args.arena.now c.loop-page.lists c.take_below.new.lists c.settle.new.lists c.loop-page.frames c.settle.new.frames
-    c.args.family.leaf.0 c.args.family.hidden.0 c.args.family.sibling.0 c.in-Some.page c.in-Some.slot was c.in-Some.ensures.slot c.in-Some.ensures.slots
+    (lifting-list c.take_below.new.lists c.in-Some.page c.in-Some.slot was c.in-Some.ensures.slot c.in-Some.ensures.slots
     c.settle.ensures c.in-Some.page ∙ gone-here _ c.in-Some.page)
 
 pub loop-page-preserved : goal.loop-page-preserved
 loop-page-preserved c =
     let was = lifting-with c.loop-page.invariant.lifted.now c.node-above.result c.node.result c.node-above.ensures c.node.ensures in
+    let lost = lifting-list c.take_below.new.lists c.in-Some.page c.in-Some.slot was c.in-Some.ensures.slot c.in-Some.ensures.slots c.settle.ensures in
+    let list = c.node-above.result.list.0 in
     record {
       lifted = lifted-then c.loop-page.invariant.lifted
-          (lifting-settled c.args.arena.now c.loop-page.lists c.take_below.new.lists c.settle.new.lists c.loop-page.frames c.settle.new.frames
-          c.args.family.leaf.0 c.args.family.hidden.0 c.args.family.sibling.0 c.in-Some.page c.in-Some.slot was c.in-Some.ensures.slot c.in-Some.ensures.slots
+          (lifting-settled c.take_below.new.lists c.in-Some.page c.in-Some.slot was c.in-Some.ensures.slot c.in-Some.ensures.slots
           c.settle.ensures c.in-Some.ensures.count c.in-Some.ensures.spare);
-      below = passed-more (slots_of c.loop-page.lists c.node-above.result.list.0) (slots_of c.settle.new.lists c.node-above.result.list.0) c.args.from c.loop-page.at c.in-Some.page
-          c.loop-page.invariant.below c.in-Some.ensures.page
-          (lifting-list c.args.arena.now c.loop-page.lists c.take_below.new.lists c.settle.new.lists c.loop-page.frames c.settle.new.frames
-          c.args.family.leaf.0 c.args.family.hidden.0 c.args.family.sibling.0 c.in-Some.page c.in-Some.slot was c.in-Some.ensures.slot c.in-Some.ensures.slots c.settle.ensures);
-      others = λ p row at. c.loop-page.invariant.others p row (left-was (slots_of c.loop-page.lists c.node-above.result.list.0) (slots_of c.settle.new.lists c.node-above.result.list.0) c.in-Some.page
-          (lifting-list c.args.arena.now c.loop-page.lists c.take_below.new.lists c.settle.new.lists c.loop-page.frames c.settle.new.frames
-          c.args.family.leaf.0 c.args.family.hidden.0 c.args.family.sibling.0 c.in-Some.page c.in-Some.slot was c.in-Some.ensures.slot c.in-Some.ensures.slots c.settle.ensures) p row at);
+      below = passed-more (slots_of c.loop-page.lists list) (slots_of c.settle.new.lists list) c.args.from c.loop-page.at c.in-Some.page
+          c.loop-page.invariant.below c.in-Some.ensures.page lost;
+      others = λ p row at. c.loop-page.invariant.others p row
+          (left-was (slots_of c.loop-page.lists list) (slots_of c.settle.new.lists list) c.in-Some.page lost p row at);
     }
 
 pub returns-clause-lifted : goal.returns-clause-lifted

@@ -22,22 +22,18 @@ loop-page-init c = record {
 
 pub give_back_frame-requires : goal.give_back_frame-requires
 give_back_frame-requires c =
-    dropping-taken c.args.arena.now c.loop-page.lists c.take_next.new.self c.loop-page.frames c.loop-page.frames
-    c.args.leaf.0 c.node-node.result c.args.first c.loop-page.from c.in-Some.page c.in-Some.slot c.loop-page.invariant.dropping c.in-Some.ensures.slot
+    dropping-taken c.in-Some.page c.loop-page.invariant.dropping c.in-Some.ensures.slot
 
 pub loop-page-preserved : goal.loop-page-preserved
 loop-page-preserved c =
     let least = c.in-Some.ensures.page.least c.in-Some.page refl in
     record {
       from = omega (arith, least.0);
-      dropping = dropping-more c.args.arena.now c.loop-page.lists c.take_next.new.self c.loop-page.frames c.give_back_frame.new.frames c.args.leaf.0 c.node-node.result c.args.first c.loop-page.from c.in-Some.page c.in-Some.slot
-          c.loop-page.invariant.dropping c.in-Some.ensures.slot c.loop-page.invariant.from c.in-Some.ensures.page c.in-Some.ensures.slots
+      dropping = dropping-more c.in-Some.page c.loop-page.invariant.dropping c.in-Some.ensures.slot c.take_next.new.self c.loop-page.invariant.from c.in-Some.ensures.page c.in-Some.ensures.slots
           c.give_back_frame.ensures (omega (arith, c.in-Some.ensures.spare)) (omega (arith, c.in-Some.ensures.count));
       lost = lost-then c.loop-page.invariant.lost
-          (dropping-lost c.args.arena.now c.loop-page.lists c.take_next.new.self c.loop-page.frames c.give_back_frame.new.frames c.args.leaf.0 c.node-node.result
-          c.args.first c.loop-page.from c.in-Some.page c.in-Some.slot c.loop-page.invariant.dropping c.in-Some.ensures.slot c.loop-page.invariant.from
-          c.in-Some.ensures.page c.in-Some.ensures.slots c.give_back_frame.ensures (omega (arith, c.in-Some.ensures.spare))
-          (omega (arith, c.in-Some.ensures.count)));
+          (dropping-lost c.in-Some.page c.loop-page.invariant.dropping c.in-Some.ensures.slot c.take_next.new.self c.loop-page.invariant.from c.in-Some.ensures.page c.in-Some.ensures.slots
+          c.give_back_frame.ensures (omega (arith, c.in-Some.ensures.spare)) (omega (arith, c.in-Some.ensures.count)));
       others = λ m apart p.
           ap (λ (x : Slots). x m p) c.in-Some.ensures.slots
           ∙ (with_pair-other (slots_of c.loop-page.lists) c.node-node.result.list.0 c.in-Some.page None m p (λ list _. apart list)
@@ -47,8 +43,7 @@ loop-page-preserved c =
 pub returns-clause-bare : goal.returns-clause-bare
 returns-clause-bare c =
     subst (λ (rows : Rows Row). IsLeftBare c.args.arena.now rows c.loop-page.frames c.args.leaf.0 c.args.first) (sym c.in_default.ensures.none)
-    (dropping-end c.args.arena.now c.loop-page.lists c.loop-page.frames c.args.leaf.0 c.node-node.result c.args.first
-    c.loop-page.from c.loop-page.invariant.dropping c.loop-page.invariant.from c.in_default.ensures.page)
+    (dropping-end c.loop-page.invariant.dropping c.loop-page.invariant.from c.in_default.ensures.page)
 
 pub returns-clause-lost : goal.returns-clause-lost
 returns-clause-lost c =

@@ -9,7 +9,7 @@ use Rattle.cow_arena.specs.Nodes.{nodes_of}
 use Rattle.cow_arena.proofs.ReachLaws.{child-there, side-of-child}
 use Rattle.cow_split.specs.Trees.{tree_of}
 use Rattle.cow_merge.specs.inside.Sharing.{AreShared}
-use Rattle.cow_merge.proofs.BesideLaws.{left-there, right-there, hidden-there, no-koid_of}
+use Rattle.cow_merge.proofs.BesideLaws.{both-there, hidden-there, no-koid_of}
 use Rattle.cow_merge.proofs.SharingLaws.{reached-kept, shared-visible, shared-both}
 use Rattle.cow_merge.proofs.sharing.share_rows.Goals as goal
 use Rattle.cow_merge.proofs.LiftedLaws.{below-found, lifted-same, lifted-then}
@@ -25,15 +25,15 @@ returns-then-is_some-clause-shared c = λ parent node at there.
 
 pub unreachable-requires : goal.unreachable-requires
 unreachable-requires c =
-    left-there c.args.arena.now c.requires.lifting.lifted.exact.forest c.args.family.sibling.0
+    both-there c.args.arena.now c.requires.lifting.lifted.exact.forest c.args.family.sibling.0
     (hidden-there c.args.arena.now c.args.family.sibling.0 c.node-node.result c.node-node.ensures (no-koid_of c.node-node.result.koid (sym c.is_some.ensures ∙ c.if-is_some.false)))
-    c.node-node.result c.node-node.ensures c.in_default.is
+    c.node-node.result c.node-node.ensures side.Left c.in_default.is
 
 pub unreachable-requires-in_default-right : goal.unreachable-requires-in_default-right
 unreachable-requires-in_default-right c =
-    right-there c.args.arena.now c.requires.lifting.lifted.exact.forest c.args.family.sibling.0
+    both-there c.args.arena.now c.requires.lifting.lifted.exact.forest c.args.family.sibling.0
     (hidden-there c.args.arena.now c.args.family.sibling.0 c.node-node.result c.node-node.ensures (no-koid_of c.node-node.result.koid (sym c.is_some.ensures ∙ c.if-is_some.false)))
-    c.node-node.result c.node-node.ensures c.in_default-right.is
+    c.node-node.result c.node-node.ensures side.Right c.in_default-right.is
 
 pub share_side-one-requires-clause-below : goal.share_side-one-requires-clause-below
 share_side-one-requires-clause-below c =

@@ -10,43 +10,36 @@ above_with-found-requires-clause-bare c =
 pub cut_off-requires-clause-row : goal.cut_off-requires-clause-row
 cut_off-requires-clause-row c =
     let has = c.requires.exact in
-    page-row c.args.arena.now c.args.lists.now c.args.frames.now c.args.window.leaf.0 c.args.own c.args.window.hidden.0 has (c.requires.bare has.node has.visible.at)
-    c.above_with-found.result c.above_with-found.ensures c.in-Above.node c.in-Above.page c.in-Above.side c.in-Above.slot c.in-Above.is
+    page-row c.args.own c.args.window.hidden.0 has (c.requires.bare has.node has.visible.at) c.above_with-found.result c.above_with-found.ensures c.in-Above.is
 
 pub cut_off-requires-clause-hidden : goal.cut_off-requires-clause-hidden
 cut_off-requires-clause-hidden c =
     let has = c.requires.exact in
-    page-hidden c.args.arena.now c.args.lists.now c.args.frames.now c.args.window.leaf.0 c.args.own c.args.window.hidden.0 has (c.requires.bare has.node has.visible.at)
-    c.above_with-found.result c.above_with-found.ensures c.in-Above.node c.in-Above.page c.in-Above.side c.in-Above.slot c.in-Above.is
+    page-hidden c.args.own c.args.window.hidden.0 has (c.requires.bare has.node has.visible.at) c.above_with-found.result c.above_with-found.ensures c.in-Above.is
 
 pub cut_off-requires-clause-only : goal.cut_off-requires-clause-only
 cut_off-requires-clause-only c =
     let has = c.requires.exact in
-    page-only c.args.arena.now c.args.lists.now c.args.frames.now c.args.window.leaf.0 c.args.own c.args.window.hidden.0 has (c.requires.bare has.node has.visible.at)
-    c.above_with-found.result c.above_with-found.ensures c.in-Above.node c.in-Above.page c.in-Above.side c.in-Above.slot c.in-Above.is
+    page-only c.args.own c.args.window.hidden.0 has (c.requires.bare has.node has.visible.at) c.above_with-found.result c.above_with-found.ensures c.in-Above.is
 
 pub returns-then-node-window-clause-cut : goal.returns-then-node-window-clause-cut
 returns-then-node-window-clause-cut c =
     let has = c.requires.exact in
-    page-parent c.args.arena.now c.args.lists.now c.args.frames.now c.args.window.leaf.0 c.args.own c.args.window.hidden.0 has (c.requires.bare has.node has.visible.at)
-    c.above_with-found.result c.above_with-found.ensures c.in-Above.node c.in-Above.page c.in-Above.side c.in-Above.slot c.in-Above.is c.if-node-window.true
+    page-parent c.args.own c.args.window.hidden.0 has (c.requires.bare has.node has.visible.at) c.above_with-found.result c.above_with-found.ensures c.in-Above.is c.if-node-window.true
 
 pub returns-else-node-window-clause-cut : goal.returns-else-node-window-clause-cut
 returns-else-node-window-clause-cut c =
     let has = c.requires.exact in
-    page-other c.args.arena.now c.args.lists.now c.args.frames.now c.args.window.leaf.0 c.args.own c.args.window.hidden.0 has (c.requires.bare has.node has.visible.at)
-    c.above_with-found.result c.above_with-found.ensures c.in-Above.node c.in-Above.page c.in-Above.side c.in-Above.slot c.in-Above.is
+    page-other c.args.own c.args.window.hidden.0 has (c.requires.bare has.node has.visible.at) c.above_with-found.result c.above_with-found.ensures c.in-Above.is
     c.cut_off.new.lists c.cut_off.new.frames c.cut_off.ensures.passed
 
 pub returns-else-node-window-clause-kept : goal.returns-else-node-window-clause-kept
 returns-else-node-window-clause-kept c =
     let has = c.requires.exact in
-    page-keeps c.args.arena.now c.args.lists.now c.args.frames.now c.args.window.leaf.0 c.args.own c.args.window.hidden.0 has (c.requires.bare has.node has.visible.at)
-    c.above_with-found.result c.above_with-found.ensures c.in-Above.node c.in-Above.page c.in-Above.side c.in-Above.slot c.in-Above.is
+    page-keeps c.args.own c.args.window.hidden.0 has (c.requires.bare has.node has.visible.at) c.above_with-found.result c.above_with-found.ensures c.in-Above.is
     c.cut_off.new.lists c.if-node-window.false c.cut_off.ensures.others
 
 pub returns-in_default-clause-cut : goal.returns-in_default-clause-cut
 returns-in_default-clause-cut c =
     let has = c.requires.exact in
-    page-nothing c.args.arena.now c.args.lists.now c.args.frames.now c.args.window.leaf.0 c.args.own c.args.window.hidden.0 has (c.requires.bare has.node has.visible.at)
-    c.above_with-found.result c.above_with-found.ensures c.in_default.not-Above
+    page-nothing c.args.own c.args.window.hidden.0 has (c.requires.bare has.node has.visible.at) c.above_with-found.result c.above_with-found.ensures c.in_default.not-Above
