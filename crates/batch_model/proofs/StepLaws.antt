@@ -69,11 +69,6 @@ pub gives_plain : (answer : Reply) (jobs : ℕ → Option Job) (name : ℕ) (job
 gives_plain Done jobs name job reply after gives = absurd (let differs = gives.0 in cc)
 gives_plain _ jobs name job reply after gives = (let same = gives.0 in cc, gives.1)
 
--- where the machine is not done with it, this is what the step gives
-pub PieceGives-refused : (answer : Reply) (jobs : ℕ → Option Job) (name : ℕ) (job : Job) → answer ≢ Done → PieceGives answer jobs name job (PlainReply answer) jobs
-PieceGives-refused Done jobs name job differs = absurd (differs refl)
-PieceGives-refused _ jobs name job differs = (refl, refl)
-
 -- ---- what is there of jobs
 
 -- the jobs of other names stay

@@ -26,14 +26,6 @@ module _ (pieces new : ℕ → ℕ → Option Piece) (root b q : ℕ) where
     ];
   }
 
-  pub IsBorder-less : new ≡ with_pair pieces root b None → IsBorder (pieces root) q → IsBorder (new root) q
-  IsBorder-less e border = record {
-    ends = λ c y is less. elim (with_pair-cases pieces root b None root c) [
-      | inl here ↦ absurd (let none : None ≡ Some y = sym here.2 ∙ (sym (ap (λ (m : ℕ → ℕ → Option Piece). m root c) e) ∙ is) in cc)
-      | inr other ↦ border.ends c y (sym other.1 ∙ (sym (ap (λ (m : ℕ → ℕ → Option Piece). m root c) e) ∙ is)) less
-    ];
-  }
-
   -- where a piece goes, no piece is cut at its pages
   pub IsBorder-taken : (from : ℕ) (x : Piece) → IsHeld pieces root from b x → new ≡ with_pair pieces root b None → from ≤ q → q ≤ b + 1 → IsBorder (new root) q
   IsBorder-taken from x held e low high = record {

@@ -1,6 +1,6 @@
 -- What is taken in the regions: pieces and places are extents of one list, apart from one another.
 use Rattle.std.proofs.Common.{◌≡◌, ℕ, ◌+◌, ◌<◌, ◌≤◌, Option, None, Some, IsSome, is_some, Bool, true, false, inl, inr, refl, sym, ap, ◌∙◌, arith}
-use Rattle.std.proofs.lemmas.Bool.{cases_lt, cases_order}
+use Rattle.std.proofs.lemmas.Bool.{cases_order}
 use Rattle.vm_base.specs.declared.names.RegionName.{RegionName}
 use Rattle.vm_base.proofs.EntryLaws.{some_same}
 use Rattle.balanced_tree.specs.Pairs.{with_pair}
@@ -153,18 +153,6 @@ module _ (taken : ℕ → ℕ → Option (Extent (Option RegionName))) where
 module _ (extents : ℕ → Option (Extent (Option RegionName))) (first count : ℕ) (some : 1 ≤ count) where
   pub meeting-at : (start : ℕ) (x : Extent (Option RegionName)) → Covers extents first start x → IsMeeting extents first count start
   meeting-at start x covers = record { extent = x; is = covers.is; page = first; low = omega arith; high = omega arith; from = covers.from; below = covers.below }
-
-  pub meeting-next : (start : ℕ) (x : Extent (Option RegionName)) → extents start ≡ Some x → 1 ≤ x.count → first ≤ start → start < first + count → IsMeeting extents first count start
-  meeting-next start x is more from below = record { extent = x; is = is; page = start; low = from; high = below; from = omega arith; below = omega arith }
-
-  -- where no extent has the first page, and the next one does not begin in the range, there is none
-  pub meeting-none : ((p : ℕ) (e : Extent (Option RegionName)) → Covers extents first p e → ⊥) → ((p : ℕ) → first ≤ p → p < first + count → extents p ≡ None) → IsOpen extents first count
-  meeting-none at next = record {
-    free = λ q p e low high covers. elim (cases_lt p first) [
-      | inl before ↦ at p e (record { is = covers.is; from = omega arith; below = let below = covers.below in omega arith })
-      | inr behind ↦ let from = covers.from in let none = next p behind (omega arith) in let is = covers.is in absurd cc
-    ];
-  }
 
 -- a range of which an extent has a page is in an extent
 pub meeting-not_open : (extents : ℕ → Option (Extent (Option RegionName))) (first count start : ℕ) → IsOpen extents first count → IsMeeting extents first count start → ⊥

@@ -6,7 +6,7 @@ use Rattle.std.specs.Option.{option_map}
 use Rattle.vm_base.specs.Entries.{with_key}
 use Rattle.vm_base.specs.Pages.{replaced}
 use Rattle.vm_base.proofs.EntryLaws.{some_same}
-use Rattle.vm_model.specs.Contents.Content.{Page, Content, shown, is_held, pages_of, sole, hold, created}
+use Rattle.vm_model.specs.Contents.Content.{Page, Content, shown, is_held, pages_of, sole, hold}
 use Rattle.vm_model.specs.Contents.Owning.{VmoPage, Owns, OwnsEach}
 use Rattle.vm_model.specs.Contents.Sharing.{page_seen, snapshotted, only}
 use Rattle.vm_model.specs.Contents.Writing.{Piece, piece, WritesPiece, Writes}
@@ -26,10 +26,6 @@ held-renamed r o held e = ap (option_map (page_renamed r)) e
 
 module _ (r : Renaming) where
   -- ---- contents
-
-  pub created-renamed : (c : Content) (pages : ℕ) → content_renamed r (created c pages) ≡ created (content_renamed r c) pages
-  unfolding created
-  created-renamed c pages = refl
 
   pub zeroed-renamed : (c : Content) (v first end : ℕ) → content_renamed r (zeroed c v first end) ≡ zeroed (content_renamed r c) v first end
   unfolding zeroed

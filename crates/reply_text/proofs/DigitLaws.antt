@@ -11,10 +11,6 @@ use Rattle.reply_text.proofs.Hex.{hex_step, hex_short}
 abbrev pub IsBase : ℕ → Type 0
 IsBase base = (base ≡ 10) ⊎ (base ≡ 16)
 
-pub base_some : (base : ℕ) → IsBase base → 0 < base
-base_some base (inl e) = omega (arith, e)
-base_some base (inr e) = omega (arith, e)
-
 -- ---- one digit, and more
 
 decimal_glyph : (d : ℕ) → d < 10 → digit_glyph false d ≡ 48 + d

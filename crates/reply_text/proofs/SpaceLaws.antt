@@ -1,5 +1,5 @@
 -- Texts of numbers behind spaces: where the first number ends, and that they are read in one way.
-use Rattle.std.proofs.Common.{◌≡◌, ◌≢◌, ℕ, suc, ◌+◌, ◌^◌, ◌<◌, ◌≤◌, Bool, true, false, not, cond, ◌||◌, ◌==◌, List, [], ◌∷◌, ◌++◌, length, take, drop, Option, None, Some, refl, sym, ap, ◌∙◌, one-add, append-nil, append_assoc, length-append, inl, inr, arith}
+use Rattle.std.proofs.Common.{◌≡◌, ◌≢◌, ℕ, suc, ◌+◌, ◌^◌, ◌<◌, ◌≤◌, Bool, true, false, not, cond, ◌||◌, ◌==◌, List, [], ◌∷◌, ◌++◌, length, take, drop, Option, None, Some, refl, sym, ap, ◌∙◌, one-add, append-nil, append_assoc, inl, inr, arith}
 use Rattle.std.specs.Prelude.{nat_lt, position, unwrap_or}
 use Rattle.std.specs.List.{AllByRecursion, list_all, position_or_len}
 use Rattle.std.proofs.lemmas.Bool.{cases_lt, lt-ltb, le-ltb, and_parts, and_from, not-true, both_ways}
@@ -76,10 +76,6 @@ module _ (text behind : List ℕ) (first : ℕ) (parts : text ≡ first ∷ behi
   abbrev len : ℕ
   len = position_or_len is_space behind
 
-  -- it begins with no space
-  pub no_number_space : first ≢ 32 → (n : ℕ) (more : List ℕ) → n < 2 ^ 64 → begins_space more ≡ true → text ≢ spaced_number n ++ more
-  no_number_space apart n more h b e = apart (heads first 32 behind (decimal n ++ more) (sym parts ∙ e)).0
-
   -- its word spells no number
   pub no_number_word : ((n : ℕ) → n < 2 ^ 64 → take len behind ≢ decimal n) → (n : ℕ) (more : List ℕ) → n < 2 ^ 64 → begins_space more ≡ true → text ≢ spaced_number n ++ more
   no_number_word none n more h b e =
@@ -96,9 +92,6 @@ module _ (text behind : List ℕ) (first : ℕ) (parts : text ≡ first ∷ behi
 pub record IsRead (text numbers rest : List ℕ) : Type 0 where
   pub front : text ≡ all_spaced numbers ++ rest
   pub only : (all : List ℕ) → AllByRecursion (λ n. n < 2 ^ 64) all → text ≡ all_spaced all → (left : List ℕ) × (all ≡ numbers ++ left) × AllByRecursion (λ n. n < 2 ^ 64) left × (rest ≡ all_spaced left)
-
-pub IsRead-start : (text : List ℕ) → IsRead text [] text
-IsRead-start text = record { front = refl; only = λ all fits e. (all, refl, fits, e) }
 
 -- numbers are followed by a space, or by nothing
 spaced_begins : (numbers : List ℕ) → begins_space (all_spaced numbers) ≡ true
@@ -123,13 +116,6 @@ module _ (text numbers rest : List ℕ) (read : IsRead text numbers rest) where
         let number : m ≡ n = same_digits 10 m n (inl refl) fits.0 h (sym same.0) in
         (left, f ∙ ((λ i. numbers ++ number i ∷ left) ∙ sym (append_assoc numbers (n ∷ []) left)), fits.1, same.1)
 
-  -- nothing is left
-  pub IsRead-end : length rest ≡ 0 → text ≡ all_spaced numbers
-  IsRead-end none = read.front ∙ (ap (λ (xs : List ℕ). all_spaced numbers ++ xs) (nil_from rest none) ∙ append-nil (all_spaced numbers)) where
-    nil_from : (xs : List ℕ) → length xs ≡ 0 → xs ≡ []
-    nil_from [] e = refl
-    nil_from (x ∷ xs) e = absurd (omega (arith, e))
-
   -- what is left begins with no number
   pub IsRead-none : length rest ≢ 0 → ((n : ℕ) (more : List ℕ) → n < 2 ^ 64 → begins_space more ≡ true → rest ≢ spaced_number n ++ more)
       → (all : List ℕ) → AllByRecursion (λ n. n < 2 ^ 64) all → text ≢ all_spaced all
@@ -137,13 +123,6 @@ module _ (text numbers rest : List ℕ) (read : IsRead text numbers rest) where
     go : (left : List ℕ) → AllByRecursion (λ n. n < 2 ^ 64) left → rest ≡ all_spaced left → ⊥
     go [] f g = some (ap length g)
     go (m ∷ left) f g = none m (all_spaced left) f.0 (spaced_begins left) g
-
-  -- there are too many
-  pub IsRead-full : length rest ≢ 0 → (all : List ℕ) → length all ≤ length numbers → AllByRecursion (λ n. n < 2 ^ 64) all → text ≢ all_spaced all
-  IsRead-full some all few fits e = let known = read.only all fits e in go known.0 known.1 known.3 where
-    go : (left : List ℕ) → all ≡ numbers ++ left → rest ≡ all_spaced left → ⊥
-    go [] f g = some (ap length g)
-    go (m ∷ left) f g = omega (arith, few, ap length f, length-append numbers (m ∷ left))
 
 -- ---- where the first space is
 

@@ -252,13 +252,6 @@ module _ (xs ys zs a b : List ℕ) (first : words xs ≡ a ∷ words ys) (second
       ∙ sym (ap mem_write (first ∙ ap (λ ws. a ∷ ws) second) ∙ mem_write_by_data a b (words zs)
       ∙ behind_two MemWrite (region a) (number b) (only_data (words zs)))
 
--- no name, or no number behind it
-pub vmo_write_of_one : (xs ys a : List ℕ) → words xs ≡ a ∷ words ys → words ys ≡ [] → vmo_write (words xs) ≡ None
-vmo_write_of_one xs ys a first second = ap vmo_write (first ∙ ap (λ ws. a ∷ ws) second)
-
-pub mem_write_of_one : (xs ys a : List ℕ) → words xs ≡ a ∷ words ys → words ys ≡ [] → mem_write (words xs) ≡ None
-mem_write_of_one xs ys a first second = ap mem_write (first ∙ ap (λ ws. a ∷ ws) second)
-
 -- what lines that begin with these words say
 pub vmo_read_line : (line behind : List ℕ) → line ≡ codes "vmo_read" ++ behind → begins_blank behind ≡ true
     → order_in (words line) ≡ of_vmo_range VmoRead (words behind)

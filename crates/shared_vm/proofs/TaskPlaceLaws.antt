@@ -17,10 +17,6 @@ tasks-more bytes more (place ∷ places) within =
     ap (λ (t : Task). t ∷ tasks_at (bytes ++ more) places) first
     ∙ ap (λ (ts : List Task). task_at bytes place ∷ ts) (tasks-more bytes more places (All-tail (LiesWithin (length bytes)) place places within))
 
-within-more : (bytes more : List ℕ) (places : List Place) → AreWithin bytes places → AreWithin (bytes ++ more) places
-within-more bytes more places within =
-    All-weaker (LiesWithin (length bytes)) (LiesWithin (length (bytes ++ more))) (λ place here. LiesWithin-more bytes more place here) places within
-
 -- a line whose place could not be kept
 module _ (old new line : List ℕ) (places after : List Place) (within : AreWithin old places) (is_new : new ≡ old ++ line) (same : after ≡ places) where
   pub tasks_kept : tasks_at new after ≡ tasks_at old places

@@ -1,7 +1,6 @@
 -- Laws for code that keeps a content, names, backings and links, and no text: what its changes are of the state that it stands for.
-use Rattle.std.proofs.Common.{◌≡◌, ◌≢◌, ℕ, inl, inr, ◌&&◌, not, nat_lt, Bool, true, false, cond, List, [], ◌∷◌, map, Option, None, Some, refl, sym, ap, ◌∙◌}
+use Rattle.std.proofs.Common.{◌≡◌, ◌≢◌, ℕ, inl, inr, ◌&&◌, not, nat_lt, Bool, true, cond, Option, None, Some, refl, sym, ap, ◌∙◌}
 use Rattle.std.specs.Prelude.{IsSome, is_some}
-use Rattle.std.specs.List.{filter}
 use Rattle.std.proofs.lemmas.Bool.{cases_eq, and_parts}
 use Rattle.vm_base.specs.Entries.{without_key, passes}
 use Rattle.vm_base.proofs.EntryLaws.{some_same, passes_found, without_key-same, without_key-other}
@@ -12,7 +11,7 @@ use Rattle.source_model.specs.declared.backing.Backing.{Backing}
 use Rattle.source_model.specs.declared.link.Link.{Link}
 use Rattle.source_model.specs.Links.{page_below, read_end}
 use Rattle.vm_model.specs.Contents.Owning.{VmoPage}
-use Rattle.source_model.specs.State.{SourceState, state_over, is_absent, wanted}
+use Rattle.source_model.specs.State.{SourceState, state_over, is_absent}
 use Rattle.source_model.specs.Living.{IsLive, by_name, by_child}
 use Rattle.source_model.specs.Good.{IsGoodSources}
 use Rattle.source_model.proofs.WalkLaws.{end_over-none, ends_apart}
@@ -28,19 +27,6 @@ end-unlinked c link v p e = end_over-none v (page_below c link) (record { koid =
 
 abbrev own_page : ℕ → ℕ → VmoPage
 own_page v p = record { koid = v; page = p }
-
-either_list : (test : Bool) (v p : ℕ) (ps : List ℕ) → cond {A = List VmoPage} test (own_page v p ∷ map (own_page v) ps) (map (own_page v) ps) ≡ map (own_page v) (cond {A = List ℕ} test (p ∷ ps) ps)
-either_list true v p ps = refl
-either_list false v p ps = refl
-
--- so what a read of such a VMO wants are its own absent pages
-pub wanted-unlinked : (s : SourceState) (v : ℕ) (ps : List ℕ) → s.link v ≡ None → wanted s v ps ≡ map (own_page v) (filter (is_absent s.content (s.backing v) v) ps)
-wanted-unlinked s v [] e = refl
-wanted-unlinked s v (p ∷ ps) e =
-    let test = λ (at : VmoPage). is_absent s.content (s.backing at.koid) at.koid at.page in
-    ap (λ (at : VmoPage). cond {A = List VmoPage} (test at) (at ∷ wanted s v ps) (wanted s v ps)) (end-unlinked s.content s.link v p e)
-    ∙ (ap (λ (ys : List VmoPage). cond {A = List VmoPage} (is_absent s.content (s.backing v) v p) (own_page v p ∷ ys) ys) (wanted-unlinked s v ps e)
-    ∙ either_list (is_absent s.content (s.backing v) v p) v p (filter (is_absent s.content (s.backing v) v) ps))
 
 -- an absent page is one of a VMO that is not loose
 pub absent-unlinked : (s : SourceState) (k q : ℕ) → ((b : Backing) → s.backing k ≡ Some b → s.link k ≡ None) → is_absent s.content (s.backing k) k q ≡ true → s.link k ≡ None

@@ -262,9 +262,6 @@ listed_never frames checker tells line r is filled phase found off begins =
     let next = listing_never frames _ _ checker.pending.items (reply_for checker.listed) checker.count tells (Answered line) (in_phase frames checker tells Listing is filled phase).1 begins in
     both_ways r off (found (next.2 ∙ ap (λ (l : List ℕ). Some l) (sym (answered_same next.1))))
 
-pub listed_left : (frames : ℕ) (checker : Checker) (tells : List Told) → IsAt frames checker tells → checker.filled ≡ true → checker.phase ≡ Listing → checker.count < length (reply_lines (reply_for checker.listed))
-listed_left frames checker tells is filled phase = (in_phase frames checker tells Listing is filled phase).1.left
-
 pub listed_ends : (frames : ℕ) (checker : Checker) (rooms : Rooms) (tells : List Told) (line : List ℕ) (lines : ℕ) → IsAt frames checker tells → checker.filled ≡ true → checker.phase ≡ Listing
     → slice_get (reply_lines (reply_for checker.listed)) checker.count ≡ Some line → lines ≡ length (reply_lines (reply_for checker.listed)) → checker.count + 1 ≡ lines
     → IsAt frames (record checker { phase = Idle; count = checker.count + 1; rooms = rooms }) (tells ++ Answered line ∷ [])

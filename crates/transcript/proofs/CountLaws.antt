@@ -108,17 +108,6 @@ long_told line h = cond-true (ltb LINE_BYTES (length line)) None (told_by line) 
 
 -- ---- the report
 
-pub bad_report : (frames : ℕ) (check : Check) (lines : List (List ℕ)) (report : Report) → check.bad ≡ Some report → IsChecked frames check lines → IsReport frames lines report
-bad_report frames check lines report e checked = go report (subst (λ (bad : Option Report). HasFound bad frames check lines) e checked.found) where
-  go : (r : Report) → HasFound (Some r) frames check lines → IsReport frames lines r
-  go (Legal n) found = absurd found
-  go (Illegal k) found = inl found
-  go (Malformed k) found = found
-
-pub legal_report : (frames : ℕ) (check : Check) (lines : List (List ℕ)) → check.bad ≡ None → IsChecked frames check lines → AreWhole frames lines → IsReport frames lines (Legal check.asked)
-legal_report frames check lines e checked whole =
-    let found : HasFound None frames check lines = subst (λ (bad : Option Report). HasFound bad frames check lines) e checked.found in (whole, found.1)
-
 pub missing_report : (frames : ℕ) (check : Check) (lines : List (List ℕ)) → check.bad ≡ None → IsChecked frames check lines → (AreWhole frames lines → ⊥) → IsReport frames lines (Illegal (check.lines + 1))
 missing_report frames check lines e checked part =
     let read = read_so frames check lines checked e in

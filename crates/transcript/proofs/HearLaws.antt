@@ -274,9 +274,6 @@ one_line reply line count e n one = go (reply_first reply).0 (reply_first reply)
 pub first_told : (reply : Reply) (line : List ℕ) → slice_get (reply_lines reply) 0 ≡ Some line → first_line reply ≡ line
 first_told reply line e = some_same (sym (first_at reply) ∙ e)
 
-pub first_untold : (reply : Reply) (line : List ℕ) → (slice_get (reply_lines reply) 0 ≡ Some line → ⊥) → first_line reply ≢ line
-first_untold reply line none e = none (first_at reply ∙ ap (λ (x : List ℕ). Some x) e)
-
 -- runs with more than one line
 pub runs_some : (reply : Reply) (runs : List Run) (count : ℕ) → reply ≡ RunsReply runs → count ≡ length (reply_lines reply) → count ≢ 1 → 1 ≤ length runs
 unfolding reply_lines

@@ -152,14 +152,7 @@ inverse-less told frames f k inverse seen =
 
 -- ---- what is read of a list
 
-pub read_is : (xs : List (Option ℕ)) (i : ℕ) (x o : Option ℕ) → i < length xs → x ≡ get_or xs i x → x ≡ o → number_seen xs i ≡ o
-read_is xs i x o h e f = sym (get_or_read xs i x h e None) ∙ f
-
 -- ---- lists of unlike lengths
-
-pub may_tell-none : (bound : ℕ) (numbers : ℕ → Option ℕ) (told : List ℕ) → (length told == 0) ≡ may_tell bound numbers [] told
-may_tell-none bound numbers [] = refl
-may_tell-none bound numbers (k ∷ told) = eqb_apart (length (k ∷ told)) 0 (λ e. omega (arith, e))
 
 pub may_of : (value told : List (Option ℕ)) (f k : ℕ) → told ≡ value → may_have (length value) (number_seen value) (number_seen value f) k ≡ true → may_have (length told) (number_seen told) (number_seen told f) k ≡ true
 may_of value told f k e may = subst (λ (xs : List (Option ℕ)). may_have (length xs) (number_seen xs) (number_seen xs f) k ≡ true) (sym e) may

@@ -129,32 +129,9 @@ frees_none m call freed none = tt
 pub frees_pin : (m : Machine) (call : Call) (pin : PinName) (freed : List ℕ) → call ≡ Call.VmoUnpin pin → HasFrames m pin.0 freed → Frees m (command_of call) freed
 frees_pin m call pin freed e frames = subst (λ (c : Call). Frees m (command_of c) freed) (sym e) frames
 
--- a frame more that was found
-any_more : (test : ℕ → Bool) (xs : List ℕ) (x : ℕ) → list_any test xs ≡ true → list_any test (xs ++ x ∷ []) ≡ true
-any_more test [] x e = absurd cc
-any_more test (y ∷ xs) x e = elim (cases_Bool (test y)) [
-  | inl here ↦ ap (λ (b : Bool). b || list_any test (xs ++ x ∷ [])) here
-  | inr other ↦ ap (λ (b : Bool). b || list_any test (xs ++ x ∷ [])) other ∙ any_more test xs x (sym (ap (λ (b : Bool). b || list_any test xs) other) ∙ e)
-]
-
-any_last : (test : ℕ → Bool) (xs : List ℕ) (x : ℕ) → test x ≡ true → list_any test (xs ++ x ∷ []) ≡ true
-any_last test [] x e = ap (λ (b : Bool). b || false) e
-any_last test (y ∷ xs) x e = elim (cases_Bool (test y)) [
-  | inl here ↦ ap (λ (b : Bool). b || list_any test (xs ++ x ∷ [])) here
-  | inr other ↦ ap (λ (b : Bool). b || list_any test (xs ++ x ∷ [])) other ∙ any_last test xs x e
-]
-
 -- the frames of the first pages were found
 abbrev pub HasFirst : Machine → ℕ → ℕ → List ℕ → Type 0
 HasFirst m pin count frames = (at frame : ℕ) → at < count → pinned_frame m.state (m.state.pins pin) at ≡ Some frame → list_any (λ x. x == frame) frames ≡ true
-
-pub first_more : (m : Machine) (pin count frame : ℕ) (frames : List ℕ) → HasFirst m pin count frames → pinned_frame m.state (m.state.pins pin) count ≡ Some frame → HasFirst m pin (count + 1) (frames ++ frame ∷ [])
-first_more m pin count frame frames has e = λ at found h f. elim (cases_eq at count) [
-  | inl same ↦
-      let is : frame ≡ found = some_same (sym e ∙ (ap (pinned_frame m.state (m.state.pins pin)) (sym same) ∙ f)) in
-      any_last (λ x. x == found) frames frame (ap (λ (n : ℕ). n == found) is ∙ eqb_same found)
-  | inr apart ↦ any_more (λ x. x == found) frames frame (has at found (omega (arith, h, apart)) f)
-]
 
 pub first_all : (m : Machine) (pin count : ℕ) (frames : List ℕ) → HasFirst m pin count frames → IsGoodMachine m → pinned_frame m.state (m.state.pins pin) count ≡ None → HasFrames m pin frames
 first_all m pin count frames has good e = λ at found f. elim (cases_lt at count) [
@@ -168,9 +145,6 @@ first_full m pin count frames has good h = first_all m pin count frames has good
 -- nothing was forgotten
 pub cleared_none : (m : Machine) (was : ℕ → Option ℕ) → IsCleared m was was []
 cleared_none m was = record { sub = λ t k e. e; kept = λ t h. refl; gone = tt }
-
-pub cleared_kept : (m : Machine) (was : ℕ → Option ℕ) (frame : ℕ) → HasPinnedFrame m frame → IsCleared m was was (frame ∷ [])
-cleared_kept m was frame pinned = record { sub = λ t k e. e; kept = λ t h. refl; gone = (λ k e. pinned, tt) }
 
 pub cleared_gone : (m : Machine) (was later : ℕ → Option ℕ) (frame : ℕ) → (HasPinnedFrame m frame → ⊥) → later ≡ without_key was frame → IsCleared m was later (frame ∷ [])
 cleared_gone m was later frame none e = record {

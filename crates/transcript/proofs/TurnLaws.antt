@@ -28,9 +28,6 @@ asked_same e = cc
 pub answered_same : {a b : List ℕ} → ◌≡◌ {A = Told} (Answered a) (Answered b) → a ≡ b
 answered_same e = cc
 
-lines_same : (a b : List ℕ) (xs ys : List (List ℕ)) → ◌≡◌ {A = List (List ℕ)} (a ∷ xs) (b ∷ ys) → (a ≡ b) × (xs ≡ ys)
-lines_same a b xs ys e = (cc, cc)
-
 -- turns begin with a line of the script
 turns_asked : (turns : List Turn) (line : List ℕ) (rest : List Told) → turns_told turns ≢ Answered line ∷ rest
 turns_asked [] line rest e = absurd cc

@@ -1,11 +1,10 @@
 -- Laws of a text that is pushed piece by piece.
-use Rattle.std.proofs.Common.{◌≡◌, ℕ, ◌≤◌, List, [], ◌++◌, Option, Result, Ok, Err, refl, sym, ap, ◌∙◌, subst, arith, append_assoc, append-nil}
+use Rattle.std.proofs.Common.{◌≡◌, ℕ, List, [], ◌++◌, Option, Result, Ok, Err, refl, sym, ap, ◌∙◌, subst, arith, append_assoc, append-nil}
 use Rattle.std.specs.Io.KnownBytes.{Appends}
 use Rattle.std.proofs.KnownBytes.{Appends-nil, Appends-trans}
 use Rattle.std.proofs.lemmas.List.{length-append}
-use Rattle.script_io.specs.Faults.{HasCause, IsCutOff}
+use Rattle.script_io.specs.Faults.{IsCutOff}
 use Rattle.line_server.specs.Outcome.{SinkTakes}
-use Rattle.line_server.proofs.Beginning.{HasFailed-earlier}
 use Rattle.tree_text.specs.inside.Pushing.{IsPushed}
 
 pub pushed-none : (sink : Option (List ℕ)) (text left : List ℕ) → text ≡ left → IsPushed sink sink text left
@@ -41,10 +40,3 @@ pub pushed-last : {T E : Type 0} (a b c : Option (List ℕ)) (text left : List �
 pushed-last a b c text left (Ok x) p taken =
     pushed-all a c text [] (pushed-more a b c text left left [] p (sym (append-nil left)) taken) refl
 pushed-last a b c text left (Err e) p cut = pushed-cut a b c text left left [] p (sym (append-nil left)) cut
-
--- what caused an error caused it since before
-pub cause-earlier : {T E : Type 0} (a b c : ℕ) (result : Result T E) → a ≤ b → HasCause b c result → HasCause a c result
-cause-earlier a b c (Ok x) before cause = let later = cause.later in record { later = omega arith; failed = tt }
-cause-earlier a b c (Err e) before cause =
-    let later = cause.later in
-    record { later = omega arith; failed = HasFailed-earlier a b c before cause.failed }

@@ -54,7 +54,3 @@ module _ (rows : ℕ → Option Slot) where
   -- no row comes any more
   pub rows-end : (from : ℕ) → IsNext rows from None → rows_text rows (2 ^ 64 - from) from ≡ []
   rows-end from next = rows-none (2 ^ 64 - from) from (next.none refl)
-
-  -- the row that was found
-  pub row-there : {P : Type 0} (from p : ℕ) → IsNext rows from (Some p) → rows p ≡ None → P
-  row-there from p next none = let some = (next.least p refl).1 in absurd cc

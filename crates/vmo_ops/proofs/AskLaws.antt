@@ -23,7 +23,6 @@ use Rattle.vm_model.specs.Naming.Names.{Lineage}
 use Rattle.vm_model.specs.Naming.Pins.{Pin, is_pinned}
 use Rattle.vm_model.specs.Machine.Refusals.{refusals}
 use Rattle.vm_model.proofs.NamesLaws.{target_of-at, lineage_of-at}
-use Rattle.vm_model.proofs.StepLaws.{AllOff, AllOff-from_none}
 use Rattle.vmo_ops.specs.inside.Copies.{copies_of, IsSeenPart}
 use Rattle.vmo_ops.specs.declared.snapshots.SeenPart.{SeenPart}
 use Rattle.vm_model.specs.declared.command.Command.{Command}
@@ -31,7 +30,7 @@ use Rattle.vm_model.specs.declared.reply.Reply.TheVariants.{Refused}
 use Rattle.vm_model.specs.Machine.Step.{Step, StepAfter}
 use Rattle.vmo_ops.specs.Targets.{IsBarred}
 use Rattle.vmo_ops.proofs.CopyRows.{IsAsked, rows-are, copies-all}
-use Rattle.std.proofs.lemmas.Bool.{and_parts, eqb-true, not-false, lt-ltb, le-ltb}
+use Rattle.std.proofs.lemmas.Bool.{and_parts, eqb-true, lt-ltb, le-ltb}
 
 -- a row whose condition holds is first, and one whose condition does not hold is passed over
 pub hit : (a : Bool) (r : Refusal) (rest : Option Refusal) → a ≡ true → Some r ≡ cond a (Some r) rest
@@ -171,15 +170,6 @@ snapshot_rows s name parent t offset size resizable no_write first seen asks b e
     ap (λ (x : Bool). cond x (Some NoMemory) None) (e ∙ ap (λ (ps : List ℕ). nat_lt s.content.frames (used s.content + length ps)) (copies-all asks)) ∙ sym (rows-are asks)
 
 -- ---- what holds where nothing refuses
-
--- where nothing refuses a command by a name, the name is open
-pub open_name : (s : State) (name : ℕ) (rows : List (Bool × Refusal)) → first_of ((not (is_open s name), BadHandle) ∷ rows) ≡ None → is_open s name ≡ true
-open_name s name rows none = not-false (is_open s name) (AllOff-from_none ((not (is_open s name), BadHandle) ∷ rows) none).0
-
--- and no condition of the rows behind holds
-pub rows_off_at : (s : State) (name : ℕ) (target : Target) → s.names name ≡ Some target → (rows : Target → List (Bool × Refusal))
-    → first_of ((not (is_open s name), BadHandle) ∷ rows (target_of s name)) ≡ None → AllOff (rows target)
-rows_off_at s name target named rows none = AllOff-from_none (rows target) (by_name s name target named rows (first_of (rows target)) refl ∙ none)
 
 -- ---- a snapshot that is asked for, by what it was found to see
 

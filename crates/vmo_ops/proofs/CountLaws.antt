@@ -1,8 +1,7 @@
 -- Counting the pages in a row that pass a test, from one held page to the next, where no zero page passes.
 use Rattle.std.proofs.Common.{◌≡◌, ℕ, ◌+◌, ◌-◌, ◌<◌, ◌≤◌, Bool, cond, None, arith}
 use Rattle.std.specs.Prelude.{IsSome}
-use Rattle.vm_base.proofs.EntryLaws.{some_is}
-use Rattle.vm_model.specs.Contents.Content.{Content, pages_of, IsGood}
+use Rattle.vm_model.specs.Contents.Content.{Content}
 use Rattle.vm_model.proofs.ContentLaws.{IsOfHeld}
 use Rattle.vm_model.proofs.OwningLaws.{count_from}
 use Rattle.vmo_ops.proofs.ModelLaws.{count_from-split, count_from-none, count_from-next}
@@ -11,10 +10,6 @@ use Rattle.vmo_ops.proofs.ModelLaws.{count_from-split, count_from-none, count_fr
 abbrev pub IsNextHeld : Content → ℕ → ℕ → ℕ → ℕ → Type 0
 IsNextHeld c v from end page =
     (from ≤ page) × (page < end) × IsSome (c.page v page) × ((p : ℕ) → from ≤ p → p < page → c.page v p ≡ None)
-
--- a held page lies below the count
-pub held_below : (c : Content) (v p : ℕ) → IsGood c → IsSome (c.page v p) → p < pages_of c v
-held_below = grind (arith, some_is)
 
 module _ (c : Content) (v : ℕ) (test : ℕ → Bool) (of : IsOfHeld c v test) (from end : ℕ) where
   -- the next held page counts first

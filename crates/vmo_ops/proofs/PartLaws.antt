@@ -1,13 +1,11 @@
 -- Laws of the part of a range of bytes that falls into a page: what a write and a fill put there, and what is read
 -- there.
-use Rattle.std.proofs.Common.{◌≡◌, ℕ, ◌+◌, ◌-◌, ◌*◌, ◌/◌, ◌%◌, ◌<◌, ◌≤◌, min, ◌==◌, List, ◌++◌, length, replicate, take, drop, sym, ap, ◌∙◌, arith}
+use Rattle.std.proofs.Common.{◌≡◌, ℕ, ◌+◌, ◌-◌, ◌*◌, ◌/◌, ◌%◌, ◌<◌, ◌≤◌, min, List, ◌++◌, length, replicate, take, drop, sym, ap, ◌∙◌, arith}
 use Rattle.std.specs.Prelude.{slice_range}
 use Rattle.std.proofs.lemmas.List.{take_all, take-replicate, drop-replicate, length-replicate}
-use Rattle.std.proofs.lemmas.Bool.Decides.{nat_tests}
 use Rattle.vm_base.specs.declared.limits.TheConstants.{PAGE}
 use Rattle.vm_model.specs.Contents.Content.{Content, shown, IsGood}
 use Rattle.vm_model.specs.Contents.Writing.{part_at, part_bytes, bytes_in}
-use Rattle.vm_model.specs.Contents.Zeroing.{is_whole}
 use Rattle.vmo_ops.proofs.ModelLaws.{slice_range-min, bytes_in-more, bytes_in-nil}
 
 -- a part of equal bytes
@@ -30,10 +28,6 @@ module _ (offset len p from count : ℕ) (start : from ≡ PAGE * p - offset)
       sym (ap (λ (m : ℕ). replicate m byte) n)
       ∙ (sym (slice_range-replicate len byte from (from + count) (omega (arith, stop)))
       ∙ part_bytes-slice (replicate len byte) (length-replicate len byte))
-
-  -- the page lies wholly in the range where the part is all of it
-  pub is_whole-part : p * PAGE < offset + len → is_whole offset len p ≡ (count == PAGE)
-  is_whole-part = grind (arith, nat_tests)
 
   -- what was read before it, and what the page shows there
   pub bytes_in-part : (c : Content) (v at : ℕ) → IsGood c → at ≡ part_at offset p → at + count ≤ PAGE

@@ -30,11 +30,6 @@ use Rattle.vmotree.specs.inside.Lines.{kind_of, TellsLine}
 -- ---- what a line is
 
 module _ (P : Reading → Type 0) where
-  at_blank : (r : Reading) → kind.Blank ≡ kind_of r → P Blank → P r
-  at_blank Blank e p = p
-  at_blank (Order command) e p = absurd cc
-  at_blank Outside e p = absurd cc
-
   at_outside : (r : Reading) → kind.Outside ≡ kind_of r → P Outside → P r
   at_outside Blank e p = absurd cc
   at_outside (Order command) e p = absurd cc
@@ -46,19 +41,6 @@ module _ (P : Reading → Type 0) where
   at_order Outside e p = absurd cc
 
 module _ (replies each : Bool) (form : Form) (line : List ℕ) where
-  -- a comment
-  pub answers-blank : {T E : Type 0} (s : Machine) (sink : Option (List ℕ)) (x : T) → kind.Blank ≡ kind_of (reading line) →
-      AnswersLine {T = T} {E = E} (drawing_rules replies each form) line s s sink sink (Ok x)
-  answers-blank s sink x e = record {
-    text = [];
-    gives = record {
-      told = [];
-      gives = record { answer = at_blank (λ r. GivesAs r s [] s) (reading line) e (refl, refl) };
-      writes = at_blank (λ r. WritesAs replies each form r s [] []) (reading line) e refl;
-    };
-    written = Appends-nil sink;
-  }
-
   -- a line outside the grammar
   pub answers-outside : {T E : Type 0} (s : Machine) (sink_old sink_new : Option (List ℕ)) (result : Result T E) → kind.Outside ≡ kind_of (reading line) →
       OnOk result (Appends sink_old sink_new syntax_text) → OnErr result (IsCutOff sink_old sink_new syntax_text) →
@@ -72,15 +54,6 @@ module _ (replies each : Bool) (form : Form) (line : List ℕ) where
     };
     written = written_or_cut result sink_old sink_new syntax_text ok err;
   }
-
-  -- what a line was told
-  pub tells-heard : {T E : Type 0} (old new : Machine) (sink_old sink_new : Option (List ℕ)) (result : Result T E) →
-      AnswersLine plain line old new sink_old sink_new result → TellsLine true line old new sink_old sink_new result
-  tells-heard old new sink_old sink_new result answer = record { told = answer.text; gives = answer.gives; written = answer.written }
-
-  pub tells-unheard : {T E U F : Type 0} (old new : Machine) (other_old other_new sink : Option (List ℕ)) (other : Result U F) (x : T) →
-      AnswersLine plain line old new other_old other_new other → TellsLine {T = T} {E = E} false line old new sink sink (Ok x)
-  tells-unheard old new other_old other_new sink other x answer = record { told = answer.text; gives = answer.gives; written = Appends-nil sink }
 
   module _ (old new : Machine) (f : Forest) (s : IsStore f) (same : forest_content f ≡ new.state.content) (order : kind_of (reading line) ≡ kind.Order) where
     abbrev drawing : List ℕ
