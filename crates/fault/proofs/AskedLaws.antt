@@ -15,7 +15,7 @@ use Rattle.vm_model.specs.Machine.Access.{refusal_at, access_refusal, page_shown
 use Rattle.vm_model.specs.Machine.Refusals.{read_refusals, write_refusals, first_of}
 use Rattle.fault.specs.declared.writable.WritablePage.{WritablePage}
 use Rattle.fault.specs.Table.{Places, ready_of}
-use Rattle.fault.specs.Access.{IsDenied}
+use Rattle.ready_pages.specs.Access.{IsDenied}
 use Rattle.fault.specs.inside.Needing.{LacksRoomToWrite}
 use Rattle.fault.specs.inside.Writable.{IsWritable, fault_of}
 use Rattle.fault.proofs.CheckLaws.{access_refusal-here, access_refusal-behind, access_refusal-nil}

@@ -20,3 +20,6 @@ pub mod AskedLaws
 pub mod OutcomeLaws
 pub mod ThroughLaws
 pub mod BothLaws
+pub mod SharedLaws
+pub mod FitLaws
+pub mod ReadyLaws

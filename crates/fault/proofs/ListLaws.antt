@@ -286,9 +286,6 @@ module _ (shown : ℕ → Option Shown) (previous next : ℕ → Option ℕ) (li
       first-apart : f ≢ x
       first-apart = shown-there f a shows
 
-      next-there : (z : ℕ) → next f ≡ Some z → z ≢ x
-      next-there z e = was-there z (h.there z f (h.behind f z e))
-
       was-shown : (z : ℕ) → z ≢ x → IsSome (more z) → IsSome (shown z)
       was-shown z apart some = ap {B = Bool} is_some (sym (shown_other z apart)) ∙ some
 

@@ -7,10 +7,6 @@ use Rattle.vm_model.proofs.ContentLaws.{page-hold_here}
 use Rattle.vm_model.proofs.OwningLaws.{Owned}
 use Rattle.page_store.specs.Pages.{Overwrites}
 
--- the page has that frame
-pub frame_at-owned : (old new : Content) (v p tag : ℕ) → Owned old new v p tag → frame_at new v p ≡ Some tag
-frame_at-owned old new v p tag owned = ap (option_map (λ (held : Page). held.tag)) owned.held
-
 -- also once its bytes were overwritten
 pub frame_at-overwritten : (old mid new : Content) (v p tag at : ℕ) (bytes : List ℕ) → Owned old mid v p tag → Overwrites mid new tag at bytes
     → frame_at new v p ≡ Some tag

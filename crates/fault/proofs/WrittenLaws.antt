@@ -2,7 +2,6 @@
 -- what the writing of one page leaves ready.
 use Rattle.std.proofs.Common.{◌≡◌, ◌≢◌, ℕ, ◌+◌, ◌<◌, ◌≤◌, Bool, true, false, not, cond, ◌&&◌, List, length, Option, None, Some, refl, sym, ap, subst, ◌∙◌, inl, inr, arith}
 use Rattle.std.specs.Prelude.{is_some}
-use Rattle.std.specs.Option.{option_map}
 use Rattle.std.specs.Cmp.{both_ways}
 use Rattle.std.proofs.lemmas.Bool.{cases_Bool, lt-ltb, not-false}
 use Rattle.std.proofs.lemmas.Bool.Decides.{nat_tests}
@@ -22,9 +21,10 @@ use Rattle.vm_model.proofs.OwningLaws.{Owned, Owned-from_Owns}
 use Rattle.vm_model.proofs.WritingLaws.{Written, Written-from_WritesPiece, WritesPiece-keeps}
 use Rattle.vm_model.proofs.AccessLaws.{frame_at-other, frame_at-sole}
 use Rattle.vm_model.proofs.ReadinessLaws.{keeps_frame-from, keeps_frame-parts, settled-same, settled-kept, settled-some, with_ready-same, with_ready-other}
+use Rattle.ready_pages.proofs.SettledLaws.{settled-none}
 use Rattle.fault.specs.declared.translation.Translation.{Translation}
 use Rattle.fault.specs.declared.writable.WritablePage.{WritablePage}
-use Rattle.fault.specs.Table.{Places, AreTrue, ready_of, translations_without, is_outdated}
+use Rattle.fault.specs.Table.{Places, AreTrue, readiness_of, ready_of, translations_without, is_outdated}
 use Rattle.fault.specs.inside.Writable.{IsSoleWith, IsWritable, WritesTo}
 use Rattle.page_store.proofs.PartLaws.{WritesPiece-from_parts}
 use Rattle.fault.proofs.OwnedLaws.{frame_at-overwritten}
@@ -43,17 +43,9 @@ shows_other = grind (arith, nat_tests)
 pub ready_of-some : (places : Places) (r s : ℕ) (readiness : Readiness) → ready_of places r s ≡ Some readiness
     → (x : Translation) × (places r s ≡ Some x) × (x.readiness ≡ readiness)
 ready_of-some places r s readiness e = go (places r s) e where
-  go : (o : Option Translation) → option_map (λ (x : Translation). x.readiness) o ≡ Some readiness → (x : Translation) × (o ≡ Some x) × (x.readiness ≡ readiness)
+  go : (o : Option Translation) → readiness_of o ≡ Some readiness → (x : Translation) × (o ≡ Some x) × (x.readiness ≡ readiness)
   go None f = absurd cc
   go (Some x) f = (x, refl, cc)
-
--- what is ready for nothing stays so
-settled-none : (old new : Content) (table : ℕ → ℕ → Option Entry) (ready : Ready) (r s : ℕ) → ready r s ≡ None → settled old new table ready r s ≡ None
-unfolding settled
-settled-none old new table ready r s none = rw none (go (passes (keeps_frame old new) (table r s))) where
-  go : (b : Bool) → ◌≡◌ {A = Option Readiness} (cond b None None) None
-  go true = refl
-  go false = refl
 
 -- a page that lies in its VMO keeps its frame where it has the same
 keeps_frame-below : (old new : Content) (entry : Entry) → entry.page < pages_of new entry.koid.0
@@ -246,7 +238,7 @@ module _ (c : Content) (table : ℕ → ℕ → Option Entry) (old : Places) (ro
   absent-other q apart none =
       let now : ready_of new root q ≡ settled c d table (ready_of old) root q =
       ap (λ (ready : Ready). ready root q) ready-written ∙ with_ready-other (settled c d table (ready_of old)) root p Write root q (λ _ here. apart here) in
-      go (new root q) refl (now ∙ settled-none c d table (ready_of old) root q (ap (option_map (λ (x : Translation). x.readiness)) none)) where
+      go (new root q) refl (now ∙ settled-none c d table (ready_of old) root q (ap readiness_of none)) where
         go : (o : Option Translation) → new root q ≡ o → ready_of new root q ≡ None → o ≡ None
         go None e unready = refl
         go (Some x) e unready = absurd (let some : ◌≡◌ {A = Option Readiness} (Some x.readiness) None = rw e at unready in cc)

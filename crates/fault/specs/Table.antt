@@ -3,6 +3,7 @@ use Rattle.std.specs.Prelude.{◌≡◌, ℕ, ◌+◌, ◌<◌, Bool, true, not,
 use Rattle.std.specs.Option.{option_map}
 use Rattle.vm_base.specs.Entries.{passes}
 use Rattle.vm_model.specs.declared.space.Entry.{Entry}
+use Rattle.vm_model.specs.declared.space.Readiness.{Readiness}
 use Rattle.vm_model.specs.declared.space.Readiness.TheVariants.{Read, Write}
 use Rattle.vm_model.specs.Contents.Content.{Content, sole, pages_of}
 use Rattle.vm_model.specs.Contents.Zeroing.{is_within}
@@ -49,9 +50,13 @@ first_links_of t = link_numbers t.lists
 abbrev pub room_of : Table → ℕ
 room_of t = t.room
 
+-- what a page is ready for by its translation, if it has one
+abbrev pub readiness_of : Option Translation → Option Readiness
+readiness_of place = option_map (λ (x : Translation). x.readiness) place
+
 -- what each page is ready for by its translation
 abbrev pub ready_of : Places → Ready
-ready_of places root p = option_map (λ (x : Translation). x.readiness) (places root p)
+ready_of places root p = readiness_of (places root p)
 
 -- the number of the frame that a translation holds
 abbrev pub translated_frame : Translation → Option ℕ

@@ -6,3 +6,4 @@ pub mod Touching
 pub mod Writable
 pub mod Needing
 pub mod Both
+pub mod Left

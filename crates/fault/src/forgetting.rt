@@ -3,14 +3,18 @@
 ghost use Rattle.std.specs.Prelude.{◌≡◌, ◌+◌, ◌≤◌, Some, IsSome};
 ghost use Rattle.vm_base.specs.declared.limits.TheConstants.{PAGES_END};
 ghost use Rattle.vm_model.specs.Contents.Content.{pages_of};
+ghost use Rattle.vm_model.specs.Naming.Pins.{is_pinned};
+ghost use Rattle.pin_table.specs.Table.{pins_of};
 ghost use Rattle.fault.specs.Table.{translations_of, first_links_of, room_of, translations_without, is_translation_of, is_stale, is_outdated, is_at, with_read_only};
 ghost use Rattle.vm_model.specs.Space.Readiness.{frame_number};
 ghost use Rattle.fault.specs.inside.Walks.{HasFrame, changed_where, change_by, dropped};
+ghost use Rattle.fault.specs.inside.Left.{with_read_only_but, IsFirstBelow};
 
 use crate::frames::{frame_of, have_same_frame};
 use crate::translation::{Change, FrameList};
 use crate::translations::Translations;
 use page_store::PageStore;
+use pin_table::PinTable;
 use vm_base::{Koid, PageNo, RegionName, Tag};
 
 impl Translations {
@@ -113,6 +117,21 @@ impl Translations {
         self.change_pages(v, first, count, Change::Restrict);
     }
 
+    /// Leaves the translations of pages of a VMO from `first` to below `end` for reading alone, except those of pinned
+    /// pages. It goes by one gap between pinned pages after another.
+    pub(crate) fn make_readonly_but(&mut self, pins: &PinTable, v: Koid, first: PageNo, end: PageNo)
+        requires order { first ≤ end }
+        requires range { end ≤ PAGES_END }
+        ensures { translations_of self.new ≡ with_read_only_but (is_pinned (pins_of pins.now) v.0) v.0 first end (translations_of self.old) }
+    {
+        let mut from = first;
+        while let Some(pinned) = next_pinned_below(pins, v, from, end) {
+            self.make_readonly(v, from, pinned - from);
+            from = pinned + 1;
+        }
+        self.make_readonly(v, from, end - from);
+    }
+
     // Changes the translations of `count` pages of a VMO from the page `first` on.
     fn change_pages(&mut self, v: Koid, first: PageNo, count: u64, change: Change)
         requires range { first + count ≤ PAGES_END }
@@ -127,4 +146,17 @@ impl Translations {
             from = page + 1;
         }
     }
+}
+
+// The first pinned page of a VMO from `from` to below `end`. `None` if and only if none is.
+fn next_pinned_below(pins: &PinTable, v: Koid, from: PageNo, end: PageNo) -> Option<PageNo>
+    ensures { IsFirstBelow (is_pinned (pins_of pins.now) v.0) from end result }
+{
+    let Some(page) = pins.next_pinned(v, from) else {
+        return None;
+    };
+    if page >= end {
+        return None;
+    }
+    Some(page)
 }

@@ -3,13 +3,15 @@
 //!
 //! A translation is what the page tables of the processor have of a page: the frame of the page of the VMO that it
 //! shows, and whether it may be written. An access to a page with a translation takes no page fault. It asks no other
-//! table, and asks the store for the bytes of the frame alone. The layer above forgets the translations that a command
-//! made untrue (`forget_changed`, `forget`, `forget_at`, `make_readonly`). These calls find translations by the page of
-//! the VMO that they show, or by their own page, and never go over a range page by page. All translations of a page of
-//! a VMO are the links of a list and hold one frame, so one look tells whether all of them are forgotten or none.
+//! table, and asks the store for the bytes of the frame alone. The layer above says what a command changed (`ReadyPages`),
+//! and the translations that this made untrue are forgotten (`forget_changed`, `forget`, `forget_at`, `make_readonly`).
+//! These calls find translations by the page of the VMO that they show, or by their own page, and never go over a range
+//! page by page. All translations of a page of a VMO are the links of a list and hold one frame, so one look tells whether
+//! all of them are forgotten or none.
 //!
-//! It stands on `page_store` and `mapping_set`, whose entries it translates, and on `pair_map` and `slab` for its tables. It
-//! speaks the words of `vm_model` on accesses and readiness.
+//! It stands on `ready_pages`, whose traits `Translations` implements, on `page_store`, on `pin_table`, and on `mapping_set`,
+//! whose entries it translates. Its tables are of `pair_map` and `slab`. It speaks the words of `vm_model` on accesses and
+//! readiness.
 #![tactic(auto)]
 
 mod checking;
@@ -19,6 +21,7 @@ mod lists;
 mod needing;
 mod page_map;
 mod reading;
+mod ready;
 mod sending;
 mod translation;
 mod translations;

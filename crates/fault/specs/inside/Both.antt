@@ -9,7 +9,7 @@ use Rattle.vm_model.specs.Machine.Refusals.{write_refusals}
 use Rattle.vm_model.specs.Space.Rights.{writing}
 use Rattle.fault.specs.declared.writable.WritablePage.{WritablePage}
 use Rattle.fault.specs.Table.{Places, AreTrue}
-use Rattle.fault.specs.Access.{IsDenied}
+use Rattle.ready_pages.specs.Access.{IsDenied}
 use Rattle.fault.specs.inside.Writable.{IsWritable}
 
 -- what a check for writing finds of page p, which may be written

@@ -1,0 +1,43 @@
+use Rattle.std.proofs.Common.{◌+◌, ◌-◌, ◌≡◌, refl, ap, ◌∙◌, ℕ, arith}
+use Rattle.fault.specs.Table.{translations_of, with_read_only}
+use Rattle.fault.proofs.SharedLaws.{gaps-start, gaps-next, gaps-end}
+use Rattle.fault.proofs.translations.Translations.make_readonly_but.Goals as goal
+
+pub loop-pinned-init : goal.loop-pinned-init
+loop-pinned-init c = record { first = omega arith; bound = omega arith; left = gaps-start _ _ _ _ }
+
+pub loop-pinned-preserved : goal.loop-pinned-preserved
+loop-pinned-preserved c =
+    let inv = c.loop-pinned.invariant in
+    let next = c.in-Some.ensures.least c.in-Some.pinned refl in
+    record {
+      first = omega (arith, inv.first, next.0);
+      bound = omega (arith, next.1);
+      left = gaps-next _ _ _ _ _ _ inv.first c.in-Some.ensures _ _ _ inv.left c.make_readonly.ensures.at;
+    }
+
+pub returns : goal.returns
+returns c =
+    let inv = c.loop-pinned.invariant in
+    let e : c.loop-pinned.from + (c.args.end - c.loop-pinned.from) ≡ c.args.end = omega (arith, inv.bound) in
+    gaps-end _ _ _ _ _ inv.first inv.bound (c.in_default.ensures.none refl) _ _ _ inv.left
+    (c.make_readonly-2.ensures.at ∙ ap (λ (n : ℕ). with_read_only c.args.v.0 c.loop-pinned.from n (translations_of c.loop-pinned.self)) e)
+
+pub loop-pinned-smaller : goal.loop-pinned-smaller
+loop-pinned-smaller c = let next = c.in-Some.ensures.least c.in-Some.pinned refl in omega (arith, next.0, next.1)
+
+pub overflow_add-from : goal.overflow_add-from
+overflow_add-from c = omega (arith, (c.in-Some.ensures.least c.in-Some.pinned refl).1, c.requires.range)
+
+pub overflow_sub-pinned : goal.overflow_sub-pinned
+overflow_sub-pinned c = omega (arith, (c.in-Some.ensures.least c.in-Some.pinned refl).0)
+
+pub overflow_sub-end : goal.overflow_sub-end
+overflow_sub-end c = omega (arith, c.loop-pinned.invariant.bound)
+
+pub make_readonly-requires : goal.make_readonly-requires
+make_readonly-requires c =
+    let next = c.in-Some.ensures.least c.in-Some.pinned refl in omega (arith, next.0, next.1, c.requires.range)
+
+pub make_readonly-requires-2 : goal.make_readonly-requires-2
+make_readonly-requires-2 c = omega (arith, c.loop-pinned.invariant.bound, c.requires.range)
