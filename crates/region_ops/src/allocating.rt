@@ -81,42 +81,6 @@ pub fn allocate(
     }
 }
 
-/// Does what `allocate` does, in the live region that is asked for, which is `above`. The set of mappings has noted the live children of
-/// each region, and the new one is noted too. A place costs one search, also if there is none. `HostMemory` as with
-/// `allocate`, and also if there is no memory for the note. Nothing is changed then.
-pub fn allocate_noted(
-    regions: &mut Regions,
-    maps: &mut MappingSet,
-    name: RegionName,
-    above: Region,
-    request: AllocateRequest,
-) -> Result<u64, Refusal>
-    requires name { regions_of regions.old name.0 ≡ None }
-    requires above { regions_of regions.old request.parent.0 ≡ Some above }
-    requires live { above.live ≡ true }
-    requires good { AreGoodRegions (regions_of regions.old) }
-    requires noted { AreNoted (regions_of regions.old) (places_of maps.old) }
-    ensures step { (s : State) → Step (with_spaces s (spaces_of (regions_of regions.old) (table_of maps.old)))
-        (Command.VmarAllocate name request.parent request.offset request.len request.flags request.caps)
-        (reply_of (λ address. Reply.Address address) result)
-        (with_spaces s (spaces_of (regions_of regions.new) (table_of maps.new))) }
-    ensures table { table_of maps.new ≡ table_of maps.old }
-    ensures noted { AreNoted (regions_of regions.new) (places_of maps.new) }
-{
-    let searched = SearchedRegion {
-        region: above,
-        noted: true,
-    };
-    let first = match ask_to_allocate(regions, maps, searched, request) {
-        Ok(first) => first,
-        Err(refusal) => return Err(refusal),
-    };
-    match allocate_at(regions, maps, name, above, request, first) {
-        Ok(()) => Ok(first * PAGE),
-        Err(_) => Err(Refusal::HostMemory),
-    }
-}
-
 /// Finds the first page of a place for a region in the live one that is asked for. Refusals as for `allocate`, without
 /// `HostMemory`. Nothing changes.
 pub fn ask_to_allocate(

@@ -5,12 +5,12 @@
 //! It stands on `region_tree` and `mapping_set`, and on `vmo_table` and any `Pages`: each entry keeps its VMO, which
 //! leaves with the last that keeps it. Each call promises that it is the step of its command (`vm_model`), whatever else
 //! the state has. The layer above has looked the names up, so that a call begins with the refusals that rest on regions
-//! and arguments. Of each call there is one that is handed the region that was found: the machines call that one, and the
-//! other is for callers outside. What refuses a command can be asked apart (`ask_to_map` and the like): the answer is the
-//! refusal, or what was found. A region or a mapping can be put at a place that is given (`allocate_at`, `map_at`). So a
-//! machine that is told the place goes by the same code.
+//! and arguments. `unmap`, `protect` and `destroy` have one that is handed the region that was found: the machines call
+//! that one, and the other is for callers outside. What refuses a command can be asked apart (`ask_to_map` and the like):
+//! the answer is the refusal, or what was found. A region or a mapping is put at a place that was found or is given
+//! (`allocate_at`, `map_at`), so a machine that is told the place goes by the same code.
 //!
-//! `allocate_noted`, and a search that is told so (`SearchedRegion`), rest on that the live children of each region are noted
+//! `allocate_at`, and a search that is told so (`SearchedRegion`), rest on that the live children of each region are noted
 //! (`AreNoted` of `region_tree`), and all keep it so.
 #![tactic(auto,
 // where a region and a place in it end
@@ -28,7 +28,7 @@ mod ranges;
 mod rooting;
 mod unmapping;
 
-pub use allocating::{AllocateRequest, allocate, allocate_at, allocate_noted, ask_to_allocate};
+pub use allocating::{AllocateRequest, allocate, allocate_at, ask_to_allocate};
 pub use mapping::{MapRequest, ask_to_map, is_map_place, map, map_at, map_in, piece_at};
 pub use placing::{SearchedRegion, Wanted, ask_for_region, is_place};
 pub use protecting::{ask_to_protect, protect, protect_in};

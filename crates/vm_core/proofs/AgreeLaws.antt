@@ -8,15 +8,12 @@ use Rattle.vm_model.specs.Machine.Machine.{Machine, IsGoodMachine}
 use Rattle.fault.specs.declared.translation.Translation.{Translation}
 use Rattle.fault.specs.Table.{Places, translations_of, ready_of, AreTrue}
 use Rattle.fault.proofs.WrittenLaws.{ready_of-some}
-use Rattle.vm_core.specs.Vm.{Parts, state_of, machine_of, Agrees}
+use Rattle.machine.specs.Machine.{state_of}
+use Rattle.vm_core.specs.Vm.{Parts, machine_of, Agrees}
 
 -- the machine with these translations
 abbrev pub machine_with : State → Places → Machine
 machine_with s places = record { state = s; ready = ready_of places }
-
--- what a page is ready for by its translation, where it has one
-abbrev pub readiness_of : Option Translation → Option Readiness
-readiness_of o = option_map (λ (x : Translation). x.readiness) o
 
 -- a good state with translations that are true of it is a good machine
 pub IsGoodMachine-from : (s : State) (places : Places) → IsGoodState s → AreTrue s.content s.spaces.table places → IsGoodMachine (machine_with s places)
@@ -35,4 +32,4 @@ IsGoodMachine-from s places good true_of = record {
 
 -- so are parts that agree with a store
 pub agrees_good : (c : Content) (vm : Parts) → Agrees c vm → IsGoodMachine (machine_of c vm)
-agrees_good c vm agrees = IsGoodMachine-from (state_of c vm) (translations_of vm.translations) agrees.good agrees.translations
+agrees_good c vm agrees = IsGoodMachine-from (state_of c vm) (translations_of vm.ready) agrees.good agrees.translations

@@ -1,81 +1,25 @@
 -- A machine with no names, pins, regions and translations, over a store without VMOs.
-use Rattle.std.proofs.Common.{◌≡◌, ℕ, ◌≤◌, None, sym, ap, subst, ◌∙◌, ◌==◌, arith}
-use Rattle.std.specs.Prelude.{is_some}
-use Rattle.vm_model.specs.Contents.Content.{Content, nothing, HasNoVmo, IsGood}
+use Rattle.std.proofs.Common.{◌≡◌, ℕ, ◌≤◌, None, sym, ap, subst, ◌∙◌}
+use Rattle.vm_model.specs.Contents.Content.{Content, nothing, HasNoVmo}
 use Rattle.vm_model.specs.Machine.State.{IsGoodState, empty_state}
-use Rattle.vm_base.specs.declared.limits.TheConstants.{NAMES}
-use Rattle.vm_base.proofs.EntryLaws.{entry_count-empty}
-use Rattle.vm_model.specs.Naming.Pins.{Pin}
-use Rattle.vmo_table.specs.Table.{names_of, lineage_in, keepers_of, CountsKeepers}
-use Rattle.pin_table.specs.Table.{pins_of}
-use Rattle.vm_model.specs.Space.AddressSpaces.{no_spaces}
-use Rattle.mapping_set.specs.Tables.{table_of}
-use Rattle.region_tree.specs.Tree.{regions_of}
 use Rattle.vm_model.specs.Machine.Machine.{empty_machine}
+use Rattle.mapping_set.specs.Tables.{table_of}
 use Rattle.fault.specs.Table.{translations_of, ready_of, AreTrue}
-use Rattle.vm_core.specs.Vm.{Parts, spaces_in, bare_state, bare_machine, state_of, machine_of, Agrees}
-use Rattle.vm_model.proofs.SpaceLaws.{AreGoodSpaces-none, mapped_count-none}
+use Rattle.machine.specs.Machine.{bare_state, bare_machine, state_of}
+use Rattle.machine.proofs.StartLaws.{IsGoodState-bare}
+use Rattle.vm_core.specs.Vm.{Parts, machine_of, Agrees}
 
--- tables in which nothing stands
-pub state_of-bare : (c : Content) (vm : Parts) → ((n : ℕ) → names_of vm.vmos n ≡ None)
-    → ((v : ℕ) → lineage_in vm.vmos v ≡ None) → ((n : ℕ) → pins_of vm.pins n ≡ None)
-    → regions_of vm.regions ≡ (λ n. None) → table_of vm.maps ≡ (λ root p. None) → state_of c vm ≡ bare_state c
-unfolding empty_state no_spaces
-state_of-bare c vm names lineage pins regions table = λ i. record (bare_state c) {
-  names = λ n. names n i;
-  lineage = λ v. lineage v i;
-  pins = λ n. pins n i;
-  spaces = record { regions = regions i; table = table i };
-}
-
--- and no page is translated
-pub machine_of-bare : (c : Content) (vm : Parts) → state_of c vm ≡ bare_state c → translations_of vm.translations ≡ (λ root p. None) → machine_of c vm ≡ bare_machine c
+-- parts with no names, pins and regions, in which no page is translated
+pub machine_of-bare : (c : Content) (vm : Parts) → state_of c vm ≡ bare_state c → translations_of vm.ready ≡ (λ root p. None) → machine_of c vm ≡ bare_machine c
 machine_of-bare c vm bare none = λ i. record { state = bare i; ready = ready_of (none i) }
 
--- a content without VMOs and pages is good
-IsGood-none : (c : Content) → HasNoVmo c → 1 ≤ c.next → IsGood c
-IsGood-none c none first = record {
-  koids = λ v n e. let no = none.none v in absurd cc;
-  counts = λ v n e. let no = none.none v in absurd cc;
-  first_koid = first;
-  below = λ v p held e. let no = none.no_page v p in absurd cc;
-  whole = λ v p held e. let no = none.no_page v p in absurd cc;
-  tags = λ v p held e. let no = none.no_page v p in absurd cc;
-  alike = λ v p w q held other e f same. let no = none.no_page v p in absurd cc;
-  apart = λ v p q held other e f same. let no = none.no_page v p in absurd cc;
-}
-
--- the state is good
-IsGoodState-bare : (c : Content) → HasNoVmo c → 1 ≤ c.next → IsGoodState (bare_state c)
-unfolding empty_state
-IsGoodState-bare c none first = record {
-  content = IsGood-none c none first;
-  names = λ n target e. absurd cc;
-  known = λ v. ap is_some (sym (none.none v));
-  live = λ v h. absurd cc;
-  parents = λ v p l e f. absurd cc;
-  pins = λ n pin e. absurd cc;
-  spaces = AreGoodSpaces-none c;
-}
-
 -- the parts agree with the store
-pub agrees_bare : (c : Content) (vm : Parts) → state_of c vm ≡ bare_state c → translations_of vm.translations ≡ (λ root p. None) → HasNoVmo c → 1 ≤ c.next → Agrees c vm
+pub agrees_bare : (c : Content) (vm : Parts) → state_of c vm ≡ bare_state c → translations_of vm.ready ≡ (λ root p. None) → HasNoVmo c → 1 ≤ c.next → Agrees c vm
 agrees_bare c vm bare none no_vmo first = record {
   good = subst IsGoodState (sym bare) (IsGoodState-bare c no_vmo first);
   translations = subst (AreTrue c (table_of vm.maps)) (sym none)
       (record { entry = λ root p x e. absurd cc; frame = λ root p x e. absurd cc; below = λ root p x e. absurd cc; alone = λ root p x e. absurd cc });
 }
-
--- with the first koid to come it is the empty machine
-bare_state-first : (c : Content) → HasNoVmo c → c.next ≡ 1 → bare_state c ≡ empty_state c.frames
-unfolding empty_state nothing
-bare_state-first c none first = λ i. record (bare_state c) {
-  content = record c { next = first i; count = λ v. none.none v i; page = λ v p. none.no_page v p i };
-}
-
-pub bare_machine-first : (c : Content) → HasNoVmo c → c.next ≡ 1 → bare_machine c ≡ empty_machine c.frames
-unfolding empty_machine
-bare_machine-first c none first = λ i. record { state = bare_state-first c none first i; ready = λ root p. None }
 
 -- a store that had nothing, with page frames
 pub machine_of-filled : (frames : ℕ) (new old : Content) (vm : Parts) → ((c : Content) → machine_of c vm ≡ bare_machine c)
@@ -94,11 +38,3 @@ filled_fresh frames new old filled e =
       record { none = λ v. ap (λ (c : Content). c.count v) is; no_page = λ v p. ap (λ (c : Content). c.page v p) is },
       ap (λ (c : Content). c.next) is,
     )
-
--- in a table of VMOs without keepers no pin is counted
-pub counts_none : (vm : Parts) → ((v : ℕ) → keepers_of vm.vmos v ≡ 0) → ((n : ℕ) → pins_of vm.pins n ≡ None)
-    → table_of vm.maps ≡ (λ root p. None) → CountsKeepers vm.vmos (state_of nothing vm)
-counts_none vm none empty table v =
-    let no_pin = entry_count-empty NAMES (λ (pin : Pin). pin.koid == v) (pins_of vm.pins) empty in
-    let no_page = mapped_count-none (spaces_in vm) v table in
-    omega (arith, none v, no_pin, no_page)

@@ -1,2 +1,1 @@
 pub mod Vm
-pub mod inside

@@ -4,31 +4,19 @@ ghost use Rattle.std.specs.Prelude.{◌≡◌, ◌+◌, ◌<◌, ◌≤◌, leng
 ghost use Rattle.vm_base.specs.declared.limits.TheConstants.{DATA_BYTES, KOIDS, PIN_PAGES};
 ghost use Rattle.vm_model.specs.Machine.Lent.{command_of, reply_for};
 
-use crate::address_spaces::AddressSpaces;
-use crate::dispatching::{on_machine, on_memory, on_pages, on_pin, on_region, on_vmo};
-use crate::groups::{Group, group_of};
 use fault::Translations;
-use mapping_set::MappingSet;
+use machine::Machine;
 use page_store::PageStore;
-use pin_table::PinTable;
-use region_tree::Regions;
 use std::alloc::Global;
 use std::marker::Model;
 use vm_base::{DATA_BYTES, PIN_PAGES};
 use vm_model::{Answer, Call, Command, Reply};
-use vmo_table::VmoTable;
 
-/// The names, VMOs, pins and regions of the machine, over a store of pages. Each `step` is one command.
+/// The names, VMOs, pins and regions of the machine, and its translations, over a store of pages. Each `step` is one
+/// command.
 #[derive(Drop)]
 pub struct Vm {
-    /// The allocator that gives room for a list of mappings.
-    alloc: Global,
-    vmos: VmoTable,
-    /// The pins. Each is counted in `vmos` as a keeper of its VMO.
-    pins: PinTable,
-    spaces: AddressSpaces,
-    /// The pages that are ready for an access.
-    translations: Translations,
+    machine: Machine<Translations>,
 }
 
 impl Model for Vm {
@@ -36,11 +24,7 @@ impl Model for Vm {
 
     ghost Value = { Parts };
 
-    ghost use Rattle.vm_core.specs.inside.VmFields.{parts_of, IsCounted};
-
-    ghost view = { parts_of };
-
-    ghost invariant = { IsCounted };
+    ghost view = { λ vm. vm.machine };
 }
 
 impl Vm {
@@ -58,14 +42,7 @@ impl Vm {
         ensures empty { (c : Content) → HasNoVmo c → c.next ≡ 1 → machine_of c result ≡ empty_machine c.frames }
     {
         Vm {
-            alloc,
-            vmos: VmoTable::new(alloc),
-            pins: PinTable::new(alloc),
-            spaces: AddressSpaces {
-                regions: Regions::new(alloc),
-                maps: MappingSet::new(alloc),
-            },
-            translations: Translations::new(alloc),
+            machine: Machine::new(alloc, Translations::new(alloc)),
         }
     }
 
@@ -107,40 +84,6 @@ impl Vm {
         ensures good { IsGoodMachine (machine_of (P.content store.new) self.new) }
         ensures next { (P.content store.new).next ≤ (P.content store.old).next + 1 }
     {
-        match group_of(call) {
-            Group::Vmo => on_vmo(
-                store,
-                &mut self.vmos,
-                &self.pins,
-                &mut self.translations,
-                call,
-            ),
-            Group::Pages => on_pages(
-                store,
-                &self.vmos,
-                &self.pins,
-                &mut self.translations,
-                call,
-                bytes,
-            ),
-            Group::Pin => on_pin(
-                store,
-                &mut self.vmos,
-                &mut self.pins,
-                &mut self.translations,
-                call,
-                numbers,
-            ),
-            Group::Region => on_region(
-                self.alloc,
-                store,
-                &mut self.vmos,
-                &mut self.spaces,
-                &mut self.translations,
-                call,
-            ),
-            Group::Memory => on_memory(store, &self.spaces, &mut self.translations, call, bytes),
-            Group::Machine => on_machine(store, call),
-        }
+        self.machine.answer(store, call, bytes, numbers)
     }
 }

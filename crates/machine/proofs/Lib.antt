@@ -1,0 +1,11 @@
+pub mod StaysLaws
+pub mod SpacesLaws
+pub mod EffectLaws
+pub mod BoundLaws
+pub mod AnswerLaws
+pub mod HandleLaws
+pub mod StartLaws
+pub mod CallLaws
+pub mod ChangeLaws
+pub mod AskingLaws
+pub mod RegionLaws

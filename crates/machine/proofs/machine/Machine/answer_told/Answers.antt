@@ -1,0 +1,27 @@
+use Rattle.std.proofs.Common.{refl}
+use Rattle.vm_model.specs.Machine.Lent.{command_of, reply_for}
+use Rattle.machine.specs.inside.Fields.{parts_of}
+use Rattle.machine.proofs.AnswerLaws.{Answers, access_answered}
+use Rattle.machine.proofs.machine.Machine.answer_told.Given as given
+use Rattle.machine.proofs.machine.Machine.answer_told.Goals as goal
+
+-- what an access did
+accessed : (g : given.Over) (c : goal.After-on_memory g)
+    → Answers g.R.ReadyNotes.ready g.R.ReadyNotes.AreTrue (g.P.Pages.content c.args.pages.now) (parts_of c.self.inside.tables c.self.inside.ready) (command_of c.args.call.now) (reply_for c.on_memory.result)
+    (g.P.Pages.content c.on_memory.new.pages) (parts_of c.self.inside.tables c.on_memory.new.ready)
+accessed g c =
+    let sound = rw (← c.self.view_is) at c.requires.sound in
+    access_answered g.R.ReadyNotes.ready g.R.ReadyNotes.AreTrue (g.P.Pages.content c.args.pages.now) (parts_of c.self.inside.tables c.self.inside.ready) (command_of c.args.call.now) (reply_for c.on_memory.result)
+    (g.P.Pages.content c.on_memory.new.pages) (parts_of c.self.inside.tables c.on_memory.new.ready) sound c.on_memory.ensures.does.name c.on_memory.ensures.does refl c.on_memory.ensures.notes
+
+pub returns-in-Memory-clause-step : goal.returns-in-Memory-clause-step
+returns-in-Memory-clause-step g c = rw (← c.self.view_is) (accessed g c).step
+
+pub returns-in-Memory-clause-sound : goal.returns-in-Memory-clause-sound
+returns-in-Memory-clause-sound g c = (accessed g c).sound
+
+pub returns-in-Memory-clause-next : goal.returns-in-Memory-clause-next
+returns-in-Memory-clause-next g c = (accessed g c).keeps.next
+
+pub returns-in-Memory-clause-frames : goal.returns-in-Memory-clause-frames
+returns-in-Memory-clause-frames g c = (accessed g c).keeps.frames

@@ -1,0 +1,4 @@
+pub mod Machine
+pub mod Groups
+pub mod Requests
+pub mod inside

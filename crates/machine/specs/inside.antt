@@ -1,0 +1,4 @@
+pub mod Changes
+pub mod Fields
+pub mod Held
+pub mod Steps

@@ -1,0 +1,92 @@
+//! The accesses through mappings: `mem_read`, `mem_write`. Each is refused by `BadHandle` if the region was never given, by
+//! `BadState` if it is destroyed, and by `InvalidArgs` if it is no root region. Otherwise the refusals are those of
+//! `ReadyPages`.
+
+ghost use Rattle.std.specs.Prelude.{◌≤◌, length};
+ghost use Rattle.vm_base.specs.declared.limits.TheConstants.{DATA_BYTES};
+ghost use Rattle.vm_model.specs.declared.command.Command.{Command};
+ghost use Rattle.vm_model.specs.Machine.Lent.{reply_for};
+ghost use Rattle.mapping_set.specs.Tables.{table_of};
+ghost use Rattle.mapping_set.specs.Backed.{AreBacked};
+ghost use Rattle.machine.specs.inside.Steps.{DoesAccess};
+ghost use Rattle.machine.specs.inside.Held.{spaces_held};
+
+use crate::address_spaces::AddressSpaces;
+use pages::Pages;
+use ready_pages::ReadyPages;
+use region_ops::RegionRange;
+use vm_base::{DATA_BYTES, Refusal, RegionName};
+use vm_model::Answer;
+
+/// Reads the bytes of a range through the mappings of an address space, into `room`, which has at least `DATA_BYTES` bytes,
+/// and lends them from there. `InvalidArgs` also if the length is over `DATA_BYTES`.
+#[tactic(auto, unfolding(vm_model::specs::Space::Regions::region_of))]
+pub(crate) fn mem_read<'a, P: Pages, R: ReadyPages<P>>(
+    pages: &P,
+    spaces: &AddressSpaces,
+    ready: &mut R,
+    range: RegionRange,
+    room: &'a mut [u8],
+) -> Answer<'a>
+    requires backed { AreBacked (P.content pages.now) (table_of spaces.now.maps) }
+    requires notes { R.AreTrue (P.content pages.now) (table_of spaces.now.maps) ready.old }
+    requires room { DATA_BYTES ≤ length room.old }
+    ensures does { DoesAccess (spaces_held spaces.now) (P.content pages.now)
+        (R.ready ready.old) (Command.MemRead range.region range.addr range.len) (reply_for result) (P.content pages.now)
+        (R.ready ready.new) }
+    ensures notes { R.AreTrue (P.content pages.now) (table_of spaces.now.maps) ready.new }
+{
+    let Some(root) = spaces.regions.get(range.region) else {
+        return Answer::Refused(Refusal::BadHandle);
+    };
+    if !root.live {
+        return Answer::Refused(Refusal::BadState);
+    }
+    if root.parent.is_some() || range.len > DATA_BYTES as u64 {
+        return Answer::Refused(Refusal::InvalidArgs);
+    }
+    match ready.read(
+        pages,
+        &spaces.maps,
+        range.region,
+        range.addr,
+        range.len,
+        room,
+    ) {
+        Ok((faults, bytes)) => Answer::Access { faults, bytes },
+        Err(refusal) => Answer::Refused(refusal),
+    }
+}
+
+/// Writes bytes, at most `DATA_BYTES`, from an address on through the mappings of an address space.
+#[tactic(auto, unfolding(vm_model::specs::Space::Regions::region_of))]
+pub(crate) fn mem_write<P: Pages, R: ReadyPages<P>>(
+    pages: &mut P,
+    spaces: &AddressSpaces,
+    ready: &mut R,
+    region: RegionName,
+    addr: u64,
+    bytes: &[u8],
+) -> Answer<'static>
+    requires backed { AreBacked (P.content pages.old) (table_of spaces.now.maps) }
+    requires notes { R.AreTrue (P.content pages.old) (table_of spaces.now.maps) ready.old }
+    requires bytes { length bytes.now ≤ DATA_BYTES }
+    ensures does { DoesAccess (spaces_held spaces.now) (P.content pages.old)
+        (R.ready ready.old) (Command.MemWrite region addr bytes.now) (reply_for result) (P.content pages.new)
+        (R.ready ready.new) }
+    ensures notes { R.AreTrue (P.content pages.new) (table_of spaces.now.maps) ready.new }
+{
+    let Some(root) = spaces.regions.get(region) else {
+        return Answer::Refused(Refusal::BadHandle);
+    };
+    if !root.live {
+        return Answer::Refused(Refusal::BadState);
+    }
+    if root.parent.is_some() {
+        return Answer::Refused(Refusal::InvalidArgs);
+    }
+    match ready.write(pages, &spaces.maps, region, addr, bytes) {
+        Ok(faults) => Answer::Faults(faults),
+        Err(refusal) => Answer::Refused(refusal),
+    }
+}

@@ -1,0 +1,139 @@
+//! The commands that give a name or close one: `vmo_create`, `vmo_create_child`, `vmo_close`. Each clause `name` hands
+//! up the range of the name's number, which the caller has behind a reference.
+
+ghost use Rattle.std.specs.Prelude.{◌≡◌, ◌<◌};
+ghost use Rattle.vm_base.specs.declared.limits.TheConstants.{KOIDS, NAMES};
+ghost use Rattle.vm_model.specs.declared.command.Command.{Command};
+ghost use Rattle.vm_model.specs.Machine.Lent.{reply_for};
+ghost use Rattle.vm_model.specs.Machine.State.{State};
+ghost use Rattle.vmo_table.specs.Table.{keepers_of, with_vmos, AreParts, IsWellCounted};
+ghost use Rattle.vmo_ops.specs.Targets.{AreTogether};
+ghost use Rattle.vm_model.specs.Contents.Content.{IsGood};
+ghost use Rattle.pages.specs.Names.{IsInside};
+ghost use Rattle.machine.specs.inside.Changes.{change_of_child, shared_part};
+ghost use Rattle.machine.specs.inside.Steps.{ChangesTables, Steps, StepsVmos};
+
+use crate::requests::ChildRequest;
+use pages::{Pages, pages_of_name};
+use pin_table::PinTable;
+use ready_pages::Change;
+use vm_base::{Refusal, VmoName, page_count, page_of};
+use vm_model::{Answer, ChildKind, Target};
+use vmo_table::VmoTable;
+
+/// Makes a VMO. `NameInUse` if the name is open.
+pub(crate) fn vmo_create<P: Pages>(
+    pages: &mut P,
+    vmos: &mut VmoTable,
+    name: VmoName,
+    size: u64,
+    resizable: bool,
+) -> Answer<'static>
+    requires parts { AreParts (P.content pages.old) vmos.old }
+    requires next { (P.content pages.old).next < KOIDS }
+    ensures step { StepsVmos (P.content pages.old) vmos.old (Command.VmoCreate name size resizable) (reply_for result)
+        (P.content pages.new) vmos.new }
+    ensures keepers { keepers_of vmos.new ≡ keepers_of vmos.old }
+    ensures name { name.0 < NAMES }
+{
+    if vmos.resolve(name).is_some() {
+        return Answer::Refused(Refusal::NameInUse);
+    }
+    match vmo_ops::create(pages, vmos, name, size, resizable) {
+        Ok(_) => Answer::Done,
+        Err(refusal) => Answer::Refused(refusal),
+    }
+}
+
+/// Makes a child of what the parent's name stands for. `BadHandle` if that name is not open, `NameInUse` if `name` is open. The
+/// pages that a snapshot shares are answered, of which those that are not pinned may be written no more by what showed them.
+pub(crate) fn vmo_create_child<P: Pages>(
+    pages: &mut P,
+    vmos: &mut VmoTable,
+    pins: &PinTable,
+    name: VmoName,
+    request: ChildRequest,
+) -> (Answer<'static>, Change)
+    requires good { AreTogether (P.content pages.old) vmos.old pins.now }
+    requires next { (P.content pages.old).next < KOIDS }
+    ensures step { Steps (P.content pages.old) vmos.old pins.now
+        (Command.VmoChild name request.parent request.kind request.shape.offset request.shape.size request.shape.resizable
+        request.shape.no_write) (reply_for result.0) (P.content pages.new) vmos.new pins.now }
+    ensures change { ChangesTables (P.content pages.old) vmos.old pins.now
+        (Command.VmoChild name request.parent request.kind request.shape.offset request.shape.size request.shape.resizable
+        request.shape.no_write) (reply_for result.0) result.1 }
+    ensures keepers { keepers_of vmos.new ≡ keepers_of vmos.old }
+    ensures name { name.0 < NAMES }
+{
+    let Some(target) = vmos.resolve(request.parent) else {
+        return (Answer::Refused(Refusal::BadHandle), Change::None);
+    };
+    if vmos.resolve(name).is_some() {
+        return (Answer::Refused(Refusal::NameInUse), Change::None);
+    }
+    let change = child_change(pages, &target, request);
+    let shape = request.shape;
+    match vmo_ops::create_child(
+        pages,
+        vmos,
+        pins,
+        name,
+        &target,
+        request.kind,
+        shape.offset,
+        shape.size,
+        shape.resizable,
+        shape.no_write,
+    ) {
+        Ok(_) => (Answer::Done, change),
+        Err(refusal) => (Answer::Refused(refusal), Change::None),
+    }
+}
+
+// What a child changes of what is ready: a snapshot shares the pages of the parent that it sees.
+fn child_change<P: Pages>(pages: &P, target: &Target, request: ChildRequest) -> Change
+    requires good { IsGood (P.content pages.now) }
+    requires inside { IsInside (P.content pages.now) target.now }
+    ensures { result ≡ change_of_child request.kind (P.content pages.now) target.now request.shape.offset request.shape.size }
+{
+    match request.kind {
+        ChildKind::Snapshot => seen_part(pages, target, request.shape.offset, request.shape.size),
+        ChildKind::Slice | ChildKind::Reference => Change::None,
+    }
+}
+
+// The pages that a snapshot of a part of a name shares.
+#[tactic(auto, using(pages::proofs::NameLaws::name_few))]
+fn seen_part<P: Pages>(pages: &P, target: &Target, offset: u64, size: u64) -> Change
+    requires good { IsGood (P.content pages.now) }
+    requires inside { IsInside (P.content pages.now) target.now }
+    ensures { result ≡ shared_part (P.content pages.now) target.now offset size }
+{
+    let start = page_of(offset);
+    let behind = pages_of_name(pages, target).saturating_sub(start);
+    let seen = page_count(size).min(behind);
+    let first = target.first + start;
+    Change::Shared {
+        koid: target.koid,
+        first,
+        end: first + seen,
+    }
+}
+
+/// Closes a name. `BadHandle` if it is not open.
+pub(crate) fn vmo_close<P: Pages>(
+    pages: &mut P,
+    vmos: &mut VmoTable,
+    name: VmoName,
+) -> Answer<'static>
+    requires { (s : State) × IsWellCounted vmos.old (with_vmos s (P.content pages.old) vmos.old) }
+    ensures step { StepsVmos (P.content pages.old) vmos.old (Command.VmoClose name) (reply_for result)
+        (P.content pages.new) vmos.new }
+    ensures keepers { keepers_of vmos.new ≡ keepers_of vmos.old }
+{
+    if vmos.resolve(name).is_none() {
+        return Answer::Refused(Refusal::BadHandle);
+    }
+    vmo_ops::close(pages, vmos, name);
+    Answer::Done
+}

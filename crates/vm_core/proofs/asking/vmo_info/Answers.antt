@@ -1,6 +1,0 @@
-use Rattle.vm_core.proofs.AskingLaws.{info_named}
-use Rattle.vm_core.proofs.asking.vmo_info.Goals as goal
-
-pub returns-in-Some : goal.returns-in-Some
-returns-in-Some g c =
-    info_named c.args.vmos.now c.args.name _ c.in-Some.ensures c.info.result c.info.ensures
