@@ -1,10 +1,4 @@
-pub mod StayLaws
-pub mod LeftLaws
-pub mod ReachLaws
-pub mod SpaceLaws
-pub mod AccessLaws
-pub mod StartLaws
+pub mod AnswerLaws
 pub mod PinnedLaws
+pub mod StartLaws
 pub mod WantLaws
-pub mod HandleLaws
-pub mod MachineLaws

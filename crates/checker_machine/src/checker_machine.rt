@@ -1,40 +1,32 @@
 //! The machine of a checker.
 
-ghost use Rattle.std.specs.Prelude.{◌≡◌, ◌≢◌, ◌+◌, ◌<◌, ◌≤◌, ◌&&◌, ◌↔◌, ℕ, not, true, length, is_some, ⊤, IsTrue, None, MatchResult, MatchOption};
+ghost use Rattle.std.specs.Prelude.{◌≡◌, ◌≢◌, ◌+◌, ◌<◌, ◌≤◌, ◌&&◌, ◌↔◌, ℕ, not, true, length, is_some, ⊤, IsTrue, None, Some, MatchResult, MatchOption};
 ghost use Rattle.std.specs.Option.{option_map};
 ghost use Rattle.vm_base.specs.declared.limits.TheConstants.{DATA_BYTES, FRAMES, KOIDS, PIN_PAGES};
 ghost use Rattle.vm_base.specs.declared.names.Tag.{Tag};
 ghost use Rattle.vm_base.specs.declared.refusal.Refusal.{Refusal};
+ghost use Rattle.vm_model.specs.declared.answer.Answer.{Answer};
 ghost use Rattle.vm_model.specs.declared.reply.Reply.{Reply};
 ghost use Rattle.vm_model.specs.Machine.Lent.{command_of, reply_for};
 ghost use Rattle.vm_model.specs.Machine.Refusals.{refusals, first_of};
 ghost use Rattle.moving_model.specs.Moving.{tells_place};
 
-use crate::dispatching::{on_memory, on_naming, on_pages, on_region, on_telling, some};
-use crate::groups::{Group, group_of, know_given};
-use crate::wanting::{memory_wants, naming_wants, pages_want, region_wants, telling_wants};
+use crate::wanting::{memory_wants, pages_want, pin_wants, region_wants, vmo_wants};
+use checker_pages::CheckerPages;
 use checker_ready::ReadyMap;
-use checker_vmos::CheckerVmos;
-use mapping_set::MappingSet;
-use region_tree::Regions;
+use machine::{Group, group_of};
 use std::alloc::Global;
 use std::marker::Model;
-use vm_base::{HostMemory, PinName, Tag};
+use vm_base::{HostMemory, PinName, Refusal, Tag};
 use vm_model::{Answer, Call};
 
 /// The names, VMOs, pins, pages, regions and mappings of a machine, and which pages are ready for an access. Each `answer` is
 /// one command. Contracts see the machine that it stands for (`checker_machine_of`).
 #[derive(Drop)]
 pub struct CheckerMachine {
-    /// The allocator that gives room for a list of mappings.
-    alloc: Global,
-    vmos: CheckerVmos,
-    /// The regions of all address spaces.
-    regions: Regions,
-    /// The mappings: what each page of each address space shows.
-    maps: MappingSet,
-    /// The pages that are ready for an access.
-    ready: ReadyMap,
+    /// The pages of the VMOs, and the page frames.
+    pages: CheckerPages,
+    machine: machine::Machine<ReadyMap>,
 }
 
 impl Model for CheckerMachine {
@@ -60,11 +52,8 @@ impl CheckerMachine {
         ensures good { IsGoodMachine (checker_machine_of result) }
     {
         CheckerMachine {
-            alloc,
-            vmos: CheckerVmos::new(alloc),
-            regions: Regions::new(alloc),
-            maps: MappingSet::new(alloc),
-            ready: ReadyMap::new(alloc),
+            pages: CheckerPages::new(alloc),
+            machine: machine::Machine::new(alloc, ReadyMap::new(alloc)),
         }
     }
 
@@ -78,7 +67,7 @@ impl CheckerMachine {
             (λ lack. checker_machine_of self.new ≡ checker_machine_of self.old) }
         ensures good { IsGoodMachine (checker_machine_of self.new) }
     {
-        self.vmos.pages.fill(frames)
+        self.pages.fill(frames)
     }
 
     /// Returns whether want of memory may be the reply to a call (`HostMemory`): nothing refuses it, and it may want
@@ -87,14 +76,15 @@ impl CheckerMachine {
         ensures { result ≡ (not (is_some (first_of (refusals (checker_machine_of self.now).state (command_of call.now))))
             && may_want_memory (checker_machine_of self.now) (command_of call.now)) }
     {
+        let (vmos, pins) = (self.machine.vmos(), self.machine.pins());
+        let (regions, maps) = (self.machine.regions(), self.machine.maps());
         match group_of(call) {
-            Group::Naming => naming_wants(&self.vmos, call),
-            Group::Pages => pages_want(&self.vmos, call),
-            Group::Region => region_wants(&self.vmos, &self.regions, &self.maps, call),
-            Group::Memory => {
-                memory_wants(&self.vmos, &self.regions, &self.maps, &self.ready, call)
-            }
-            Group::Telling => telling_wants(&self.regions, &self.maps, call),
+            Group::Vmo => vmo_wants(&self.pages, vmos, pins, call),
+            Group::Pages => pages_want(&self.pages, vmos, pins, call),
+            Group::Pin => pin_wants(&self.pages, vmos, pins, call),
+            Group::Region => region_wants(&self.pages, vmos, regions, maps, call),
+            Group::Memory => memory_wants(&self.pages, regions, maps, self.machine.ready(), call),
+            Group::Machine => false,
         }
     }
 
@@ -127,35 +117,10 @@ impl CheckerMachine {
         ensures next { (checker_machine_of self.new).state.content.next ≤ (checker_machine_of self.old).state.content.next + 1 }
         ensures frames { (checker_machine_of self.new).state.content.frames ≡ (checker_machine_of self.old).state.content.frames }
     {
-        know_given(call);
-        match group_of(call) {
-            Group::Naming => some(on_naming(&mut self.vmos, &mut self.ready, call)),
-            Group::Pages => some(on_pages(&mut self.vmos, &mut self.ready, call, numbers)),
-            Group::Region => on_region(
-                &mut self.vmos,
-                &mut self.regions,
-                &mut self.maps,
-                &mut self.ready,
-                call,
-                told,
-            ),
-            Group::Memory => some(on_memory(
-                &mut self.vmos,
-                &self.regions,
-                &self.maps,
-                &mut self.ready,
-                call,
-                bytes,
-            )),
-            Group::Telling => some(on_telling(
-                self.alloc,
-                &self.vmos,
-                &self.regions,
-                &self.maps,
-                call,
-                bytes,
-            )),
-        }
+        let given = self
+            .machine
+            .answer_told(&mut self.pages, call, Some(told), bytes, numbers);
+        own(given)
     }
 
     /// Returns the frame of page `at` of a pin, counted from the pin's first. `None` if there is no such pin, or if it
@@ -164,22 +129,34 @@ impl CheckerMachine {
         ensures { option_map (λ (tag : Tag). tag.0) result
             ≡ pinned_frame (checker_machine_of self.now).state ((checker_machine_of self.now).state.pins pin.0) at }
     {
-        let Some((koid, first, count)) = self.vmos.pins.get(pin) else {
+        let Some((koid, first, count)) = self.machine.pins().get(pin) else {
             return None;
         };
         if at >= count {
             return None;
         }
-        self.vmos.pages.frame(koid, first + at)
+        self.pages.frame(koid, first + at)
     }
 
     /// Returns whether a page that is pinned has the frame.
     pub fn is_pinned_frame(&self, tag: Tag) -> bool
         ensures { IsTrue result ↔ HasPinnedFrame (checker_machine_of self.now) tag.0 }
     {
-        match self.vmos.pages.viewer(tag) {
-            Some((koid, page)) => self.vmos.pins.pinned(koid, page, 1),
+        match self.pages.viewer(tag) {
+            Some((koid, page)) => self.machine.pins().pinned(koid, page, 1),
             None => false,
         }
+    }
+}
+
+/// Returns the answer, if there is one. `HostMemory` if it is that the host has too little memory.
+#[inline(always)]
+fn own(given: Option<Answer<'_>>) -> Result<Option<Answer<'_>>, HostMemory>
+    ensures given { MatchResult result (λ own. own ≡ given.entry) (λ lack. given.entry ≡ Some (Answer.Refused Refusal.HostMemory)) }
+    ensures own { MatchResult result (λ own. MatchOption own ⊤ (λ answer. reply_for answer ≢ Reply.Refused Refusal.HostMemory)) (λ lack. ⊤) }
+{
+    match given {
+        Some(Answer::Refused(Refusal::HostMemory)) => Err(HostMemory),
+        given => Ok(given),
     }
 }

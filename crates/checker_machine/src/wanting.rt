@@ -1,51 +1,56 @@
-//! Whether a command may want memory of the host: nothing refuses it, and it may lack memory. Nothing changes.
+//! Whether a command may want memory of the host: nothing refuses it, and it may lack memory. Nothing changes. A place in a
+//! region is looked for without the notes of children, since a transcript ends at the one reply for which this is asked.
 
-ghost use Rattle.std.specs.Prelude.{◌≡◌, ◌-◌, ◌≤◌, Bool, not};
-ghost use Rattle.std.specs.List.{list_any, range_with_len};
+ghost use Rattle.std.specs.Prelude.{◌≡◌, ◌≤◌, Bool, not};
+ghost use Rattle.std.specs.List.{list_any};
 ghost use Rattle.vm_model.specs.declared.command.Command.{Command};
-ghost use Rattle.vm_model.specs.Contents.Content.{is_held, sole};
+ghost use Rattle.vm_model.specs.Contents.Content.{Content, is_held, sole};
 ghost use Rattle.vm_model.specs.Machine.Lent.{command_of};
 ghost use Rattle.vm_model.specs.Machine.State.{State};
 ghost use Rattle.mapping_set.specs.Backed.{AreBacked};
 ghost use Rattle.mapping_set.specs.Tables.{table_of, places_of};
 ghost use Rattle.region_tree.specs.Tree.{regions_of, spaces_of, AreNoted};
-ghost use Rattle.region_ops.specs.Spaces.{with_spaces};
-ghost use Rattle.vmo_table.specs.Table.{IsWellCounted};
+ghost use Rattle.region_ops.specs.Spaces.{with_all, with_spaces};
+ghost use Rattle.vmo_ops.specs.Ranges.{touched_row};
+ghost use Rattle.vmo_ops.specs.Targets.{with_tables, AreTogether};
+ghost use Rattle.vmo_table.specs.Table.{with_vmos, AreParts};
 ghost use Rattle.checker_pages.specs.Eager.{eager_content};
-ghost use Rattle.checker_ready.specs.Notes.{rows_of};
-ghost use Rattle.checker_vmos.specs.Vmos.{content_in, state_with_vmos, HasCountedKeepers};
-ghost use Rattle.checker_machine.specs.Machine.{state_in, machine_in};
-ghost use Rattle.checker_machine.specs.inside.Groups.{checker_group_of};
+ghost use Rattle.machine.specs.Groups.{group_of};
+ghost use Rattle.machine.specs.declared.groups.Group.{Group};
+ghost use Rattle.checker_machine.specs.Machine.{ready_by};
+ghost use Rattle.machine.specs.Machine.{with_memory};
 ghost use Rattle.checker_machine.specs.inside.Wanting.{may_lack, may_want};
-ghost use Rattle.checker_machine.specs.declared.groups.Group.{Group};
 
-use crate::naming::ChildRequest;
-use crate::reaching::{Reach, touched_reach};
-use crate::requests::{RegionCommand, region_command};
-use checker_access::{
-    refusal_to_read, refusal_to_write, wants_memory_to_read, wants_memory_to_write,
-};
 use checker_pages::CheckerPages;
-use checker_ready::ReadyMap;
-use checker_vmos::CheckerVmos;
+use checker_ready::{
+    ReadyMap, refusal_to_read, refusal_to_write, wants_memory_to_read, wants_memory_to_write,
+};
+use machine::{ChildRequest, PinRequest, RegionCommand, region_command};
 use mapping_set::MappingSet;
+use pin_table::PinTable;
 use region_ops::{
     AllocateRequest, MapRequest, RegionRange, SearchedRegion, ask_for_region, ask_to_allocate,
     ask_to_map, ask_to_protect, ask_to_unmap, is_mapped_in,
 };
 use region_tree::Regions;
-use vm_base::{Perm, PinName, RegionName, VmoName};
+use vm_base::{Koid, Perm, RegionName, VmoName};
 use vm_model::{Call, ChildKind};
 use vmo_ops::{
-    ask_to_create, ask_to_decommit, ask_to_own, ask_to_pin, ask_to_reference, ask_to_slice,
-    ask_to_snapshot, ask_to_zero,
+    ChildShape, NameRange, TouchedPages, ask_to_create, ask_to_decommit, ask_to_own, ask_to_pin,
+    ask_to_reference, ask_to_slice, ask_to_snapshot, ask_to_zero, touched_by,
 };
+use vmo_table::VmoTable;
 
-/// Returns whether a command that gives or takes a name or a pin may want memory.
-pub(crate) fn naming_wants(vmos: &CheckerVmos, call: &Call<'_>) -> bool
-    requires group { checker_group_of call.now ≡ Group.Naming }
-    requires counted { HasCountedKeepers vmos.now }
-    ensures { (s : State) → result ≡ may_lack (state_with_vmos s vmos.now) (command_of call.now) }
+/// Returns whether a command on a VMO as a whole may want memory.
+pub(crate) fn vmo_wants(
+    pages: &CheckerPages,
+    vmos: &VmoTable,
+    pins: &PinTable,
+    call: &Call<'_>,
+) -> bool
+    requires group { group_of call.now ≡ Group.Vmo }
+    requires parts { AreTogether (eager_content pages.now) vmos.now pins.now }
+    ensures { (s : State) → result ≡ may_lack (with_tables s (eager_content pages.now) vmos.now pins.now) (command_of call.now) }
 {
     match call {
         Call::VmoCreate { name, size, .. } => create_wants(vmos, *name, *size),
@@ -58,205 +63,231 @@ pub(crate) fn naming_wants(vmos: &CheckerVmos, call: &Call<'_>) -> bool
             resizable,
             no_write,
         } => {
-            let request = ChildRequest {
-                parent: *parent,
-                kind: *kind,
+            let shape = ChildShape {
                 offset: *offset,
                 size: *size,
                 resizable: *resizable,
                 no_write: *no_write,
             };
-            child_wants(vmos, *name, request)
+            let request = ChildRequest {
+                parent: *parent,
+                kind: *kind,
+                shape,
+            };
+            child_wants(pages, vmos, pins, *name, request)
         }
         _ => false,
     }
 }
 
-fn create_wants(vmos: &CheckerVmos, name: VmoName, size: u64) -> bool
-    ensures { (s : State) (resizable : Bool) → result ≡ may_lack (state_with_vmos s vmos.now) (Command.VmoCreate name size resizable) }
+fn create_wants(vmos: &VmoTable, name: VmoName, size: u64) -> bool
+    ensures { (s : State) (c : Content) (resizable : Bool) → result ≡ may_lack (with_vmos s c vmos.now) (Command.VmoCreate name size resizable) }
 {
-    if vmos.vmos.resolve(name).is_some() {
+    if vmos.resolve(name).is_some() {
         return false;
     }
-    match ask_to_create(size) {
-        Ok(_) => true,
-        Err(_) => false,
-    }
+    ask_to_create(size).is_ok()
 }
 
-fn child_wants(vmos: &CheckerVmos, name: VmoName, request: ChildRequest) -> bool
-    requires { HasCountedKeepers vmos.now }
-    ensures { (s : State) → result ≡ may_lack (state_with_vmos s vmos.now) (Command.VmoChild name request.parent request.kind
-        request.offset request.size request.resizable request.no_write) }
+fn child_wants(
+    pages: &CheckerPages,
+    vmos: &VmoTable,
+    pins: &PinTable,
+    name: VmoName,
+    request: ChildRequest,
+) -> bool
+    requires { AreTogether (eager_content pages.now) vmos.now pins.now }
+    ensures { (s : State) → result ≡ may_lack (with_tables s (eager_content pages.now) vmos.now pins.now)
+        (Command.VmoChild name request.parent request.kind request.shape.offset request.shape.size request.shape.resizable request.shape.no_write) }
 {
-    let Some(target) = vmos.vmos.resolve(request.parent) else {
+    let Some(target) = vmos.resolve(request.parent) else {
         return false;
     };
-    if vmos.vmos.resolve(name).is_some() {
+    if vmos.resolve(name).is_some() {
         return false;
     }
-    let (offset, size) = (request.offset, request.size);
-    let (resizable, no_write) = (request.resizable, request.no_write);
+    let (offset, size) = (request.shape.offset, request.shape.size);
+    let (resizable, no_write) = (request.shape.resizable, request.shape.no_write);
     match request.kind {
-        ChildKind::Snapshot => match ask_to_snapshot(
-            &vmos.pages,
-            &vmos.pins,
-            &target,
-            offset,
-            size,
-            resizable,
-            no_write,
-        ) {
-            Ok(_) => true,
-            Err(_) => false,
-        },
-        ChildKind::Slice => {
-            match ask_to_slice(&vmos.pages, &vmos.vmos, &target, offset, size, resizable) {
-                Ok(_) => true,
-                Err(_) => false,
-            }
+        ChildKind::Snapshot => {
+            ask_to_snapshot(pages, pins, &target, offset, size, resizable, no_write).is_ok()
         }
+        ChildKind::Slice => ask_to_slice(pages, vmos, &target, offset, size, resizable).is_ok(),
         ChildKind::Reference => {
-            match ask_to_reference(&target, offset, size, resizable, no_write) {
-                Ok(_) => true,
-                Err(_) => false,
-            }
+            ask_to_reference(&target, offset, size, resizable, no_write).is_ok()
         }
     }
 }
 
-/// Returns whether a command that changes pages may want memory. The call costs the pages of a range that are owned.
-pub(crate) fn pages_want(vmos: &CheckerVmos, call: &Call<'_>) -> bool
-    requires group { checker_group_of call.now ≡ Group.Pages }
-    requires counted { HasCountedKeepers vmos.now }
-    ensures { (s : State) → result ≡ may_lack (state_with_vmos s vmos.now) (command_of call.now) }
+/// Returns whether a command on pages of a VMO may want memory. The call costs the pages of a range that are owned.
+pub(crate) fn pages_want(
+    pages: &CheckerPages,
+    vmos: &VmoTable,
+    pins: &PinTable,
+    call: &Call<'_>,
+) -> bool
+    requires group { group_of call.now ≡ Group.Pages }
+    requires parts { AreTogether (eager_content pages.now) vmos.now pins.now }
+    ensures { (s : State) → result ≡ may_lack (with_tables s (eager_content pages.now) vmos.now pins.now) (command_of call.now) }
 {
     match call {
         Call::VmoWrite {
             name,
             offset,
             bytes,
-        } => own_wants(vmos, *name, *offset, bytes.as_slice().len() as u64),
+        } => {
+            let len = bytes.as_slice().len() as u64;
+            own_wants(pages, vmos, NameRange::new(*name, *offset, len))
+        }
         Call::VmoFill {
             name,
             offset,
             len,
             ..
-        } => own_wants(vmos, *name, *offset, *len),
-        Call::VmoCommit { name, offset, len } => own_wants(vmos, *name, *offset, *len),
-        Call::VmoZero { name, offset, len } => zero_wants(vmos, *name, *offset, *len),
-        Call::VmoDecommit { name, offset, len } => decommit_wants(vmos, *name, *offset, *len),
-        Call::VmoPin {
-            pin,
-            name,
-            offset,
-            len,
-        } => pin_wants(vmos, *pin, *name, *offset, *len),
+        } => own_wants(pages, vmos, NameRange::new(*name, *offset, *len)),
+        Call::VmoCommit { name, offset, len } => {
+            own_wants(pages, vmos, NameRange::new(*name, *offset, *len))
+        }
+        Call::VmoZero { name, offset, len } => {
+            zero_wants(pages, vmos, pins, NameRange::new(*name, *offset, *len))
+        }
+        Call::VmoDecommit { name, offset, len } => {
+            decommit_wants(pages, vmos, pins, NameRange::new(*name, *offset, *len))
+        }
         _ => false,
     }
 }
 
 // Whether a write, a fill or a commit of a range may want memory.
-fn own_wants(vmos: &CheckerVmos, name: VmoName, offset: u64, len: u64) -> bool
-    requires { HasCountedKeepers vmos.now }
-    ensures { (s : State) → result ≡ may_lack (state_with_vmos s vmos.now) (Command.VmoCommit name offset len) }
+fn own_wants(pages: &CheckerPages, vmos: &VmoTable, range: NameRange) -> bool
+    requires { AreParts (eager_content pages.now) vmos.now }
+    ensures { (s : State) → result ≡ may_lack (with_vmos s (eager_content pages.now) vmos.now) (Command.VmoCommit range.name range.offset range.len) }
 {
-    let Some(target) = vmos.vmos.resolve(name) else {
+    let Some(target) = vmos.resolve(range.name) else {
         return false;
     };
-    match ask_to_own(&vmos.pages, &target, offset, len) {
-        Ok(range) => has_shared(&vmos.pages, touched_reach(target.koid, range.at, len)),
+    match ask_to_own(pages, &target, range.offset, range.len) {
+        Ok(asked) => has_shared(pages, target.koid, asked.pages),
         Err(_) => false,
     }
 }
 
-fn zero_wants(vmos: &CheckerVmos, name: VmoName, offset: u64, len: u64) -> bool
-    requires { HasCountedKeepers vmos.now }
-    ensures { (s : State) → result ≡ may_lack (state_with_vmos s vmos.now) (Command.VmoZero name offset len) }
+fn zero_wants(pages: &CheckerPages, vmos: &VmoTable, pins: &PinTable, range: NameRange) -> bool
+    requires { AreTogether (eager_content pages.now) vmos.now pins.now }
+    ensures { (s : State) → result ≡ may_lack (with_tables s (eager_content pages.now) vmos.now pins.now) (Command.VmoZero range.name range.offset range.len) }
 {
-    let Some(target) = vmos.vmos.resolve(name) else {
+    let Some(target) = vmos.resolve(range.name) else {
         return false;
     };
-    match ask_to_zero(&vmos.pages, &vmos.pins, &target, offset, len) {
-        Ok(range) => has_held(&vmos.pages, touched_reach(target.koid, range.at, len)),
+    match ask_to_zero(pages, pins, &target, range.offset, range.len) {
+        Ok(asked) => has_held(pages, target.koid, asked.pages),
         Err(_) => false,
     }
 }
 
-fn decommit_wants(vmos: &CheckerVmos, name: VmoName, offset: u64, len: u64) -> bool
-    requires { HasCountedKeepers vmos.now }
-    ensures { (s : State) → result ≡ may_lack (state_with_vmos s vmos.now) (Command.VmoDecommit name offset len) }
+fn decommit_wants(pages: &CheckerPages, vmos: &VmoTable, pins: &PinTable, range: NameRange) -> bool
+    requires { AreTogether (eager_content pages.now) vmos.now pins.now }
+    ensures { (s : State) → result ≡ may_lack (with_tables s (eager_content pages.now) vmos.now pins.now) (Command.VmoDecommit range.name range.offset range.len) }
 {
-    let Some(target) = vmos.vmos.resolve(name) else {
+    let Some(target) = vmos.resolve(range.name) else {
         return false;
     };
-    match ask_to_decommit(&vmos.pages, &vmos.vmos, &vmos.pins, &target, offset, len) {
-        Ok(at) => has_held(&vmos.pages, touched_reach(target.koid, at, len)),
+    match ask_to_decommit(pages, vmos, pins, &target, range.offset, range.len) {
+        Ok(at) => has_held(pages, target.koid, touched_by(at, range.len)),
         Err(_) => false,
     }
 }
 
-fn pin_wants(vmos: &CheckerVmos, pin: PinName, name: VmoName, offset: u64, len: u64) -> bool
-    requires { HasCountedKeepers vmos.now }
-    ensures { (s : State) → result ≡ may_lack (state_with_vmos s vmos.now) (Command.VmoPin pin name offset len) }
+// Whether one of these pages of a VMO is not sole.
+fn has_shared(pages: &CheckerPages, koid: Koid, touched: TouchedPages) -> bool
+    requires { touched.first ≤ touched.end }
+    ensures { result ≡ list_any (λ p. not (sole (eager_content pages.now) koid.0 p)) (touched_row touched) }
 {
-    let Some(target) = vmos.vmos.resolve(name) else {
-        return false;
-    };
-    if vmos.pins.get(pin).is_some() {
-        return false;
-    }
-    match ask_to_pin(&vmos.pages, &target, offset, len) {
-        Ok(_) => true,
-        Err(_) => false,
-    }
-}
-
-// Whether a page of the reach is not sole.
-fn has_shared(pages: &CheckerPages, reach: Reach) -> bool
-    requires { reach.first ≤ reach.end }
-    ensures { result ≡ list_any (λ p. not (sole (eager_content pages.now) reach.koid.0 p))
-        (range_with_len reach.first (reach.end - reach.first)) }
-{
-    for page in reach.first..reach.end {
-        if !pages.is_sole(reach.koid, page) {
+    for page in touched.first..touched.end {
+        if !pages.is_sole(koid, page) {
             return true;
         }
     }
     false
 }
 
-// Whether a page of the reach is held.
-fn has_held(pages: &CheckerPages, reach: Reach) -> bool
-    requires { reach.first ≤ reach.end }
-    ensures { result ≡ list_any (is_held (eager_content pages.now) reach.koid.0)
-        (range_with_len reach.first (reach.end - reach.first)) }
+// Whether one of these pages of a VMO is held.
+fn has_held(pages: &CheckerPages, koid: Koid, touched: TouchedPages) -> bool
+    requires { touched.first ≤ touched.end }
+    ensures { result ≡ list_any (is_held (eager_content pages.now) koid.0) (touched_row touched) }
 {
-    match pages.next_held(reach.koid, reach.first) {
-        Some(page) => page < reach.end,
+    match pages.next_held(koid, touched.first) {
+        Some(page) => page < touched.end,
         None => false,
     }
 }
 
-/// Returns whether a command that changes regions, or the mappings in one, may want memory.
+/// Returns whether a command on a pin may want memory.
+pub(crate) fn pin_wants(
+    pages: &CheckerPages,
+    vmos: &VmoTable,
+    pins: &PinTable,
+    call: &Call<'_>,
+) -> bool
+    requires group { group_of call.now ≡ Group.Pin }
+    requires parts { AreTogether (eager_content pages.now) vmos.now pins.now }
+    ensures { (s : State) → result ≡ may_lack (with_tables s (eager_content pages.now) vmos.now pins.now) (command_of call.now) }
+{
+    match call {
+        Call::VmoPin {
+            pin,
+            name,
+            offset,
+            len,
+        } => {
+            let range = NameRange::new(*name, *offset, *len);
+            new_pin_wants(pages, vmos, pins, PinRequest { pin: *pin, range })
+        }
+        _ => false,
+    }
+}
+
+fn new_pin_wants(
+    pages: &CheckerPages,
+    vmos: &VmoTable,
+    pins: &PinTable,
+    request: PinRequest,
+) -> bool
+    requires { AreTogether (eager_content pages.now) vmos.now pins.now }
+    ensures { (s : State) → result ≡ may_lack (with_tables s (eager_content pages.now) vmos.now pins.now)
+        (Command.VmoPin request.pin request.range.name request.range.offset request.range.len) }
+{
+    let Some(target) = vmos.resolve(request.range.name) else {
+        return false;
+    };
+    if pins.get(request.pin).is_some() {
+        return false;
+    }
+    ask_to_pin(pages, &target, request.range.offset, request.range.len).is_ok()
+}
+
+/// Returns whether a command on a region, or on the mappings in one, may want memory.
 pub(crate) fn region_wants(
-    vmos: &CheckerVmos,
+    pages: &CheckerPages,
+    vmos: &VmoTable,
     regions: &Regions,
     maps: &MappingSet,
     call: &Call<'_>,
 ) -> bool
-    requires group { checker_group_of call.now ≡ Group.Region }
-    requires well { IsWellCounted vmos.now.vmos (state_in vmos.now (spaces_of (regions_of regions.now) (table_of maps.now))) }
+    requires group { group_of call.now ≡ Group.Region }
+    requires parts { AreParts (eager_content pages.now) vmos.now }
     requires noted { AreNoted (regions_of regions.now) (places_of maps.now) }
-    ensures { result ≡ may_lack (state_in vmos.now (spaces_of (regions_of regions.now) (table_of maps.now))) (command_of call.now) }
+    ensures { (s : State) → result ≡ may_lack (with_all s (eager_content pages.now) vmos.now
+        (spaces_of (regions_of regions.now) (table_of maps.now))) (command_of call.now) }
 {
     match region_command(call) {
         RegionCommand::Create(region) => regions.get(region).is_none(),
         RegionCommand::Allocate(region, request) => allocate_wants(regions, maps, region, request),
-        RegionCommand::Map(request) => map_wants(vmos, regions, maps, request),
+        RegionCommand::Map(request) => map_wants(pages, vmos, regions, maps, request),
         RegionCommand::Unmap(range) => unmap_wants(regions, maps, range),
         RegionCommand::Protect(range, perm) => protect_wants(regions, maps, range, perm),
         RegionCommand::Destroy(_) => false,
+        RegionCommand::List(region) => list_wants(regions, maps, region),
     }
 }
 
@@ -283,24 +314,23 @@ fn allocate_wants(
         region: above,
         noted: true,
     };
-    match ask_to_allocate(regions, maps, searched, request) {
-        Ok(_) => true,
-        Err(_) => false,
-    }
+    ask_to_allocate(regions, maps, searched, request).is_ok()
 }
 
 fn map_wants(
-    vmos: &CheckerVmos,
+    pages: &CheckerPages,
+    vmos: &VmoTable,
     regions: &Regions,
     maps: &MappingSet,
     request: MapRequest<VmoName>,
 ) -> bool
-    requires well { IsWellCounted vmos.now.vmos (state_in vmos.now (spaces_of (regions_of regions.now) (table_of maps.now))) }
+    requires parts { AreParts (eager_content pages.now) vmos.now }
     requires noted { AreNoted (regions_of regions.now) (places_of maps.now) }
-    ensures { result ≡ may_lack (state_in vmos.now (spaces_of (regions_of regions.now) (table_of maps.now)))
+    ensures { (s : State) → result ≡ may_lack (with_all s (eager_content pages.now) vmos.now
+        (spaces_of (regions_of regions.now) (table_of maps.now)))
         (Command.VmarMap request.region request.offset request.mapped request.vmo_offset request.len request.perm request.flags) }
 {
-    let Some(target) = vmos.vmos.resolve(request.mapped) else {
+    let Some(target) = vmos.resolve(request.mapped) else {
         return false;
     };
     let above = match ask_for_region(regions, request.region) {
@@ -311,10 +341,7 @@ fn map_wants(
         region: above,
         noted: true,
     };
-    match ask_to_map(&vmos.pages, regions, maps, searched, request.of(target)) {
-        Ok(_) => true,
-        Err(_) => false,
-    }
+    ask_to_map(pages, regions, maps, searched, request.of(target)).is_ok()
 }
 
 fn unmap_wants(regions: &Regions, maps: &MappingSet, range: RegionRange) -> bool
@@ -339,28 +366,34 @@ fn protect_wants(regions: &Regions, maps: &MappingSet, range: RegionRange, perm:
         Ok(above) => above,
         Err(_) => return false,
     };
-    match ask_to_protect(regions, maps, above, range, perm) {
-        Ok(_) => true,
+    ask_to_protect(regions, maps, above, range, perm).is_ok()
+}
+
+fn list_wants(regions: &Regions, maps: &MappingSet, region: RegionName) -> bool
+    ensures { (s : State) → result ≡ may_lack (with_spaces s (spaces_of (regions_of regions.now) (table_of maps.now))) (Command.Maps region) }
+{
+    match ask_for_region(regions, region) {
+        Ok(listed) => is_mapped_in(maps, listed.root, listed.first, listed.count),
         Err(_) => false,
     }
 }
 
 /// Returns whether an access through mappings may want memory.
 pub(crate) fn memory_wants(
-    vmos: &CheckerVmos,
+    pages: &CheckerPages,
     regions: &Regions,
     maps: &MappingSet,
     ready: &ReadyMap,
     call: &Call<'_>,
 ) -> bool
-    requires group { checker_group_of call.now ≡ Group.Memory }
-    requires backed { AreBacked (content_in vmos.now) (table_of maps.now) }
-    ensures { result ≡ may_want (machine_in vmos.now (spaces_of (regions_of regions.now) (table_of maps.now)) (rows_of ready.now))
-        (command_of call.now) }
+    requires group { group_of call.now ≡ Group.Memory }
+    requires backed { AreBacked (eager_content pages.now) (table_of maps.now) }
+    ensures { (s : State) → result ≡ may_want (with_memory s (eager_content pages.now)
+        (spaces_of (regions_of regions.now) (table_of maps.now)) (ready_by ready.now)) (command_of call.now) }
 {
     match call {
         Call::MemRead { region, addr, len } => {
-            match refusal_to_read(&vmos.pages, regions, maps, *region, *addr, *len) {
+            match refusal_to_read(pages, regions, maps, *region, *addr, *len) {
                 Some(_) => false,
                 None => wants_memory_to_read(ready, *region, *addr, *len),
             }
@@ -371,31 +404,11 @@ pub(crate) fn memory_wants(
             bytes,
         } => {
             let written = bytes.as_slice();
-            match refusal_to_write(&vmos.pages, regions, maps, *region, *addr, written) {
+            match refusal_to_write(pages, regions, maps, *region, *addr, written) {
                 Some(_) => false,
                 None => wants_memory_to_write(ready, *region, *addr, written),
             }
         }
         _ => unreachable!(),
-    }
-}
-
-/// Returns whether a command that changes nothing may want memory. Only a list of mappings does.
-pub(crate) fn telling_wants(regions: &Regions, maps: &MappingSet, call: &Call<'_>) -> bool
-    requires { checker_group_of call.now ≡ Group.Telling }
-    ensures { (s : State) → result ≡ may_lack (with_spaces s (spaces_of (regions_of regions.now) (table_of maps.now))) (command_of call.now) }
-{
-    match call {
-        Call::Maps { region } => maps_want(regions, maps, *region),
-        _ => false,
-    }
-}
-
-fn maps_want(regions: &Regions, maps: &MappingSet, region: RegionName) -> bool
-    ensures { (s : State) → result ≡ may_lack (with_spaces s (spaces_of (regions_of regions.now) (table_of maps.now))) (Command.Maps region) }
-{
-    match ask_for_region(regions, region) {
-        Ok(listed) => is_mapped_in(maps, listed.root, listed.first, listed.count),
-        Err(_) => false,
     }
 }

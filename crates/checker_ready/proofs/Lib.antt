@@ -2,3 +2,12 @@ pub mod CountLaws
 pub mod StampLaws
 pub mod RowLaws
 pub mod SettledLaws
+pub mod StayLaws
+pub mod AppliedLaws
+pub mod AskLaws
+pub mod NeedLaws
+pub mod FaultLaws
+pub mod GoodLaws
+pub mod NoteLaws
+pub mod ReadLaws
+pub mod WriteLaws

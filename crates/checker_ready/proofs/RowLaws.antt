@@ -16,7 +16,6 @@ use Rattle.vm_model.specs.Contents.Content.{Content}
 use Rattle.vm_model.specs.Contents.Zeroing.{is_within}
 use Rattle.vm_model.specs.Space.Readiness.{is_same_frame, frame_number}
 use Rattle.vm_model.proofs.ContentLaws.{same_page}
-use Rattle.vm_model.proofs.ReadinessLaws.{is_same_frame-same}
 use Rattle.pair_map.specs.declared.pair_map.PairMap.{PairMap}
 use Rattle.pair_map.specs.Maps.{values_of, with_pair}
 use Rattle.checker_pages.proofs.LinkLaws.{pair-here, pair-other, pair-cases}
@@ -28,20 +27,6 @@ use Rattle.checker_ready.proofs.CountLaws.{count-same, count-more, count-less, c
 use Rattle.checker_ready.proofs.StampLaws.{row_of, page-stamped, page-noted, page-limited, page-unlimited, page-current, page-settled, page-lowered, lowered-some}
 
 -- ---- nothing is noted
-
-pub rows-none : (m : Notes) → values_of m.places ≡ (λ a b. None) → rows_of m ≡ (λ root p. None)
-rows-none m none = λ i root p. noted_under (values_of m.stamps) (none i root p)
-
-pub AreNotes-new : (m : Notes) → values_of m.places ≡ (λ a b. None) → values_of m.stamps ≡ (λ a b. None) → m.time ≡ 0 → m.room ≡ 0 → AreNotes m
-AreNotes-new m no_place no_stamp time room = record {
-  made = λ r q k e. let none = ap (λ (map : ℕ → ℕ → Option Kept). map r q) no_place in absurd cc;
-  stamped = λ v p s e. let none = ap (λ (map : ℕ → ℕ → Option Stamp). map v p) no_stamp in absurd cc;
-  counted = λ v p s e. let none = ap (λ (map : ℕ → ℕ → Option Stamp). map v p) no_stamp in absurd cc;
-  noted = λ v p s e. let none = ap (λ (map : ℕ → ℕ → Option Stamp). map v p) no_stamp in absurd cc;
-  places_room = omega arith;
-  stamps_room = omega arith;
-  times = omega arith;
-}
 
 -- ---- one stamp changes
 
@@ -458,84 +443,6 @@ dropped-done m root first end none = λ i r q. each r q i where
       grind (arith, nat_tests)
 
 -- ---- stamps that are looked for
-
--- a row is of the page of its note
-noted_same : (k : Kept) (s : Stamp) (row : ReadyPage) → ready_page k (Some s) ≡ Some row → (k.koid.0 ≡ row.koid.0) × (k.page ≡ row.page)
-noted_same k s row is = past (nat_lt k.made s.since) is where
-  past : (b : Bool) → cond b None (Some (row_of k s)) ≡ Some row → (k.koid.0 ≡ row.koid.0) × (k.page ≡ row.page)
-  past true e = absurd cc
-  past false e = let same = some_same e in (ap (λ (x : ReadyPage). x.koid.0) same, ap (λ (x : ReadyPage). x.page) same)
-
--- and has the frame of its stamp
-noted_frame : (k : Kept) (s : Stamp) (row : ReadyPage) → ready_page k (Some s) ≡ Some row → row.frame ≡ s.frame
-noted_frame k s row is = past (nat_lt k.made s.since) is where
-  past : (b : Bool) → cond b None (Some (row_of k s)) ≡ Some row → row.frame ≡ s.frame
-  past true e = absurd cc
-  past false e = sym (ap (λ (x : ReadyPage). x.frame) (some_same e))
-
--- which is that of the page of the VMO
-row_stamp : (m : Notes) (r q : ℕ) (row : ReadyPage) → rows_of m r q ≡ Some row → (s : Stamp) × (values_of m.stamps row.koid.0 row.page ≡ Some s) × (row.frame ≡ s.frame)
-row_stamp m r q row e = go (values_of m.places r q) e where
-  go : (n : Option Kept) → noted_under (values_of m.stamps) n ≡ Some row → (s : Stamp) × (values_of m.stamps row.koid.0 row.page ≡ Some s) × (row.frame ≡ s.frame)
-  go None f = absurd cc
-  go (Some k) f = stamped (values_of m.stamps k.koid.0 k.page) refl f where
-    stamped : (o : Option Stamp) → values_of m.stamps k.koid.0 k.page ≡ o → ready_page k o ≡ Some row → (s : Stamp) × (values_of m.stamps row.koid.0 row.page ≡ Some s) × (row.frame ≡ s.frame)
-    stamped None at is = absurd cc
-    stamped (Some s) at is =
-        let same = noted_same k s row is in
-        let koid = same.0 in
-        let page = same.1 in
-        (s, sym (λ i. values_of m.stamps (koid i) (page i)) ∙ at, noted_frame k s row is)
-
--- so rows of one page of a VMO have one frame
-one_frame : (m : Notes) (r q root page : ℕ) (x row : ReadyPage) → rows_of m r q ≡ Some x → rows_of m root page ≡ Some row → x.koid.0 ≡ row.koid.0 → x.page ≡ row.page → x.frame ≡ row.frame
-one_frame m r q root page x row is there koid at =
-    let one = row_stamp m r q x is in
-    let other = row_stamp m root page row there in
-    let same : one.0 ≡ other.0 = some_same (sym one.1 ∙ ((λ i. values_of m.stamps (koid i) (at i)) ∙ other.1)) in
-    one.2 ∙ (ap (λ (s : Stamp). s.frame) same ∙ sym other.2)
-
--- and a page that is noted as it is may be noted so again
-pub row-there : (m : Notes) (root page : ℕ) (row : ReadyPage) → rows_of m root page ≡ Some row
-    → rows_of m ≡ with_ready_row (kept_rows (agrees row.koid.0 row.page row.frame) (rows_of m)) root page row
-unfolding with_ready_row kept_rows passes
-row-there m root page row there = λ i r q. each r q i where
-  agreed : (r q : ℕ) (x : ReadyPage) → rows_of m r q ≡ Some x → (b : Bool) → ((x.koid.0 == row.koid.0) && (x.page == row.page)) ≡ b
-      → (not b || is_same_frame (frame_number x.frame) (frame_number row.frame)) ≡ true
-  agreed r q x is false e = refl
-  agreed r q x is true e =
-      let both = and_parts (x.koid.0 == row.koid.0) (x.page == row.page) e in
-      let frame = one_frame m r q root page x row is there (eqb_is x.koid.0 row.koid.0 both.0) (eqb_is x.page row.page both.1) in
-      ap (λ (f : Option Tag). is_same_frame (frame_number f) (frame_number row.frame)) frame ∙ is_same_frame-same (frame_number row.frame)
-
-  stays : (r q : ℕ) (o : Option ReadyPage) → rows_of m r q ≡ o → o ≡ row_if (agrees row.koid.0 row.page row.frame) o
-  stays r q None is = refl
-  stays r q (Some x) is = rw (agreed r q x is ((x.koid.0 == row.koid.0) && (x.page == row.page)) refl) refl
-
-  each : (r q : ℕ) → rows_of m r q ≡ cond ((r == root) && (q == page)) (Some row) (row_if (agrees row.koid.0 row.page row.frame) (rows_of m r q))
-  each r q = elim (same_page root page r q) [
-    | inl here ↦
-        let hit : ((r == root) && (q == page)) ≡ true = and_from (r == root) (q == page) (eq-eqb r root here.0) (eq-eqb q page here.1) in
-        rw hit ((λ i. rows_of m (here.0 i) (here.1 i)) ∙ there)
-    | inr apart ↦
-        let miss : ((r == root) && (q == page)) ≡ false = grind (arith, nat_tests) in
-        rw miss (stays r q (rows_of m r q) refl)
-  ]
-
--- no stamp, no row
-pub HasNoRow-gap : (m : Notes) (v from end : ℕ) → ((q : ℕ) → from ≤ q → q < end → values_of m.stamps v q ≡ None) → HasNoRow (rows_of m) v from end
-HasNoRow-gap m v from end none = record { none = λ r q row e. go (values_of m.places r q) row e } where
-  go : (n : Option Kept) (row : ReadyPage) → noted_under (values_of m.stamps) n ≡ Some row → row.koid.0 ≡ v → from ≤ row.page → row.page < end → ⊥
-  go None row e vmo low high = absurd cc
-  go (Some k) row e vmo low high = stamped (values_of m.stamps k.koid.0 k.page) refl e where
-    stamped : (s : Option Stamp) → values_of m.stamps k.koid.0 k.page ≡ s → ready_page k s ≡ Some row → ⊥
-    stamped None at is = absurd cc
-    stamped (Some s) at is =
-        let same = noted_same k s row is in
-        let koid : k.koid.0 ≡ v = same.0 ∙ vmo in
-        let gone = none k.page (let page = same.1 in omega arith) (let page = same.1 in omega arith) in
-        let here : values_of m.stamps v k.page ≡ Some s = ap (λ (w : ℕ). values_of m.stamps w k.page) (sym koid) ∙ at in
-        absurd cc
 
 -- each stamp is of a page that is shown
 pub IsReadySomewhere-stamped : (m : Notes) (v p : ℕ) (s : Stamp) → AreNotes m → values_of m.stamps v p ≡ Some s → IsReadySomewhere (rows_of m) v p

@@ -15,8 +15,9 @@ use Rattle.vm_model.specs.Contents.Content.{Content, pages_of}
 use Rattle.vm_model.specs.Contents.Zeroing.{is_within}
 use Rattle.vm_model.specs.Space.Readiness.{Ready, frame_at, is_same_frame, keeps_frame, settled, with_ready, unready, shows_but, read_only_but, frame_number}
 use Rattle.vm_model.proofs.ReadinessLaws.{is_same_frame-is}
+use Rattle.ready_pages.specs.Changes.{ChangesRange}
 use Rattle.checker_ready.specs.declared.ready_map.ReadyPage.{ReadyPage}
-use Rattle.checker_ready.specs.Notes.{ReadyRows, ready_in, has_frame, row_if, with_ready_row, kept_rows, without_range, limited, limited_rows, is_row_of_page, agrees, is_current, ChangesRange, NotesAreTrue}
+use Rattle.checker_ready.specs.Notes.{ReadyRows, ready_in, has_frame, row_if, with_ready_row, kept_rows, without_range, limited, limited_rows, is_row_of_page, agrees, is_current, NotesAreTrue}
 
 -- a row whose page has its frame still, and one whose page had it
 module _ (old new : Content) (table : ℕ → ℕ → Option Entry) (rows : ReadyRows) (true_rows : NotesAreTrue old table rows) where

@@ -10,6 +10,7 @@ use Rattle.vm_model.specs.Contents.Zeroing.{is_within}
 use Rattle.vm_model.specs.Space.Readiness.{Ready, frame_at, is_same_frame, frame_number}
 use Rattle.pair_map.specs.declared.pair_map.PairMap.{PairMap}
 use Rattle.pair_map.specs.Maps.{values_of}
+use Rattle.ready_pages.specs.Changes.{Entries, AreReadyAt}
 use Rattle.checker_ready.specs.declared.ready_map.ReadyPage.{ReadyPage}
 use Rattle.checker_ready.specs.declared.ready_map.ReadyMap.TheInside.{Inside}
 use Rattle.checker_ready.specs.declared.stamps.Kept.{Kept}
@@ -160,13 +161,13 @@ notes_of a = record { places = a.places; stamps = a.stamps; time = a.time; room 
 pub record AreFields (a : Inside) : Type 0 where
   pub notes : AreNotes (notes_of a)
 
--- only pages of the VMO v from `first` to below `end` may have another frame, or lie in their VMO no more
-pub record ChangesRange (old new : Content) (v first end : ℕ) : Type 0 where
-  pub frame : (w p : ℕ) → (w ≡ v → first ≤ p → p < end → ⊥) → frame_at new w p ≡ frame_at old w p
-  pub below : (w p : ℕ) → (w ≡ v → first ≤ p → p < end → ⊥) → p < pages_of old w → p < pages_of new w
-
 -- Each row is of the entry that its page has in the table, and has the frame that the page of the VMO has, which lies in
 -- its VMO.
 pub record NotesAreTrue (c : Content) (table : ℕ → ℕ → Option Entry) (rows : ReadyRows) : Type 0 where
   pub entry : (root p : ℕ) (row : ReadyPage) → rows root p ≡ Some row → (entry : Entry) × (table root p ≡ Some entry) × (entry.koid.0 ≡ row.koid.0) × (entry.page ≡ row.page)
   pub current : (root p : ℕ) (row : ReadyPage) → rows root p ≡ Some row → has_frame c row.koid.0 row.page row.frame ≡ true
+
+-- The notes are true, and what they say is ready may be accessed so: a page that is ready for writing shows a page that is sole.
+pub record AreGoodNotes (c : Content) (table : Entries) (rows : ReadyRows) : Type 0 where
+  pub true_rows : NotesAreTrue c table rows
+  pub ready : AreReadyAt c table (ready_in rows)

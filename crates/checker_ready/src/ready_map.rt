@@ -1,11 +1,13 @@
 //! The map of what is ready.
 
-ghost use Rattle.std.specs.Prelude.{◌≡◌, ℕ, ◌+◌, ◌<◌, ◌≤◌, not, None, IsSome, IfSome, IfNone, OnOk};
+ghost use Rattle.std.specs.Prelude.{◌≡◌, ℕ, ◌+◌, ◌<◌, ◌≤◌, not, None, IsSome, IfSome, IfNone, OnOk, OnErr};
+ghost use Rattle.vm_model.specs.Contents.Content.{Content};
 ghost use Rattle.vm_model.specs.Naming.Pins.{is_pinned};
 ghost use Rattle.pair_map.specs.Maps.{values_of, count_of};
 ghost use Rattle.pin_table.specs.Table.{pins_of};
 ghost use Rattle.checker_pages.specs.Eager.{eager_content};
-ghost use Rattle.checker_ready.specs.Notes.{rows_of, notes_spare, with_ready_row, kept_rows, without_range, limited_rows, agrees, is_current, HasNoRow, IsReadySomewhere};
+ghost use Rattle.ready_pages.specs.Changes.{Entries};
+ghost use Rattle.checker_ready.specs.Notes.{rows_of, notes_spare, with_ready_row, kept_rows, without_range, limited_rows, agrees, is_current, AreGoodNotes, HasNoRow, IsReadySomewhere};
 
 use crate::stamps::{Kept, Stamp, has_frame, lower, put, ready_page, stamp_for};
 use checker_pages::CheckerPages;
@@ -56,7 +58,8 @@ impl Model for ReadyMap {
 impl ReadyMap {
     /// Makes a map in which nothing is ready.
     pub fn new(alloc: Global) -> ReadyMap
-        ensures { rows_of result ≡ λ root p. None }
+        ensures rows { rows_of result ≡ λ root p. None }
+        ensures good { (c : Content) (table : Entries) → AreGoodNotes c table (rows_of result) }
     {
         ReadyMap {
             places: PairMap::new(alloc),
@@ -68,8 +71,9 @@ impl ReadyMap {
 
     /// Makes room for `n` calls of `set`. `HostMemory` if the host has too little memory, or if the times would not fit 64
     /// bits.
-    pub fn reserve(&mut self, n: u64) -> Result<(), HostMemory>
+    pub(crate) fn reserve(&mut self, n: u64) -> Result<(), HostMemory>
         ensures room { OnOk result (n ≤ notes_spare self.new) }
+        ensures wanted { OnErr result (1 ≤ n) }
         ensures same { rows_of self.new ≡ rows_of self.old }
         ensures kept { notes_spare self.old ≤ notes_spare self.new }
     {
@@ -101,7 +105,7 @@ impl ReadyMap {
 
     /// Notes a page of an address space, in place of what was noted of it. Other notes of the same page of the VMO do not
     /// count any more if they have another frame. There is room.
-    pub fn set(&mut self, root: RegionName, page: PageNo, row: ReadyPage)
+    pub(crate) fn set(&mut self, root: RegionName, page: PageNo, row: ReadyPage)
         requires room { 1 ≤ notes_spare self.old }
         ensures rows { rows_of self.new
             ≡ with_ready_row (kept_rows (agrees row.koid.0 row.page row.frame) (rows_of self.old)) root.0 page row }
@@ -113,7 +117,7 @@ impl ReadyMap {
 
     /// Makes what shows a page of a VMO from `first` to below `end` ready for reading at most, unless a pin covers the page:
     /// a snapshot shares the other pages. The call costs the pages of the range that have notes.
-    pub fn restrict(&mut self, koid: Koid, first: PageNo, end: PageNo, pins: &PinTable)
+    pub(crate) fn restrict(&mut self, koid: Koid, first: PageNo, end: PageNo, pins: &PinTable)
         ensures rows { rows_of self.new
             ≡ limited_rows (is_pinned (pins_of pins.now) koid.0) koid.0 first end (rows_of self.old) }
         ensures spare { notes_spare self.new ≡ notes_spare self.old }
@@ -127,7 +131,7 @@ impl ReadyMap {
 
     /// Makes what shows a page of a VMO from `first` to below `end` ready for nothing, if the page does not lie in the VMO or
     /// has another frame now than was noted. The call costs the pages of the range that have notes.
-    pub fn settle(&mut self, pages: &CheckerPages, koid: Koid, first: PageNo, end: PageNo)
+    pub(crate) fn settle(&mut self, pages: &CheckerPages, koid: Koid, first: PageNo, end: PageNo)
         requires { IsSome ((eager_content pages.now).count koid.0) }
         ensures rows { rows_of self.new ≡ kept_rows (is_current (eager_content pages.now) koid.0 first end) (rows_of self.old) }
         ensures spare { notes_spare self.new ≡ notes_spare self.old }
@@ -141,7 +145,7 @@ impl ReadyMap {
 
     /// Makes pages of an address space from `first` to below `end` ready for nothing. The call costs the notes of these
     /// pages.
-    pub fn drop_range(&mut self, root: RegionName, first: PageNo, end: PageNo)
+    pub(crate) fn drop_range(&mut self, root: RegionName, first: PageNo, end: PageNo)
         ensures rows { rows_of self.new ≡ without_range (rows_of self.old) root.0 first end }
         ensures spare { notes_spare self.new ≡ notes_spare self.old }
     {

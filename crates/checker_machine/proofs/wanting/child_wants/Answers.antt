@@ -1,40 +1,53 @@
-use Rattle.std.proofs.Common.{refl, sym, ◌∙◌}
+use Rattle.std.proofs.Common.{◌≡◌, None, refl, sym, ◌∙◌}
 use Rattle.vm_base.proofs.EntryLaws.{none_is}
 use Rattle.vm_model.specs.declared.command.ChildKind.TheVariants.{Snapshot, Slice, Reference}
 use Rattle.vm_model.specs.declared.command.Command.TheVariants.{VmoChild}
-use Rattle.vm_model.specs.Machine.State.{State}
-use Rattle.checker_vmos.specs.Vmos.{state_with_vmos}
-use Rattle.checker_machine.proofs.HandleLaws.{child_unnamed, inside_named}
-use Rattle.checker_machine.proofs.WantLaws.{lack_free, lack_refused}
+use Rattle.vmo_ops.proofs.NameLaws.{parts_inside}
+use Rattle.vmo_ops.specs.Targets.{with_tables}
+use Rattle.vmo_table.specs.Table.{names_of}
+use Rattle.checker_pages.specs.Eager.{eager_content}
+use Rattle.checker_machine.proofs.WantLaws.{child_unnamed, lack_asked, lack_refused, parts_of}
 use Rattle.checker_machine.proofs.wanting.child_wants.Goals as goal
 
 pub returns-in_default : goal.returns-in_default
-returns-in_default c = λ s. lack_refused (state_with_vmos s c.args.vmos.now) (VmoChild c.args.name c.args.request.parent c.args.request.kind c.args.request.offset c.args.request.size c.args.request.resizable c.args.request.no_write)
-    (sym (child_unnamed (state_with_vmos s c.args.vmos.now) c.args.name c.args.request.parent c.args.request.kind c.args.request.offset c.args.request.size c.args.request.resizable c.args.request.no_write (sym c.in_default.ensures)))
+returns-in_default c = λ s.
+    let r = c.args.request in
+    let t = with_tables s (eager_content c.args.pages.now) c.args.vmos.now c.args.pins.now in
+    lack_refused t (VmoChild c.args.name r.parent r.kind r.shape.offset r.shape.size r.shape.resizable r.shape.no_write)
+    (child_unnamed t c.args.name r.parent r.kind r.shape.offset r.shape.size r.shape.resizable r.shape.no_write (sym c.in_default.ensures))
 
 pub ask_to_snapshot-requires-clause-inside : goal.ask_to_snapshot-requires-clause-inside
-ask_to_snapshot-requires-clause-inside c = inside_named c.requires c.args.request.parent.0 c.in-Some.ensures
+ask_to_snapshot-requires-clause-inside c = parts_inside _ _ _ (parts_of c.requires) (c.args.request.parent.0, sym c.in-Some.ensures)
 
 pub ask_to_slice-requires-clause-parts : goal.ask_to_slice-requires-clause-parts
-ask_to_slice-requires-clause-parts c = record { rest = state_with_vmos c.requires.rest c.args.vmos.now; good = c.requires.well.good }
+ask_to_slice-requires-clause-parts c = parts_of c.requires
 
 pub ask_to_slice-requires-clause-named : goal.ask_to_slice-requires-clause-named
 ask_to_slice-requires-clause-named c = (c.args.request.parent.0, sym c.in-Some.ensures)
 
-pub returns-in-Ok : goal.returns-in-Ok
-returns-in-Ok c = rw c.in-Snapshot.is (λ s. lack_free (state_with_vmos s c.args.vmos.now) (VmoChild c.args.name c.args.request.parent Snapshot c.args.request.offset c.args.request.size c.args.request.resizable c.args.request.no_write) (c.in-Ok.ensures.refusal (state_with_vmos s c.args.vmos.now) c.args.name c.args.request.parent (sym c.in-Some.ensures) (none_is _ (rw c.resolve-2.ensures at (sym c.is_some.ensures ∙ c.if-is_some.false)))) refl)
+pub returns-in-Snapshot : goal.returns-in-Snapshot
+returns-in-Snapshot c = rw c.in-Snapshot.is (λ s.
+    let r = c.args.request in
+    let t = with_tables s (eager_content c.args.pages.now) c.args.vmos.now c.args.pins.now in
+    let none : names_of c.args.vmos.now c.args.name.0 ≡ None = none_is _ (rw c.resolve-2.ensures at (sym c.is_some.ensures ∙ c.if-is_some.false)) in
+    lack_asked t (VmoChild c.args.name r.parent Snapshot r.shape.offset r.shape.size r.shape.resizable r.shape.no_write) c.ask_to_snapshot.result c.is_ok.ensures.value refl
+    (λ part e. (rw e at c.ask_to_snapshot.ensures.refusal) t c.args.name r.parent (sym c.in-Some.ensures) none)
+    (λ refusal e. (rw e at c.ask_to_snapshot.ensures.refusal) t c.args.name r.parent (sym c.in-Some.ensures) none))
 
-pub returns-in-Err : goal.returns-in-Err
-returns-in-Err c = rw c.in-Snapshot.is (λ s. lack_refused (state_with_vmos s c.args.vmos.now) (VmoChild c.args.name c.args.request.parent Snapshot c.args.request.offset c.args.request.size c.args.request.resizable c.args.request.no_write) (c.in-Err.ensures.refusal (state_with_vmos s c.args.vmos.now) c.args.name c.args.request.parent (sym c.in-Some.ensures) (none_is _ (rw c.resolve-2.ensures at (sym c.is_some.ensures ∙ c.if-is_some.false)))))
+pub returns-in-Slice : goal.returns-in-Slice
+returns-in-Slice c = rw c.in-Slice.is (λ s.
+    let r = c.args.request in
+    let t = with_tables s (eager_content c.args.pages.now) c.args.vmos.now c.args.pins.now in
+    let none : names_of c.args.vmos.now c.args.name.0 ≡ None = none_is _ (rw c.resolve-2.ensures at (sym c.is_some.ensures ∙ c.if-is_some.false)) in
+    lack_asked t (VmoChild c.args.name r.parent Slice r.shape.offset r.shape.size r.shape.resizable r.shape.no_write) c.ask_to_slice.result c.is_ok-in-Slice.ensures.value refl
+    (λ pages e. ((rw e at c.ask_to_slice.ensures) r.shape.no_write).0 t c.args.name r.parent (sym c.in-Some.ensures) none)
+    (λ refusal e. ((rw e at c.ask_to_slice.ensures) r.shape.no_write) t c.args.name r.parent (sym c.in-Some.ensures) none))
 
-pub returns-in-Ok-ask_to_slice : goal.returns-in-Ok-ask_to_slice
-returns-in-Ok-ask_to_slice c = rw c.in-Slice.is (λ s. lack_free (state_with_vmos s c.args.vmos.now) (VmoChild c.args.name c.args.request.parent Slice c.args.request.offset c.args.request.size c.args.request.resizable c.args.request.no_write) ((c.in-Ok-ask_to_slice.ensures c.args.request.no_write).0 (state_with_vmos s c.args.vmos.now) c.args.name c.args.request.parent (sym c.in-Some.ensures) (none_is _ (rw c.resolve-2.ensures at (sym c.is_some.ensures ∙ c.if-is_some.false)))) refl)
-
-pub returns-in-Err-ask_to_slice : goal.returns-in-Err-ask_to_slice
-returns-in-Err-ask_to_slice c = rw c.in-Slice.is (λ s. lack_refused (state_with_vmos s c.args.vmos.now) (VmoChild c.args.name c.args.request.parent Slice c.args.request.offset c.args.request.size c.args.request.resizable c.args.request.no_write) ((c.in-Err-ask_to_slice.ensures c.args.request.no_write) (state_with_vmos s c.args.vmos.now) c.args.name c.args.request.parent (sym c.in-Some.ensures) (none_is _ (rw c.resolve-2.ensures at (sym c.is_some.ensures ∙ c.if-is_some.false)))))
-
-pub returns-in-Ok-ask_to_reference : goal.returns-in-Ok-ask_to_reference
-returns-in-Ok-ask_to_reference c = rw c.in-Reference.is (λ s. lack_free (state_with_vmos s c.args.vmos.now) (VmoChild c.args.name c.args.request.parent Reference c.args.request.offset c.args.request.size c.args.request.resizable c.args.request.no_write) (c.in-Ok-ask_to_reference.ensures (λ (r : State). state_with_vmos r c.args.vmos.now) s c.args.name c.args.request.parent (sym c.in-Some.ensures) (none_is _ (rw c.resolve-2.ensures at (sym c.is_some.ensures ∙ c.if-is_some.false)))) refl)
-
-pub returns-in-Err-ask_to_reference : goal.returns-in-Err-ask_to_reference
-returns-in-Err-ask_to_reference c = rw c.in-Reference.is (λ s. lack_refused (state_with_vmos s c.args.vmos.now) (VmoChild c.args.name c.args.request.parent Reference c.args.request.offset c.args.request.size c.args.request.resizable c.args.request.no_write) (c.in-Err-ask_to_reference.ensures (λ (r : State). state_with_vmos r c.args.vmos.now) s c.args.name c.args.request.parent (sym c.in-Some.ensures) (none_is _ (rw c.resolve-2.ensures at (sym c.is_some.ensures ∙ c.if-is_some.false)))))
+pub returns-in-Reference : goal.returns-in-Reference
+returns-in-Reference c = rw c.in-Reference.is (λ s.
+    let r = c.args.request in
+    let t = with_tables s (eager_content c.args.pages.now) c.args.vmos.now c.args.pins.now in
+    let none : names_of c.args.vmos.now c.args.name.0 ≡ None = none_is _ (rw c.resolve-2.ensures at (sym c.is_some.ensures ∙ c.if-is_some.false)) in
+    lack_asked t (VmoChild c.args.name r.parent Reference r.shape.offset r.shape.size r.shape.resizable r.shape.no_write) c.ask_to_reference.result c.is_ok-in-Reference.ensures.value refl
+    (λ u e. (rw e at c.ask_to_reference.ensures) (λ x. x) t c.args.name r.parent (sym c.in-Some.ensures) none)
+    (λ refusal e. (rw e at c.ask_to_reference.ensures) (λ x. x) t c.args.name r.parent (sym c.in-Some.ensures) none))

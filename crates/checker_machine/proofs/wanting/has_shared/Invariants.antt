@@ -4,4 +4,4 @@ use Rattle.checker_pages.specs.Eager.{eager_content}
 use Rattle.checker_machine.proofs.wanting.has_shared.Given as goal
 
 abbrev pub invariant-loop-page : goal.invariant-loop-page
-invariant-loop-page l = (q : ℕ) → l.reach.first ≤ q → q < l.page → sole (eager_content l.pages) l.reach.koid.0 q ≡ true
+invariant-loop-page l = (q : ℕ) → l.fn.touched.first ≤ q → q < l.page → sole (eager_content l.pages) l.koid.0 q ≡ true

@@ -1,25 +1,26 @@
-use Rattle.std.proofs.Common.{sym, arith}
+use Rattle.std.proofs.Common.{sym}
 use Rattle.vm_model.specs.Contents.Content.{is_held}
-use Rattle.vm_model.proofs.ContentLaws.{pages_of_le}
 use Rattle.vm_model.specs.declared.command.Command.TheVariants.{VmoZero}
-use Rattle.checker_vmos.specs.Vmos.{content_in, state_with_vmos}
-use Rattle.checker_machine.proofs.HandleLaws.{inside_named}
-use Rattle.checker_machine.proofs.ReachLaws.{touched_any}
-use Rattle.checker_machine.proofs.WantLaws.{lack_free, lack_refused, reach_named}
+use Rattle.vmo_ops.proofs.NameLaws.{parts_inside}
+use Rattle.vmo_ops.specs.Targets.{with_tables}
+use Rattle.checker_pages.specs.Eager.{eager_content}
+use Rattle.checker_machine.proofs.WantLaws.{lack_free, lack_refused, parts_of, touches_named}
 use Rattle.checker_machine.proofs.wanting.zero_wants.Goals as goal
 
 pub ask_to_zero-requires-clause-inside : goal.ask_to_zero-requires-clause-inside
-ask_to_zero-requires-clause-inside c = inside_named c.requires c.args.name.0 c.in-Some.ensures
+ask_to_zero-requires-clause-inside c = parts_inside _ _ _ (parts_of c.requires) (c.args.range.name.0, sym c.in-Some.ensures)
 
 pub returns-in-Ok : goal.returns-in-Ok
 returns-in-Ok c = λ s.
-    let t = state_with_vmos s c.args.vmos.now in
-    lack_free t (VmoZero c.args.name c.args.offset c.args.len) (c.in-Ok.ensures.0 t c.args.name (sym c.in-Some.ensures))
-    (touched_any t c.args.name.0 c.args.offset c.args.len c.touched_reach.result (is_held (content_in c.args.vmos.now)) c.has_held.result
-    (reach_named t c.args.name.0 c.args.offset c.args.len c.in-Ok.range.at c.touched_reach.result c.in-Some.ensures c.touched_reach.ensures.reach c.in-Ok.ensures.1.place) c.has_held.ensures)
+    let t = with_tables s (eager_content c.args.pages.now) c.args.vmos.now c.args.pins.now in
+    lack_free t (VmoZero c.args.range.name c.args.range.offset c.args.range.len) (c.in-Ok.ensures.0 t c.args.range.name (sym c.in-Some.ensures))
+    (touches_named t c.args.range.name.0 c.args.range.offset c.args.range.len c.in-Ok.asked.at c.in-Ok.asked.pages (is_held (eager_content c.args.pages.now))
+    c.in-Some.ensures c.in-Ok.ensures.1.place c.in-Ok.ensures.4.row c.has_held.ensures)
 
 pub returns-in-Err : goal.returns-in-Err
-returns-in-Err c = λ s. lack_refused (state_with_vmos s c.args.vmos.now) (VmoZero c.args.name c.args.offset c.args.len) (c.in-Err.ensures (state_with_vmos s c.args.vmos.now) c.args.name (sym c.in-Some.ensures))
+returns-in-Err c = λ s.
+    let t = with_tables s (eager_content c.args.pages.now) c.args.vmos.now c.args.pins.now in
+    lack_refused t (VmoZero c.args.range.name c.args.range.offset c.args.range.len) (c.in-Err.ensures t c.args.range.name (sym c.in-Some.ensures))
 
-pub touched_reach-requires : goal.touched_reach-requires
-touched_reach-requires c = omega (arith, c.in-Ok.ensures.1.inside, pages_of_le (content_in c.args.vmos.now) c.in-Some.target.koid.0 c.requires.well.good.content)
+pub has_held-requires : goal.has_held-requires
+has_held-requires c = c.in-Ok.ensures.4.order

@@ -1,0 +1,96 @@
+//! How many frames a write takes (copy on write).
+
+ghost use Rattle.std.specs.Prelude.{◌≡◌, ℕ, ◌+◌, ◌<◌, ◌≤◌, ◌&&◌, ◌==◌, true, false, [], ◌∷◌};
+ghost use Rattle.vm_model.specs.Contents.Content.{pages_of, sole, IsGood};
+ghost use Rattle.vm_model.specs.Contents.Owning.{need_each};
+ghost use Rattle.vm_model.specs.Machine.Access.{page_shown};
+ghost use Rattle.vm_model.specs.Space.Readiness.{frame_at};
+ghost use Rattle.checker_pages.specs.Eager.{eager_content};
+ghost use Rattle.checker_ready.specs.inside.Pages.{LiesInVmo, LieInVmos, pages_found, need_after, HaveOneFrame};
+
+use crate::finding::Found;
+use checker_pages::CheckerPages;
+use vm_model::Entry;
+
+/// Returns the number of frames that it takes to own the pages that a write touches, one after another.
+pub(crate) fn frames_to_own(pages: &CheckerPages, found: Found) -> u64
+    requires good { IsGood (eager_content pages.now) }
+    requires inside { LieInVmos (eager_content pages.now) found }
+    ensures { result ≡ need_each (eager_content pages.now) (pages_found found) }
+{
+    match found {
+        Found::No => 0,
+        Found::One(entry) => frames_for_one(pages, entry),
+        Found::Two(first, second) => frames_for_two(pages, first, second),
+    }
+}
+
+// How many frames it takes to own a page: one, if the page is not sole.
+fn frames_for_one(pages: &CheckerPages, entry: Entry) -> u64
+    ensures few { result ≤ 1 }
+    ensures need { result ≡ need_each (eager_content pages.now) (page_shown entry ∷ []) }
+{
+    if pages.is_sole(entry.koid, entry.page) {
+        0
+    } else {
+        1
+    }
+}
+
+// How many frames it takes to own two pages, one after another.
+fn frames_for_two(pages: &CheckerPages, first: Entry, second: Entry) -> u64
+    requires good { IsGood (eager_content pages.now) }
+    requires first { LiesInVmo (eager_content pages.now) first }
+    requires second { LiesInVmo (eager_content pages.now) second }
+    ensures { result ≡ need_each (eager_content pages.now) (page_shown first ∷ page_shown second ∷ []) }
+{
+    if pages.is_sole(first.koid, first.page) {
+        frames_for_one(pages, second)
+    } else {
+        1 + frames_after(pages, first, second)
+    }
+}
+
+// How many frames it takes to own a page once another was owned that is not sole. If both are one page, it takes none. If
+// they have one frame, it takes one only if a third VMO shows that frame too.
+fn frames_after(pages: &CheckerPages, first: Entry, second: Entry) -> u64
+    requires good { IsGood (eager_content pages.now) }
+    requires first { LiesInVmo (eager_content pages.now) first }
+    requires second { LiesInVmo (eager_content pages.now) second }
+    requires shared { sole (eager_content pages.now) first.koid.0 first.page ≡ false }
+    ensures few { result ≤ 1 }
+    ensures need { result ≡ need_after (eager_content pages.now) (page_shown first) (page_shown second) }
+{
+    if show_same_page(first, second) {
+        return 0;
+    }
+    if !have_one_frame(pages, first, second) {
+        return frames_for_one(pages, second);
+    }
+    if pages.is_seen_by_third(first.koid, first.page, second.koid) {
+        1
+    } else {
+        0
+    }
+}
+
+// Whether both show one page of one VMO.
+fn show_same_page(first: Entry, second: Entry) -> bool
+    ensures { result ≡ ((first.koid.0 == second.koid.0) && (first.page == second.page)) }
+{
+    first.koid == second.koid && first.page == second.page
+}
+
+// Whether two pages are held, with one frame.
+fn have_one_frame(pages: &CheckerPages, first: Entry, second: Entry) -> bool
+    ensures one { result ≡ true → HaveOneFrame (eager_content pages.now) (page_shown first) (page_shown second) }
+    ensures two { result ≡ false → HaveOneFrame (eager_content pages.now) (page_shown first) (page_shown second) → ⊥ }
+{
+    let Some(tag) = pages.frame(first.koid, first.page) else {
+        return false;
+    };
+    let Some(other) = pages.frame(second.koid, second.page) else {
+        return false;
+    };
+    tag == other
+}

@@ -1,0 +1,97 @@
+//! The pages that an access touches, and where it takes page faults. Nothing changes.
+
+ghost use Rattle.std.specs.Prelude.{◌≡◌, ◌/◌, ◌≤◌};
+ghost use Rattle.vm_base.specs.declared.limits.TheConstants.{PAGE};
+ghost use Rattle.checker_ready.specs.Notes.{rows_of, ready_in};
+ghost use Rattle.checker_ready.specs.inside.Pages.{is_unready, found_in, page_faults, faults_in, AreUnready};
+
+use crate::finding::Found;
+use crate::places::Place;
+use crate::ready_map::ReadyMap;
+use vm_base::{PageNo, RegionName, page_of};
+use vm_model::{Entry, Readiness};
+
+/// A page that an access touches.
+#[derive(Clone, Copy)]
+pub(crate) struct TouchedPage {
+    pub entry: Entry,
+    /// The page is not ready for the access, which takes a page fault there.
+    pub unready: bool,
+}
+
+impl TouchedPage {
+    /// Returns how many page faults the access takes on the page.
+    pub fn faults(&self) -> u64
+        ensures faults { result ≡ page_faults self.now }
+        ensures few { result ≤ 1 }
+    {
+        if self.unready { 1 } else { 0 }
+    }
+}
+
+/// The pages that an access touches, in the order of the addresses.
+#[derive(Clone, Copy)]
+pub(crate) enum TouchedPages {
+    No,
+    One(TouchedPage),
+    Two(TouchedPage, TouchedPage),
+}
+
+impl TouchedPages {
+    /// Returns how many page faults the access takes.
+    pub fn faults(&self) -> u64
+        ensures faults { result ≡ faults_in self.now }
+        ensures few { result ≤ 2 }
+    {
+        match self {
+            TouchedPages::No => 0,
+            TouchedPages::One(page) => page.faults(),
+            TouchedPages::Two(first, second) => first.faults() + second.faults(),
+        }
+    }
+}
+
+/// Looks at what the pages that were found are ready for, once for each page. They are those that an access from a place on
+/// touches, and it needs this readiness.
+pub(crate) fn touch(ready: &ReadyMap, place: Place, found: Found, wanted: Readiness) -> TouchedPages
+    ensures found { found_in result ≡ found }
+    ensures unready { AreUnready wanted (ready_in (rows_of ready.now) place.root.0) (place.addr / PAGE) result }
+{
+    let root = place.root;
+    let page = page_of(place.addr);
+    match found {
+        Found::No => TouchedPages::No,
+        Found::One(entry) => TouchedPages::One(TouchedPage {
+            entry,
+            unready: is_unready(ready, root, page, wanted),
+        }),
+        Found::Two(first, second) => TouchedPages::Two(
+            TouchedPage {
+                entry: first,
+                unready: is_unready(ready, root, page, wanted),
+            },
+            TouchedPage {
+                entry: second,
+                unready: is_unready(ready, root, page + 1, wanted),
+            },
+        ),
+    }
+}
+
+/// Returns whether a page of an address space is not ready for this. An access then takes a page fault there.
+pub(crate) fn is_unready(
+    ready: &ReadyMap,
+    root: RegionName,
+    page: PageNo,
+    wanted: Readiness,
+) -> bool
+    ensures { result ≡ is_unready wanted (ready_in (rows_of ready.now) root.0 page) }
+{
+    match ready.at(root, page) {
+        Some(row) => match (wanted, row.readiness) {
+            (Readiness::Write, Readiness::Read) => true,
+            _ => false,
+        },
+        None => true,
+    }
+}
