@@ -143,13 +143,15 @@ def calls_of(path, every=False):
 
 
 def enums(top=TOP):
-    """Returns the variants of each public enum, by the name of the enum."""
+    """Returns the variants of each enum that the root file of its crate hands out, by the name of the enum."""
     found = {}
-    for path in sorted((top / "crates").glob("*/src/**/*.rt")):
-        for name, body in re.findall(r"^pub enum (\w+)(?:<[^>]*>)? \{\n(.*?)^\}", text_of(path), re.M | re.S):
-            variants = re.findall(r"^    (\w+)", body, re.M)
-            if found.setdefault(name, variants) != variants:
-                raise ValueError(f"two enums with other variants are named {name}")
+    for root in sorted((top / "crates").glob("*/src/lib.rt")):
+        shown = shown_names(text_of(root))
+        for path in sorted(root.parent.glob("**/*.rt")):
+            for name, body in re.findall(r"^pub enum (\w+)(?:<[^>]*>)? \{\n(.*?)^\}", text_of(path), re.M | re.S):
+                variants = re.findall(r"^    (\w+)", body, re.M)
+                if name in shown and found.setdefault(name, variants) != variants:
+                    raise ValueError(f"two enums with other variants are named {name}")
     return found
 
 
