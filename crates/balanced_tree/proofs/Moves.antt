@@ -2,14 +2,15 @@
 use Rattle.std.proofs.Common.{◌≡◌, ℕ, ◌+◌, ◌<◌, ◌≤◌, Option, None, Some, inl, inr, refl, sym, ap, ◌∙◌, subst, arith}
 use Rattle.std.proofs.lemmas.Bool.{cases_lt}
 use Rattle.std.proofs.lemmas.Option.{same_Some}
-use Rattle.slab.specs.Slab.{Slab, get, slab_len, ContainsKey, Updates}
+use Rattle.slab.specs.Slab.{Slab, get, slab_len, Updates}
 use Rattle.balanced_tree.specs.declared.changes.Change.{Change}
 use Rattle.balanced_tree.specs.declared.changes.Change.TheVariants.{Hidden}
+use Rattle.balanced_tree.specs.declared.children.Child.{Child}
 use Rattle.balanced_tree.specs.Row.{Functions, AreLawful, AreAlike}
 use Rattle.balanced_tree.specs.inside.Tree.{SearchTree, Leaf, Node, child_of, moved, AreBeside}
-use Rattle.balanced_tree.specs.inside.Standing.{child_under, child_at, root_after, IsRooted, IsStanding, StandsBeside, Becomes, IsSplit, HasMoved}
+use Rattle.balanced_tree.specs.inside.Standing.{child_at, root_after, IsRooted, IsStanding, StandsBeside, Becomes, IsSplit, HasChildren, IsPut, HasMoved}
 use Rattle.balanced_tree.proofs.Spelling.{Keeps-refl, Same-refl, child_at-link, ContainsKey-place_of, place_over-tree}
-use Rattle.balanced_tree.proofs.Nodes.{IsNode, node_of, standing-at, rank_here, height-left, height-right, right_is, left_is, same_again, again_left, again_right, split_left, split_right, left_kept, right_kept}
+use Rattle.balanced_tree.proofs.Nodes.{IsNode, node_of, standing-at, rank_here, height-left, height-right, right_is, left_is, stays_left, stays_right, readable-left_part, readable-right_part, split_left, split_right, left_kept, right_kept}
 use Rattle.balanced_tree.proofs.Hiding.{like-same, rooted-hidden, rooted-put, rooted-again, still-left, still-right, becomes-still}
 use Rattle.balanced_tree.proofs.Insertions.{Becomes-left, Becomes-right}
 use Rattle.balanced_tree.proofs.TreeLaws.{moved-left, moved-right, moved-here, moved-leaf, place-moved, ordered-below, ordered-above}
@@ -24,43 +25,39 @@ module _ {R : Type 0} (f : Functions R) where
   }
   move-leaf {s} (Node l p x r) n w none h = let some : Some p ≡ None = h.is_at ∙ none in absurd cc
 
-  module _ {s s1 s2 : Slab R} {p : ℕ} {here again w : R} {t : SearchTree R} {low high n before b1 b2 b3 after : ℕ} {left right : Option ℕ} {part change : Change}
-      (laws : AreLawful f) (d : IsNode f s p here t low high) (left_link : left ≡ f.left here) (right_link : right ≡ f.right here) where
-    -- where the way down went to the left
-    pub move-left : n < f.rank here → HasMoved f s s1 n w d.left low (f.rank d.row) part b1 b2
-        → get s1 p ≡ Some again → Updates s1 s2 p (Some (f.linked again (child_at s1 left) (child_at s1 right))) → slab_len s2 ≡ slab_len s1 → b1 ≤ before + 1 → b3 ≤ b2 + 1 → after ≤ b3 + 3
-        → root_after change (Some p) ≡ Some p → (change ≡ Hidden → AreAlike f again (f.linked again (child_at s1 left) (child_at s1 right)))
-        → HasMoved f s s2 n w t low high change before after
-    move-left less sub e u len g1 g2 g3 root hidden =
-        let again_is = again_left f d sub.becomes.kept e in
-        let on_left = child_at-link f s1 (moved f n w d.left) sub.becomes.spelled (place-moved f n w d.left ∙ (d.left_standing.is_at ∙ sym left_link)) in
-        let on_right = child_at-link f s1 d.right (right_kept f d laws sub.becomes.kept) (d.right_standing.is_at ∙ sym right_link) in
-        let made = place_over-tree f laws (split_left f d laws sub.becomes) (same_again f d again_is) on_left on_right refl u refl in
-        let is = ap (moved f n w) d.is ∙ moved-left f n w d.left p d.row d.right (omega (arith, rank_here f d)) in
-        record {
-          becomes = Becomes-left f d sub.becomes (subst (λ u. Becomes f s1 s2 u low high) (sym is) made.becomes);
-          rooted = rooted-again f laws d again_is is (rooted-put f made.child root hidden);
-          len = len ∙ sub.len;
-          steps = omega (arith, sub.steps, height-left f d);
-        }
+  -- where the way down went to the left
+  pub move-left : {s s1 s2 : Slab R} {p : ℕ} {here w : R} {t : SearchTree R} {low high n before b1 b2 after : ℕ} {part change : Change}
+      → AreLawful f → (d : IsNode f s p here t low high) → n < f.rank here → HasMoved f s s1 n w d.left low (f.rank d.row) part b1 b2
+      → IsPut f s1 s2 p here here change → root_after change (Some p) ≡ Some p → slab_len s2 ≡ slab_len s1 → b1 ≤ before + 1 → after ≤ b2 + 5
+      → HasMoved f s s2 n w t low high change before after
+  move-left {s} {s1} {s2} {p} {here} {w} {low = low} {high} {n} laws d less sub put root len g1 g2 =
+      let on_left = child_at-link f s1 (moved f n w d.left) sub.becomes.spelled (place-moved f n w d.left ∙ d.left_standing.is_at) in
+      let on_right = child_at-link f s1 d.right (right_kept f d laws sub.becomes.kept) d.right_standing.is_at in
+      let made = place_over-tree f laws (split_left f d laws sub.becomes) d.same on_left on_right refl put.updates refl in
+      let is = ap (moved f n w) d.is ∙ moved-left f n w d.left p d.row d.right (omega (arith, rank_here f d)) in
+      record {
+        becomes = Becomes-left f d sub.becomes (subst (λ u. Becomes f s1 s2 u low high) (sym is) made.becomes);
+        rooted = rooted-again f laws d refl is (rooted-put f made.child root put.hidden);
+        len = len ∙ sub.len;
+        steps = omega (arith, sub.steps, height-left f d);
+      }
 
-    -- and to the right
-    pub move-right : f.rank here < n → HasMoved f s s1 n w d.right (f.rank d.row + 1) high part b1 b2
-        → get s1 p ≡ Some again → Updates s1 s2 p (Some (f.linked again (child_at s1 left) (child_at s1 right))) → slab_len s2 ≡ slab_len s1 → b1 ≤ before + 1 → b3 ≤ b2 + 1 → after ≤ b3 + 3
-        → root_after change (Some p) ≡ Some p → (change ≡ Hidden → AreAlike f again (f.linked again (child_at s1 left) (child_at s1 right)))
-        → HasMoved f s s2 n w t low high change before after
-    move-right more sub e u len g1 g2 g3 root hidden =
-        let again_is = again_right f d sub.becomes.kept e in
-        let on_left = child_at-link f s1 d.left (left_kept f d laws sub.becomes.kept) (d.left_standing.is_at ∙ sym left_link) in
-        let on_right = child_at-link f s1 (moved f n w d.right) sub.becomes.spelled (place-moved f n w d.right ∙ (d.right_standing.is_at ∙ sym right_link)) in
-        let made = place_over-tree f laws (split_right f d laws sub.becomes) (same_again f d again_is) on_left on_right refl u refl in
-        let is = ap (moved f n w) d.is ∙ moved-right f n w d.left p d.row d.right (omega (arith, rank_here f d)) in
-        record {
-          becomes = Becomes-right f d sub.becomes (subst (λ u. Becomes f s1 s2 u low high) (sym is) made.becomes);
-          rooted = rooted-again f laws d again_is is (rooted-put f made.child root hidden);
-          len = len ∙ sub.len;
-          steps = omega (arith, sub.steps, height-right f d);
-        }
+  -- and to the right
+  pub move-right : {s s1 s2 : Slab R} {p : ℕ} {here w : R} {t : SearchTree R} {low high n before b1 b2 after : ℕ} {part change : Change}
+      → AreLawful f → (d : IsNode f s p here t low high) → f.rank here < n → HasMoved f s s1 n w d.right (f.rank d.row + 1) high part b1 b2
+      → IsPut f s1 s2 p here here change → root_after change (Some p) ≡ Some p → slab_len s2 ≡ slab_len s1 → b1 ≤ before + 1 → after ≤ b2 + 5
+      → HasMoved f s s2 n w t low high change before after
+  move-right {s} {s1} {s2} {p} {here} {w} {low = low} {high} {n} laws d more sub put root len g1 g2 =
+      let on_left = child_at-link f s1 d.left (left_kept f d laws sub.becomes.kept) d.left_standing.is_at in
+      let on_right = child_at-link f s1 (moved f n w d.right) sub.becomes.spelled (place-moved f n w d.right ∙ d.right_standing.is_at) in
+      let made = place_over-tree f laws (split_right f d laws sub.becomes) d.same on_left on_right refl put.updates refl in
+      let is = ap (moved f n w) d.is ∙ moved-right f n w d.left p d.row d.right (omega (arith, rank_here f d)) in
+      record {
+        becomes = Becomes-right f d sub.becomes (subst (λ u. Becomes f s1 s2 u low high) (sym is) made.becomes);
+        rooted = rooted-again f laws d refl is (rooted-put f made.child root put.hidden);
+        len = len ∙ sub.len;
+        steps = omega (arith, sub.steps, height-right f d);
+      }
 
   -- the row hides the change of a part
   module _ {s s1 : Slab R} {p : ℕ} {here w : R} {t : SearchTree R} {low high n before b1 b2 : ℕ} {part : Change} (laws : AreLawful f) (d : IsNode f s p here t low high) where
@@ -98,13 +95,11 @@ module _ {R : Type 0} (f : Functions R) where
       → AreBeside f n m d.right × (f.rank d.row + 1 ≤ m)
   sub-right n m d b is more = let sides = beside-node n m d b in let same = rank_here f d in let above = sides.0.0 (omega arith) in (sides.2, omega arith)
 
-  pub move-here : {s s2 : Slab R} {p : ℕ} {here w now : R} {t : SearchTree R} {low high n before after : ℕ} {left right : Option ℕ} {change : Change}
+  pub move-here : {s s2 : Slab R} {p : ℕ} {here w : R} {t : SearchTree R} {low high n before after : ℕ} {change : Change}
       → AreLawful f → (d : IsNode f s p here t low high) → f.rank here ≤ n → n ≤ f.rank here → AreBeside f n (f.rank w) t → low ≤ f.rank w → f.rank w < high
-      → left ≡ f.left here → right ≡ f.right here
-      → Updates s s2 p (Some (f.linked w (child_at s left) (child_at s right))) → slab_len s2 ≡ slab_len s → after ≤ before + 5
-      → get s2 p ≡ Some now → root_after change (Some p) ≡ Some p → (change ≡ Hidden → AreAlike f here now)
+      → IsPut f s s2 p here w change → root_after change (Some p) ≡ Some p → slab_len s2 ≡ slab_len s → after ≤ before + 5
       → HasMoved f s s2 n w t low high change before after
-  move-here {s} {s2} {p} {here} {w} {now} {t} {low} {high} {n} laws d g h b from below left_link right_link u len steps e root hidden =
+  move-here {s} {s2} {p} {here} {w} {t} {low} {high} {n} laws d g h b from below put root len steps =
       let sides = beside-node n (f.rank w) d b in
       let same = rank_here f d in
       let split : IsSplit f s d.left p w d.right low high = elim (cases_lt (f.rank w) n) [
@@ -137,11 +132,11 @@ module _ {R : Type 0} (f : Functions R) where
           row_below = omega arith;
         }
       ] in
-      let made = place_over-tree f laws split (Same-refl f w) (left_is f d left_link) (right_is f d right_link) refl u refl in
+      let made = place_over-tree f laws split (Same-refl f w) (left_is f d refl) (right_is f d refl) refl put.updates refl in
       let is = ap (moved f n w) d.is ∙ moved-here f n w d.left p d.row d.right (omega arith) in
       record {
         becomes = subst (λ u. Becomes f s s2 u low high) (sym is) made.becomes;
-        rooted = rooted-again f laws d refl is (rooted-put f (ap (λ y. child_under p (Some y)) (same_Some _ _ (sym e ∙ u.changed)) ∙ made.child) root hidden);
+        rooted = rooted-again f laws d refl is (rooted-put f made.child root put.hidden);
         len = len;
         steps = omega (arith, height-left f d);
       }
@@ -178,17 +173,41 @@ module _ {R : Type 0} (f : Functions R) where
         below_high = h.below_high;
       }
 
-  -- the links to the parts of a node lead to rows, also after a change of one part
-  module _ {s s1 : Slab R} {p n : ℕ} {here w : R} {t : SearchTree R} {low high b1 b2 : ℕ} {left right : Option ℕ} {part : Change}
-      (laws : AreLawful f) (d : IsNode f s p here t low high) (left_link : left ≡ f.left here) (right_link : right ≡ f.right here) where
-    pub left-readable : HasMoved f s s1 n w d.left low (f.rank d.row) part b1 b2 → (q : ℕ) → left ≡ Some q → ContainsKey s1 q
-    left-readable sub q e = ContainsKey-place_of f s1 (moved f n w d.left) q sub.becomes.spelled (place-moved f n w d.left ∙ (d.left_standing.is_at ∙ (sym left_link ∙ e)))
+  -- the links of a row lead to rows
+  pub children-here : {s : Slab R} {p : ℕ} {here : R} {t : SearchTree R} {low high : ℕ} → IsNode f s p here t low high → HasChildren f s p
+  children-here {s} {here = here} d = record {
+    row = here;
+    at = d.at;
+    left = λ q e. readable-left_part f d s q d.left_standing.spelled e;
+    right = λ q e. readable-right_part f d s q d.right_standing.spelled e;
+  }
 
-    pub left-beside : HasMoved f s s1 n w d.left low (f.rank d.row) part b1 b2 → (q : ℕ) → right ≡ Some q → ContainsKey s1 q
-    left-beside sub q e = ContainsKey-place_of f s1 d.right q (right_kept f d laws sub.becomes.kept) (d.right_standing.is_at ∙ (sym right_link ∙ e))
+  -- also after a change of one part
+  module _ {s s1 : Slab R} {p n : ℕ} {here w : R} {t : SearchTree R} {low high b1 b2 : ℕ} {part : Change} (laws : AreLawful f) (d : IsNode f s p here t low high) where
+    pub children-left : HasMoved f s s1 n w d.left low (f.rank d.row) part b1 b2 → HasChildren f s1 p
+    children-left sub = record {
+      row = here;
+      at = stays_left f d sub.becomes.kept;
+      left = λ q e. ContainsKey-place_of f s1 (moved f n w d.left) q sub.becomes.spelled (place-moved f n w d.left ∙ (d.left_standing.is_at ∙ e));
+      right = λ q e. readable-right_part f d s1 q (right_kept f d laws sub.becomes.kept) e;
+    }
 
-    pub right-readable : HasMoved f s s1 n w d.right (f.rank d.row + 1) high part b1 b2 → (q : ℕ) → right ≡ Some q → ContainsKey s1 q
-    right-readable sub q e = ContainsKey-place_of f s1 (moved f n w d.right) q sub.becomes.spelled (place-moved f n w d.right ∙ (d.right_standing.is_at ∙ (sym right_link ∙ e)))
+    pub children-right : HasMoved f s s1 n w d.right (f.rank d.row + 1) high part b1 b2 → HasChildren f s1 p
+    children-right sub = record {
+      row = here;
+      at = stays_right f d sub.becomes.kept;
+      left = λ q e. readable-left_part f d s1 q (left_kept f d laws sub.becomes.kept) e;
+      right = λ q e. ContainsKey-place_of f s1 (moved f n w d.right) q sub.becomes.spelled (place-moved f n w d.right ∙ (d.right_standing.is_at ∙ e));
+    }
 
-    pub right-beside : HasMoved f s s1 n w d.right (f.rank d.row + 1) high part b1 b2 → (q : ℕ) → left ≡ Some q → ContainsKey s1 q
-    right-beside sub q e = ContainsKey-place_of f s1 d.left q (left_kept f d laws sub.becomes.kept) (d.left_standing.is_at ∙ (sym left_link ∙ e))
+  -- what was put in place of a row, over the children that were read
+  pub put-read : {s s2 : Slab R} {p : ℕ} {read had w : R} {l r : Option (Child R)} {c : Child R} {change : Change}
+      → get s p ≡ Some read → get s p ≡ Some had → l ≡ child_at s (f.left read) → r ≡ child_at s (f.right read)
+      → Updates s s2 p (Some (f.linked w l r)) → c ≡ record { link = p; row = f.linked w l r } → (change ≡ Hidden → AreAlike f read c.row)
+      → IsPut f s s2 p had w change
+  put-read {s} {s2} {p} {read} {had} {w} {l} {r} {c} {change} one two left right u child hidden =
+      let row_is : f.linked w l r ≡ f.linked w (child_at s (f.left read)) (child_at s (f.right read)) = rw (left, right) refl in
+      subst (λ y. IsPut f s s2 p y w change) (same_Some _ _ (sym one ∙ two)) (record {
+        updates = subst (λ y. Updates s s2 p (Some y)) row_is u;
+        hidden = λ e. subst (AreAlike f read) (ap (λ d. d.row) child ∙ row_is) (hidden e);
+      })

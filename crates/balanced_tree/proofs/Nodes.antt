@@ -266,6 +266,6 @@ module _ {R : Type 0} (f : Functions R) where
       let n = node_of laws h.standing is at in
       record { tree = n.right; low = f.rank n.row + 1; high = h.high; standing = standing-at (sym e) n.right_standing }
 
-  pub found-leaf : {s : Slab R} {at : Option ℕ} (t : SearchTree R) {low high : ℕ} (down : Bool) (m : ℕ) (best : Option R) → at ≡ None → IsStanding f s at t low high → found f down m best t ≡ best
-  found-leaf Leaf down m best e h = refl
-  found-leaf (Node l p x r) down m best e h = let none : Some p ≡ None = h.is_at ∙ e in cc
+  pub leaf-standing : {s : Slab R} {at : Option ℕ} (t : SearchTree R) {low high : ℕ} → at ≡ None → IsStanding f s at t low high → t ≡ Leaf
+  leaf-standing Leaf e h = refl
+  leaf-standing (Node l p x r) e h = let none : Some p ≡ None = h.is_at ∙ e in cc

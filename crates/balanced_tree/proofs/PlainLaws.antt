@@ -20,8 +20,8 @@ to_next a e = omega arith
 pub to_second : (a : ℕ) {b c : ℕ} → b ≡ a + 1 → c ≡ b + 1 → c ≤ a + 2
 to_second a e h = omega arith
 
-pub to_fifth : (a : ℕ) {b c d : ℕ} → b ≡ a + 1 → c ≤ b + 3 → d ≡ c + 1 → d ≤ a + 5
-to_fifth a e h g = omega arith
+pub to_fifth : (a : ℕ) {b c : ℕ} → b ≡ a + 1 → c ≤ b + 4 → c ≤ a + 5
+to_fifth a e h = omega arith
 
 pub same_twice : {A : Type 0} {a b c : A} → b ≡ a → c ≡ b → c ≡ a
 same_twice e g = g ∙ e

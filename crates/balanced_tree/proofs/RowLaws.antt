@@ -8,7 +8,7 @@ use Rattle.std.proofs.lemmas.Grind.{common_steps}
 use Rattle.std.proofs.lemmas.List.Elements.{filter-append}
 use Rattle.std.proofs.lemmas.List.Folds.{find-append}
 use Rattle.balanced_tree.specs.Row.{Functions, AreLawful, plain}
-use Rattle.balanced_tree.specs.Rows.{if_at, row_at, row_from, row_to, with_row, without_rank, IsBeside, AreAllBeside, RisesWithin}
+use Rattle.balanced_tree.specs.Rows.{row_at, row_from, row_to, with_row, without_rank, IsBeside, AreAllBeside, RisesWithin}
 use Rattle.balanced_tree.specs.inside.Tree.{SearchTree, Leaf, Node, is_leaf, rows_of, IsOrdered, has_rank, row_in, found, inserted, least, without_least, without_root, removed, moved, AreBeside}
 use Rattle.balanced_tree.proofs.TreeLaws.{rows-balanced, moved-left, moved-right, moved-here, ordered-below, ordered-above}
 
@@ -175,13 +175,6 @@ module _ {R : Type 0} (f : Functions R) where
 
     row_at-here : n ≡ f.rank y → row_at f n (xs ++ y ∷ ys) ≡ Some y
     row_at-here h = let none = find-none (λ m. eqb m n) low (f.rank y) xs left (λ m g e. ne_eqb m n (λ q. absurd (omega arith))) in grind (arith, common_steps, find-append (λ z. eqb (f.rank z) n) xs (y ∷ ys))
-
-  -- the row of a rank is the first from this rank on, if that has it
-  pub row_at-row_from : (n low high : ℕ) (xs : List R) → RisesWithin f low high xs → row_at f n xs ≡ if_at f n (row_from f n xs)
-  row_at-row_from n low high [] h = refl
-  row_at-row_from n low high (y ∷ ys) h =
-      let none = λ (less : n < f.rank y). find-none (λ m. eqb m n) (f.rank y + 1) high ys h.1 (λ m g e. ne_eqb m n (λ q. absurd (omega arith))) in
-      grind (arith, common_steps, row_at-row_from n (f.rank y + 1) high ys h.1)
 
   module _ (laws : AreLawful f) where
     rank-plain : (x : R) → f.rank (plain f x) ≡ f.rank x

@@ -3,14 +3,14 @@ use Rattle.std.proofs.Common.{◌≡◌, ℕ, zero, suc, ◌+◌, ◌-◌, ◌*�
 use Rattle.slab.specs.Slab.{Slab, slab_len}
 use Rattle.balanced_tree.specs.declared.changes.Change.{Change}
 use Rattle.balanced_tree.specs.Row.{Functions, AreLawful, plain}
-use Rattle.balanced_tree.specs.Rows.{if_at, row_at, row_from, row_to, with_row, without_rank, AreAllBeside, IsRising}
+use Rattle.balanced_tree.specs.Rows.{row_at, row_from, row_to, with_row, without_rank, AreAllBeside, IsRising}
 use Rattle.balanced_tree.specs.inside.Tree.{SearchTree, Leaf, Node, place_of, height, child_of, rows_of, has_rank, row_in, found, inserted, removed, moved, AreBeside}
 use Rattle.balanced_tree.specs.inside.Standing.{root_after, Spells, IsStanding, HasInserted, HasRemoved, HasMoved, height_at, rows_down, rows_in, IsTree}
 use Rattle.balanced_tree.proofs.Spelling.{link_of-child_of, child_at-place_of}
 use Rattle.balanced_tree.proofs.Nodes.{height_at-standing}
 use Rattle.balanced_tree.proofs.Hiding.{rooted-link}
 use Rattle.balanced_tree.proofs.TreeLaws.{IsGrown, IsShrunk, grown-inserted, shrunk-removed, place-moved, height-moved, balanced-moved, length-moved}
-use Rattle.balanced_tree.proofs.RowLaws.{option_or-none, rises-rows, rows-inserted, rows-removed, rows-moved, beside-rows, found-row_from, found-row_to, row_in-row_at, length-inserted, length-removed, row_at-row_from}
+use Rattle.balanced_tree.proofs.RowLaws.{option_or-none, rises-rows, rows-inserted, rows-removed, rows-moved, beside-rows, found-row_from, found-row_to, row_in-row_at, length-inserted, length-removed}
 use Rattle.balanced_tree.proofs.Costs.{height-short, look_cost, change_cost}
 
 module _ {R : Type 0} (f : Functions R) (laws : AreLawful f) where
@@ -79,10 +79,7 @@ module _ {R : Type 0} (f : Functions R) (laws : AreLawful f) where
   row_to-IsTree n h =
       found-row_to f laws n None 0 (2 ^ 128) h.tree h.standing.ordered ∙ option_or-none _ ∙ ap (row_to f n) (sym (rows_in-standing h.standing))
 
-  pub row_at-IsTree : {s : Slab R} {root : Option ℕ} (n : ℕ) → (h : IsTree f s root) → row_at f n (rows_in f s root).rows ≡ if_at f n (found f false n None h.tree)
-  row_at-IsTree n h = row_at-row_from f n 0 (2 ^ 128) _ (rising-rows h) ∙ ap (if_at f n) (sym (row_from-IsTree n h))
-
-  row_in-IsTree : {s : Slab R} {root : Option ℕ} (n : ℕ) → (h : IsTree f s root) → row_in f n h.tree ≡ row_at f n (rows_in f s root).rows
+  pub row_in-IsTree : {s : Slab R} {root : Option ℕ} (n : ℕ) → (h : IsTree f s root) → row_in f n h.tree ≡ row_at f n (rows_in f s root).rows
   row_in-IsTree n h = row_in-row_at f laws n 0 (2 ^ 128) h.tree h.standing.ordered ∙ ap (row_at f n) (sym (rows_in-standing h.standing))
 
   pub has_rank-IsTree : {s : Slab R} {root : Option ℕ} (n : ℕ) → (h : IsTree f s root) → has_rank f n h.tree ≡ is_some (row_at f n (rows_in f s root).rows)
@@ -193,11 +190,6 @@ module _ {R : Type 0} (f : Functions R) (laws : AreLawful f) where
   -- no row of the tree has a rank between, as none of those that are seen has
   pub beside-IsTree : {s : Slab R} {root : Option ℕ} (n m : ℕ) → (h : IsTree f s root) → AreAllBeside f n m (rows_in f s root).rows → AreBeside f n m h.tree
   beside-IsTree n m h all = beside-rows f laws n m h.tree (subst (AreAllBeside f n m) (rows_in-standing h.standing) all)
-
-  -- what a look-up by rank answers, from what the way down finds
-  module _ {s : Slab R} {root : Option ℕ} (n : ℕ) (o : Option R) (h : IsTree f s root) (is : o ≡ found f false n None h.tree) where
-    pub at_found : row_at f n (rows_in f s root).rows ≡ if_at f n o
-    at_found = row_at-IsTree n h ∙ ap (if_at f n) (sym is)
 
   pub not_there : {s : Slab R} {root : Option ℕ} (n : ℕ) → (h : IsTree f s root) → IsNone (row_at f n (rows_in f s root).rows) → has_rank f n h.tree ≡ false
   not_there n h none = has_rank-IsTree n h ∙ is_some-none _ none where

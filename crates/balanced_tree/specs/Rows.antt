@@ -25,11 +25,6 @@ module _ {R : Type 0} (f : Functions R) where
   abbrev pub row_at : ℕ → List R → Option R
   row_at n rows = find (λ x. f.rank x == n) rows
 
-  -- the row, if it has this rank
-  abbrev pub if_at : ℕ → Option R → Option R
-  if_at n None = None
-  if_at n (Some x) = cond (f.rank x == n) (Some x) None
-
   -- the first row of this rank or a higher one
   abbrev pub row_from : ℕ → List R → Option R
   row_from n rows = find (λ x. nat_le n (f.rank x)) rows

@@ -4,10 +4,10 @@ ghost use Rattle.std.specs.Prelude.{◌≡◌, ◌+◌, ◌-◌, ◌^◌, ◌<�
 ghost use Rattle.std.specs.Option.{MatchOption, option_map};
 ghost use Rattle.balanced_tree.specs.Gaps.{AreApart, HasNoGap, IsFirstGap};
 ghost use Rattle.balanced_tree.specs.Row.{plain};
-ghost use Rattle.balanced_tree.specs.Rows.{if_at, row_at, row_from, row_to, with_row, without_rank, AreAllBeside, IsRising};
+ghost use Rattle.balanced_tree.specs.Rows.{row_at, row_from, row_to, with_row, without_rank, AreAllBeside, IsRising};
 
 use crate::changes::root_after;
-use crate::descent::{find_below, first_below};
+use crate::descent::{find_below, first_below, row_below};
 use crate::extent_row::ExtentRow;
 use crate::gaps::gap_below;
 use crate::insertion::insert_below;
@@ -89,8 +89,7 @@ impl<R: TreeRow> BalancedTree<R> {
         ensures row { result ≡ row_at R.functions rank self.now.rows }
         ensures cost { 2 ^ (steps.new - steps.old) ≤ (length self.now.rows + 1) ^ 2 }
     {
-        let row = first_below(&self.rows, self.root, rank, steps);
-        if_of_rank(row, rank)
+        alone(row_below(&self.rows, self.root, rank, steps))
     }
 
     /// Returns the first row of this rank or a higher one.
@@ -286,19 +285,6 @@ fn alone<R: TreeRow>(row: Option<&R>) -> Option<R>
     ensures { result ≡ option_map (plain R.functions) (option_copied row.entry) }
 {
     Some(row?.linked(None, None))
-}
-
-/// Returns the row with no children, if it has this rank.
-#[inline(always)]
-fn if_of_rank<R: TreeRow>(row: Option<&R>, rank: u128) -> Option<R>
-    ensures { result ≡ if_at R.functions rank (option_map (plain R.functions) (option_copied row.entry)) }
-{
-    let row = row?;
-    if row.rank() == rank {
-        Some(row.linked(None, None))
-    } else {
-        None
-    }
 }
 
 // The counted calls over a ledger that is thrown away.

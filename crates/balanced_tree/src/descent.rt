@@ -4,7 +4,7 @@ ghost use Rattle.std.specs.Prelude.{◌≡◌, ℕ, ◌+◌, ◌≤◌, false, S
 ghost use Rattle.std.specs.Option.{option_map};
 ghost use Rattle.balanced_tree.specs.Row.{plain};
 ghost use Rattle.balanced_tree.specs.inside.Standing.{IsStanding, Stands};
-ghost use Rattle.balanced_tree.specs.inside.Tree.{SearchTree, height, found};
+ghost use Rattle.balanced_tree.specs.inside.Tree.{SearchTree, height, row_in, found};
 
 use crate::row_slab::RowSlab;
 use crate::steps::Steps;
@@ -46,8 +46,37 @@ pub fn find_below<'a, R: TreeRow, L: Ledger>(
     best
 }
 
-/// Returns the row of this rank, or else the first row of a higher rank. The function is not inlined: a look-up is then
+/// Returns the row of this rank in the tree under a link, where it stands. The function is not inlined: a look-up is then
 /// a call that answers where the row stands, and the caller reads no more of the row than it wants.
+#[inline(never)]
+pub fn row_below<'a, R: TreeRow, L: Ledger>(
+    rows: &'a RowSlab<R>,
+    at: Option<usize>,
+    rank: u128,
+    steps: &mut Steps<L>,
+) -> Option<&'a R>
+    requires { Stands R.functions rows.now at }
+    ensures row { (t : SearchTree R) (low high : ℕ) → IsStanding R.functions rows.now at t low high
+        → option_map (plain R.functions) (option_copied result) ≡ row_in R.functions rank t }
+    ensures steps { (t : SearchTree R) (low high : ℕ) → IsStanding R.functions rows.now at t low high
+        → steps.new ≤ steps.old + height t }
+{
+    let mut at = at;
+    while let Some(place) = at {
+        let here = rows.look(place, steps);
+        let there = here.rank();
+        if rank < there {
+            at = here.left();
+        } else if there < rank {
+            at = here.right();
+        } else {
+            return Some(here);
+        }
+    }
+    None
+}
+
+/// Returns the row of this rank, or else the first row of a higher rank. The function is not inlined, as `row_below` is not.
 #[inline(never)]
 pub fn first_below<'a, R: TreeRow, L: Ledger>(
     rows: &'a RowSlab<R>,

@@ -5,7 +5,7 @@ ghost use Rattle.balanced_tree.specs.inside.Tree.{SearchTree, AreBeside};
 ghost use Rattle.balanced_tree.specs.inside.Standing.{IsStanding, StandsBeside, HasMoved};
 
 use crate::changes::Change;
-use crate::rotation::{change_from, put_again, put_over};
+use crate::rotation::{put_again, put_instead};
 use crate::row_slab::RowSlab;
 use crate::steps::Steps;
 use crate::tree_row::TreeRow;
@@ -32,27 +32,19 @@ pub fn move_below<R: TreeRow, L: Ledger>(
     };
     let here = rows.look(place, steps);
     let there = here.rank();
-    let (left, right) = (here.left(), here.right());
     if rank < there {
-        match move_below(rows, left, rank, row, steps) {
+        let below = here.left();
+        match move_below(rows, below, rank, row, steps) {
             Change::Hidden => Change::Hidden,
-            _ => {
-                let again = rows.row(place, steps);
-                put_again(rows, place, again, left, right, steps)
-            }
+            _ => put_again(rows, place, steps),
         }
     } else if there < rank {
-        match move_below(rows, right, rank, row, steps) {
+        let below = here.right();
+        match move_below(rows, below, rank, row, steps) {
             Change::Hidden => Change::Hidden,
-            _ => {
-                let again = rows.row(place, steps);
-                put_again(rows, place, again, left, right, steps)
-            }
+            _ => put_again(rows, place, steps),
         }
     } else {
-        let had = *here;
-        put_over(rows, place, row, left, right, steps);
-        let now = rows.row(place, steps);
-        change_from(place, had, now)
+        put_instead(rows, place, row, steps)
     }
 }

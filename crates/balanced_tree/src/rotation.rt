@@ -6,7 +6,7 @@ ghost use Rattle.std.specs.Option.{ForSome};
 ghost use Rattle.slab.specs.Slab.{get, slab_len, ContainsKey, Updates};
 ghost use Rattle.balanced_tree.specs.Row.{height_in, AreAlike};
 ghost use Rattle.balanced_tree.specs.inside.Tree.{SearchTree, place_of, leaned_right, leaned_left, balanced};
-ghost use Rattle.balanced_tree.specs.inside.Standing.{child_at, height_at, root_after, IsSplit, Splits, Becomes, Same, IsRooted};
+ghost use Rattle.balanced_tree.specs.inside.Standing.{child_at, height_at, root_after, HasChildren, IsPut, IsSplit, Splits, Becomes, Same, IsRooted};
 
 use crate::changes::Change;
 use crate::children::Child;
@@ -114,7 +114,7 @@ fn place_over<R: TreeRow, L: Ledger>(
 /// Puts a row under a place, over the children under these links, and answers the place. The function is not inlined: a
 /// change calls it at most once.
 #[inline(never)]
-pub fn put_over<R: TreeRow, L: Ledger>(
+fn put_over<R: TreeRow, L: Ledger>(
     rows: &mut RowSlab<R>,
     place: usize,
     row: &R,
@@ -139,7 +139,7 @@ pub fn put_over<R: TreeRow, L: Ledger>(
 
 /// Returns what the row above a place has to store anew, if a row stands there in place of another one.
 #[inline(always)]
-pub fn change_from<R: TreeRow>(place: usize, had: R, row: R) -> Change
+fn change_from<R: TreeRow>(place: usize, had: R, row: R) -> Change
     ensures root { root_after result (Some place) ≡ Some place }
     ensures hidden { result ≡ Hidden → AreAlike R.functions had row }
 {
@@ -150,33 +150,45 @@ pub fn change_from<R: TreeRow>(place: usize, had: R, row: R) -> Change
     }
 }
 
-/// Puts the row of a place there again, over the children under these links, and answers what the row above it has to
-/// store anew.
-#[inline(always)]
+/// Puts a row under a place in place of the one there, over the children of that one, and answers what the row above the
+/// place has to store anew. The function is not inlined: a change calls it at most once.
+#[inline(never)]
+pub fn put_instead<R: TreeRow, L: Ledger>(
+    rows: &mut RowSlab<R>,
+    place: usize,
+    row: &R,
+    steps: &mut Steps<L>,
+) -> Change
+    requires { HasChildren R.functions rows.old place }
+    ensures root { root_after result (Some place) ≡ Some place }
+    ensures put { (had : R) → get rows.old place ≡ Some had → IsPut R.functions rows.old rows.new place had row.now result }
+    ensures len { slab_len rows.new ≡ slab_len rows.old }
+    ensures capacity { rows.new.capacity ≡ rows.old.capacity }
+    ensures steps { steps.new ≤ steps.old + 4 }
+{
+    let had = rows.row(place, steps);
+    let (left, right) = children_of(rows, had, steps);
+    let child = place_over(rows, place, *row, left, right, steps);
+    change_from(place, had, child.row)
+}
+
+/// Puts the row of a place there again, over its children, and answers what the row above it has to store anew. The
+/// function is not inlined: a call on the way down then keeps no more than the place.
+#[inline(never)]
 pub fn put_again<R: TreeRow, L: Ledger>(
     rows: &mut RowSlab<R>,
     place: usize,
-    row: R,
-    left: Option<usize>,
-    right: Option<usize>,
     steps: &mut Steps<L>,
 ) -> Change
-    requires place { ContainsKey rows.old place }
-    requires left { ForSome left (ContainsKey rows.old) }
-    requires right { ForSome right (ContainsKey rows.old) }
+    requires { HasChildren R.functions rows.old place }
     ensures root { root_after result (Some place) ≡ Some place }
-    ensures hidden { result ≡ Hidden → AreAlike R.functions row
-        (R.functions.linked row (child_at rows.old left) (child_at rows.old right)) }
-    ensures updates { Updates rows.old rows.new place
-        (Some (R.functions.linked row (child_at rows.old left) (child_at rows.old right))) }
+    ensures put { (had : R) → get rows.old place ≡ Some had → IsPut R.functions rows.old rows.new place had had result }
     ensures len { slab_len rows.new ≡ slab_len rows.old }
     ensures capacity { rows.new.capacity ≡ rows.old.capacity }
-    ensures steps { steps.new ≤ steps.old + 3 }
+    ensures steps { steps.new ≤ steps.old + 5 }
 {
-    let left = child_under(rows, left, steps);
-    let right = child_under(rows, right, steps);
-    let child = place_over(rows, place, row, left, right, steps);
-    change_from(place, row, child.row)
+    let row = rows.row(place, steps);
+    put_instead(rows, place, &row, steps)
 }
 
 /// Puts the row under its left child: the left child is too high.

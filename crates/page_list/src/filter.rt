@@ -115,13 +115,15 @@ impl Filter {
         Ok(())
     }
 
-    /// Returns how many words the filter is to have, if it is to be made anew: at least two for each row and each of
-    /// `more`. No clause says when it is made anew, since a filter with more bits set is right too.
+    /// Returns how many words the filter is to have, if it is to be made anew. If it has less than two for each row and each
+    /// of `more`, it gets at least four for each, so that the rows can double before it grows again. No clause says when it
+    /// is made anew, since a filter with more bits set is right too.
     fn wanted(&self, rows: u64, more: u64) -> Option<u64> {
         let len = self.words.len() as u64;
         let least = rows.saturating_add(more).saturating_mul(2);
         if len < least {
-            Some(least.max(LEAST_WORDS).checked_next_power_of_two()?)
+            let wide = least.saturating_mul(2).max(LEAST_WORDS);
+            Some(wide.checked_next_power_of_two()?)
         } else if rows.saturating_add(len) < self.gone {
             Some(len)
         } else {

@@ -1,10 +1,11 @@
 -- How a tree stands in a slab, and what changes with a part of it.
 use Rattle.std.specs.Prelude.{◌≡◌, ◌⊎◌, ℕ, ◌+◌, ◌-◌, ◌*◌, ◌^◌, ◌<◌, ◌≤◌, cond, length, List, [], ◌∷◌, ◌++◌, zero, suc, false, Option, None, Some}
-use Rattle.slab.specs.Slab.{Slab, get, slab_len, HasRoomFor}
+use Rattle.std.specs.Option.{ForSome}
+use Rattle.slab.specs.Slab.{Slab, get, slab_len, ContainsKey, HasRoomFor, Updates}
 use Rattle.balanced_tree.specs.declared.changes.Change.{Change}
 use Rattle.balanced_tree.specs.declared.changes.Change.TheVariants.{Hidden, Empty, Root}
 use Rattle.balanced_tree.specs.declared.children.Child.{Child}
-use Rattle.balanced_tree.specs.Row.{Functions, link_of, height_in, plain}
+use Rattle.balanced_tree.specs.Row.{Functions, AreAlike, link_of, height_in, plain}
 use Rattle.balanced_tree.specs.Rows.{Rows}
 use Rattle.balanced_tree.specs.inside.Tree.{SearchTree, Leaf, Node, place_of, height, IsBalanced, child_of, rows_of, IsOrdered, has_rank, row_in, inserted, removed, least, without_least, without_root, moved, AreBeside}
 
@@ -51,6 +52,19 @@ module _ {R : Type 0} (f : Functions R) where
   abbrev pub Spells : Slab R → SearchTree R → Type 0
   Spells s Leaf = Unit {0}
   Spells s (Node l p x r) = (get s p ≡ Some (f.linked x (child_of f l) (child_of f r))) × Spells s l × Spells s r
+
+  -- a row stands at the place, and its links lead to rows
+  pub record HasChildren (s : Slab R) (p : ℕ) : Type 0 where
+    pub row : R
+    pub at : get s p ≡ Some row
+    pub left : ForSome (f.left row) (ContainsKey s)
+    pub right : ForSome (f.right row) (ContainsKey s)
+
+  -- The new slab has the row w at the place, over the children of the row that was there. If c is `Hidden`, the row above
+  -- the place is stored as it was.
+  pub record IsPut (old new : Slab R) (p : ℕ) (had w : R) (c : Change) : Type 0 where
+    pub updates : Updates old new p (Some (f.linked w (child_at old (f.left had)) (child_at old (f.right had))))
+    pub hidden : c ≡ Hidden → AreAlike f had (f.linked w (child_at old (f.left had)) (child_at old (f.right had)))
 
   -- a row differs from another in its children alone
   pub record Same (x y : R) : Type 0 where
