@@ -79,26 +79,31 @@ fn is_silent(line: &[u8]) -> bool
     matches!(line, [] | [b'#', ..])
 }
 
-/// Returns the command of a line. `None` if it has none. Most lines begin with one of four words.
+/// Returns the command of a line. `None` if it has none. Most lines begin with one of four words. No `else` hands an answer on: it
+/// would be copied once for each of them.
 #[inline(always)]
 fn order<'a>(line: &[u8], room: &'a mut [u8]) -> Option<Call<'a>>
     requires { DATA_BYTES ≤ length room.old }
     ensures { option_map command_of result ≡ order_in (words line.now) }
 {
     if let Some(arguments) = behind_word(b"vmo_read", line) {
-        vmo_read_of(arguments)
-    } else if let Some(arguments) = behind_word(b"vmo_write", line) {
-        vmo_write_of(arguments, room)
-    } else if let Some(arguments) = behind_word(b"mem_read", line) {
-        mem_read_of(arguments)
-    } else if let Some(arguments) = behind_word(b"mem_write", line) {
-        mem_write_of(arguments, room)
-    } else {
-        order_of_words(line, room)
+        return vmo_read_of(arguments);
     }
+    if let Some(arguments) = behind_word(b"vmo_write", line) {
+        return vmo_write_of(arguments, room);
+    }
+    if let Some(arguments) = behind_word(b"mem_read", line) {
+        return mem_read_of(arguments);
+    }
+    if let Some(arguments) = behind_word(b"mem_write", line) {
+        return mem_write_of(arguments, room);
+    }
+    order_of_words(line, room)
 }
 
-/// Does what `order` does, for any command. A line of three words at most is read word by word, with no list of them.
+/// Does what `order` does, for any command. A line of three words at most is read word by word, with no list of them. The
+/// function is inlined: its result would be copied once more.
+#[inline(always)]
 fn order_of_words<'a>(line: &[u8], room: &'a mut [u8]) -> Option<Call<'a>>
     requires { DATA_BYTES ≤ length room.old }
     ensures { option_map command_of result ≡ order_in (words line.now) }
