@@ -20,7 +20,7 @@ use Rattle.ready_pages.specs.Changes.{Entries, Covers, AreReadyAt, IsBounded, le
 use Rattle.ready_pages.proofs.SettledLaws.{settled-none, settled-stays}
 use Rattle.machine.specs.Machine.{MachineParts, spaces_in, state_of, machine_of_parts, IsSoundMachine}
 use Rattle.machine.specs.inside.Changes.{change_after, IsNoAccess}
-use Rattle.machine.specs.inside.Steps.{DoesAccess}
+use Rattle.machine.specs.inside.Steps.{DoesAccess, StepsSame}
 use Rattle.machine.proofs.BoundLaws.{done_bounded}
 use Rattle.machine.proofs.StaysLaws.{EntryStays-same}
 use Rattle.machine.proofs.EffectLaws.{effect_settles, covers_same}
@@ -110,3 +110,11 @@ module _ {R : Type 0} (ready : R → Ready) (AreTrue : Content → Entries → R
   access_answered does same notes =
       answered (subst (λ (m : MachineParts R). MachineStep (machine_of_parts ready c old) command reply (machine_of_parts ready d m)) (sym same) (does.step (state_of c old)))
       (subst (λ (m : MachineParts R). AreTrue d (table_of m.maps) new.ready) (sym same) notes)
+
+-- a command was answered by pages that do not change, and nothing else did
+pub same_answered : {R : Type 0} (ready : R → Ready) (AreTrue : Content → Entries → R → Type 0) (c : Content) (m : MachineParts R) (command : Command) (reply : Reply)
+    → IsSoundMachine ready AreTrue c m → StepsSame c command reply → Answers ready AreTrue c m command reply c m
+same_answered ready AreTrue c m command reply sound same =
+    let old = machine_of_parts ready c m in
+    let stays = ap (λ (ch : Change). left_ready ch old.state.pins old.state.spaces.table (settled c c old.state.spaces.table old.ready)) (same.changes old.state) ∙ settled_same old sound.good in
+    answered ready AreTrue c m command reply c m sound same.name (step_leaves old command reply old.state sound.good same.access (same.step old.state) old.ready (sym stays)) sound.notes

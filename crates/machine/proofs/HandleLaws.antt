@@ -11,7 +11,7 @@ use Rattle.region_ops.specs.Spaces.{AreAllWell}
 use Rattle.ready_pages.specs.declared.change.Change.{Change}
 use Rattle.machine.specs.declared.tables.Tables.{Tables}
 use Rattle.machine.specs.inside.Held.{spaces_held}
-use Rattle.machine.specs.inside.Steps.{state_with, AreCounted, DoesTables, DoesSpaces, StepsSame, MissesPlace, Handles, HandlesAll, MissesAll}
+use Rattle.machine.specs.inside.Steps.{state_with, AreCounted, DoesTables, DoesSpaces, MissesPlace, Handles, HandlesAll, MissesAll}
 
 -- a good machine that counts right, and what of it is handed to the commands on VMOs and pins, and to those on regions
 pub counted_in : {c : Content} {vmos : Vmos} {pins : Pins} (spaces : Spaces) → IsWellCounted vmos (state_with c vmos pins spaces) → AreCounted c vmos pins
@@ -35,13 +35,6 @@ pub handles_spaces : {old new : Content} {vmos_old vmos_new : Vmos} (pins : Pins
 handles_spaces {old} {vmos_old = vmos_old} pins {spaces_old = spaces_old} well does =
     let s = state_with old vmos_old pins spaces_old in
     record { step = does.does.step s well; changes = does.changes.is s; counted = does.does.counted s well; name = does.name }
-
--- and what changes nothing
-pub handles_same : {c : Content} {vmos : Vmos} {pins : Pins} {spaces : Spaces} {command : Command} {reply : Reply} → IsWellCounted vmos (state_with c vmos pins spaces)
-    → StepsSame c command reply → Handles c vmos pins spaces command reply Change.None c vmos pins spaces
-handles_same {c} {vmos} {pins} {spaces} well same =
-    let s = state_with c vmos pins spaces in
-    record { step = same.step s; changes = sym (same.changes s); counted = well.counted; name = same.name }
 
 -- a place that is missed is missed in the machine
 pub misses_all : {old new : Content} {before after : Tables} {command : Command} {told : Option ℕ}

@@ -1,16 +1,18 @@
 //! The machine, and its answers.
 
-ghost use Rattle.std.specs.Prelude.{◌≡◌, ◌+◌, ◌<◌, ◌≤◌, length, ⊤, MatchOption};
+ghost use Rattle.std.specs.Prelude.{◌≡◌, ◌≢◌, ◌+◌, ◌<◌, ◌≤◌, length, ⊤, MatchOption};
 ghost use Rattle.vm_base.specs.declared.limits.TheConstants.{DATA_BYTES, KOIDS, PIN_PAGES};
 ghost use Rattle.vm_model.specs.Machine.Lent.{command_of, reply_for};
 ghost use Rattle.vm_model.specs.Machine.MachineStep.{MachineStep};
 ghost use Rattle.mapping_set.specs.Tables.{places_of};
 ghost use Rattle.region_tree.specs.Tree.{regions_of, AreNoted};
 ghost use Rattle.machine.specs.Machine.{machine_of_parts, IsAtPlace, IsSoundMachine, LacksPlace};
+ghost use Rattle.machine.specs.Groups.{group_of};
+ghost use Rattle.machine.specs.declared.groups.Group.{Group};
 ghost use Rattle.machine.specs.inside.Changes.{IsNoAccess};
 
 use crate::address_spaces::AddressSpaces;
-use crate::dispatching::on_memory;
+use crate::dispatching::{on_machine, on_memory};
 use crate::groups::{Group, group_of};
 use crate::tables::Tables;
 use mapping_set::MappingSet;
@@ -168,11 +170,13 @@ impl<R: ReadyNotes> Machine<R> {
                 call,
                 bytes,
             )),
+            Group::Machine => Some(on_machine(pages, call)),
             _ => self.perform(pages, call, told, bytes, numbers),
         }
     }
 
-    // Does a command that is no access, and takes back what it made untrue of what is ready.
+    // Does a command that is no access and no question about the whole machine, and takes back what it made untrue of what is
+    // ready.
     #[inline(always)]
     fn perform<'a, P: Pages>(
         &mut self,
@@ -185,6 +189,7 @@ impl<R: ReadyNotes> Machine<R> {
     where
         R: ReadyPages<P>,
         requires access { IsNoAccess (command_of call.now) }
+        requires machine { group_of call.now ≢ Group.Machine }
         requires sound { IsSoundMachine R.ready R.AreTrue (P.content pages.old) self.old }
         requires next { (P.content pages.old).next < KOIDS }
         requires bytes { DATA_BYTES ≤ length bytes.old }

@@ -1,16 +1,18 @@
 //! The tables of the machine, and what a command does to them.
 
-ghost use Rattle.std.specs.Prelude.{◌≡◌, ◌<◌, ◌≤◌, length, ⊤, MatchOption};
+ghost use Rattle.std.specs.Prelude.{◌≡◌, ◌≢◌, ◌<◌, ◌≤◌, length, ⊤, MatchOption};
 ghost use Rattle.vm_base.specs.declared.limits.TheConstants.{DATA_BYTES, KOIDS, PIN_PAGES};
 ghost use Rattle.vm_model.specs.Machine.Lent.{command_of, reply_for};
 ghost use Rattle.vmo_table.specs.Table.{IsWellCounted};
 ghost use Rattle.machine.specs.Machine.{IsAtPlace};
+ghost use Rattle.machine.specs.Groups.{group_of};
+ghost use Rattle.machine.specs.declared.groups.Group.{Group};
 ghost use Rattle.machine.specs.inside.Changes.{IsNoAccess};
 ghost use Rattle.machine.specs.inside.Held.{spaces_held, AreNotedIn};
 ghost use Rattle.machine.specs.inside.Steps.{state_with, HandlesAll, MissesAll};
 
 use crate::address_spaces::AddressSpaces;
-use crate::dispatching::{on_machine, on_pages, on_pin, on_region, on_vmo};
+use crate::dispatching::{on_pages, on_pin, on_region, on_vmo};
 use crate::groups::{Group, group_of};
 use pages::Pages;
 use pin_table::PinTable;
@@ -31,7 +33,7 @@ pub(crate) struct Tables {
 }
 
 impl Tables {
-    /// Does one command that is no access through mappings. Returns the answer, and what may have changed of the pages that
+    /// Does one command that is no access through mappings and no question about the whole machine. Returns the answer, and what may have changed of the pages that
     /// are ready. If an address is told, a place that the command leaves open is there. `None`, with nothing changed, if
     /// nothing refuses the command, but it can't be there.
     #[inline(always)]
@@ -44,6 +46,7 @@ impl Tables {
         numbers: &'a mut [u64],
     ) -> Option<(Answer<'a>, Change)>
         requires access { IsNoAccess (command_of call.now) }
+        requires machine { group_of call.now ≢ Group.Machine }
         requires well { IsWellCounted self.old.vmos (state_with (P.content pages.old) self.old.vmos self.old.pins (spaces_held self.old.spaces)) }
         requires noted { AreNotedIn self.old.spaces }
         requires next { (P.content pages.old).next < KOIDS }
@@ -67,8 +70,7 @@ impl Tables {
                 call,
                 told,
             ),
-            Group::Machine => Some((on_machine(pages, call), Change::None)),
-            Group::Memory => unreachable!(),
+            Group::Memory | Group::Machine => unreachable!(),
         }
     }
 }

@@ -21,7 +21,7 @@ use Rattle.moving_model.specs.Moving.{tells_place}
 use Rattle.ready_pages.specs.declared.change.Change.{Change}
 use Rattle.machine.specs.Machine.{bare_state, with_memory}
 use Rattle.machine.specs.declared.tables.Tables.{Tables}
-use Rattle.machine.specs.inside.Changes.{change_after}
+use Rattle.machine.specs.inside.Changes.{change_after, IsNoAccess}
 use Rattle.machine.specs.inside.Held.{spaces_held}
 
 -- Pages and the two tables are parts of one good state, and the table of VMOs counts right what keeps each VMO of it.
@@ -102,10 +102,11 @@ pub record MissesRegion (spaces_old : Spaces) (command : Command) (told : Option
       → Effect (record s { spaces = spaces_old }) command (Address address) after → ⊥
   pub spaces : spaces_new ≡ spaces_old
 
--- Pages that do not change do a command, whatever else the machine has.
+-- Pages that do not change do a command that is no access, whatever else the machine has.
 pub record StepsSame (c : Content) (command : Command) (reply : Reply) : Type 0 where
   pub step : (s : State) → Step (record s { content = c }) command reply (record s { content = c })
   pub changes : (s : State) → change_after s command reply ≡ Change.None
+  pub access : IsNoAccess command
   pub name : GivesName command
 
 -- the state of pages, the two tables and the address spaces, which keep all of it

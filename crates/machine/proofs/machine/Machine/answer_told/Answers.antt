@@ -1,7 +1,7 @@
 use Rattle.std.proofs.Common.{refl}
 use Rattle.vm_model.specs.Machine.Lent.{command_of, reply_for}
 use Rattle.machine.specs.inside.Fields.{parts_of}
-use Rattle.machine.proofs.AnswerLaws.{Answers, access_answered}
+use Rattle.machine.proofs.AnswerLaws.{Answers, access_answered, same_answered}
 use Rattle.machine.proofs.machine.Machine.answer_told.Given as given
 use Rattle.machine.proofs.machine.Machine.answer_told.Goals as goal
 
@@ -25,3 +25,22 @@ returns-in-Memory-clause-next g c = (accessed g c).keeps.next
 
 pub returns-in-Memory-clause-frames : goal.returns-in-Memory-clause-frames
 returns-in-Memory-clause-frames g c = (accessed g c).keeps.frames
+
+-- what a question about the whole machine answered
+asked : (g : given.Over) (c : goal.After-on_machine g)
+    → Answers g.R.ReadyNotes.ready g.R.ReadyNotes.AreTrue (g.P.Pages.content c.args.pages.now) c.args.self.now (command_of c.args.call.now) (reply_for c.on_machine.result)
+    (g.P.Pages.content c.args.pages.now) c.args.self.now
+asked g c =
+    same_answered g.R.ReadyNotes.ready g.R.ReadyNotes.AreTrue (g.P.Pages.content c.args.pages.now) c.args.self.now (command_of c.args.call.now) (reply_for c.on_machine.result) c.requires.sound c.on_machine.ensures
+
+pub returns-in-Machine-clause-step : goal.returns-in-Machine-clause-step
+returns-in-Machine-clause-step g c = (asked g c).step
+
+pub returns-in-Machine-clause-sound : goal.returns-in-Machine-clause-sound
+returns-in-Machine-clause-sound g c = (asked g c).sound
+
+pub returns-in-Machine-clause-next : goal.returns-in-Machine-clause-next
+returns-in-Machine-clause-next g c = (asked g c).keeps.next
+
+pub returns-in-Machine-clause-frames : goal.returns-in-Machine-clause-frames
+returns-in-Machine-clause-frames g c = (asked g c).keeps.frames

@@ -1,7 +1,7 @@
 use Rattle.std.proofs.Common.{refl}
 use Rattle.vm_model.specs.Machine.Lent.{reply_for}
 use Rattle.machine.specs.inside.Held.{spaces_held}
-use Rattle.machine.proofs.HandleLaws.{counted_in, spaces_well, handles_tables, handles_placed, handles_same}
+use Rattle.machine.proofs.HandleLaws.{counted_in, spaces_well, handles_tables, handles_placed}
 use Rattle.machine.proofs.tables.Tables.perform.Goals as goal
 
 pub on_vmo-requires-clause-counted : goal.on_vmo-requires-clause-counted
@@ -27,6 +27,3 @@ returns-in-Pin-clause-does g c = handles_tables (spaces_held c.args.self.now.spa
 
 pub returns-in-Region-clause-does : goal.returns-in-Region-clause-does
 returns-in-Region-clause-does g c = handles_placed (λ done. reply_for done.0) (λ done. done.1) _ _ c.args.self.now _ _ c.args.told c.requires.well refl c.on_region.result c.on_region.ensures.does
-
-pub returns-in-Machine-clause-does : goal.returns-in-Machine-clause-does
-returns-in-Machine-clause-does g c = handles_same c.requires.well c.on_machine.ensures
