@@ -1,18 +1,10 @@
 -- Walks over other rows: they stay where the rows to which they come stay, and are alike where the rows show the same frames.
-use Rattle.std.proofs.Common.{◌≡◌, ℕ, ◌&&◌, ◌==◌, Bool, true, false, Option, None, Some, inl, inr, refl, sym, ap, ◌∙◌, subst, ◌<◌, arith}
-use Rattle.std.specs.Option.{option_map, option_or}
-use Rattle.std.proofs.lemmas.Bool.{cases_eq, cond-false, cond-true}
-use Rattle.vm_base.proofs.EntryLaws.{some_same}
-use Rattle.vm_base.proofs.SearchLaws.{eqb_same, eqb_apart}
-use Rattle.balanced_tree.specs.Pairs.{with_pair}
-use Rattle.page_list.specs.declared.row.Slot.{Slot}
-use Rattle.cow_arena.specs.declared.node.Node.{Node}
-use Rattle.cow_arena.specs.declared.node.Side.{Side}
-use Rattle.cow_arena.specs.Nodes.{IsVisible, side_in}
-use Rattle.cow_arena.specs.Walk.{Slots, Tree, Found, from_side, walk, frame_in, frame_found, frame_shown}
-use Rattle.cow_arena.specs.Forest.{IsForest}
-use Rattle.cow_arena.specs.Ways.{Climbs, Reaches, Arrives, SameElsewhere, SameFrames, Sight, sight_of, absent_node, own_row, past_window, on_upwards}
-use Rattle.cow_arena.proofs.WalkLaws.{up-each, begins, walk-absent, walk-row, walk-past, walk-climbs}
+use Rattle.cow_arena.proofs.Words.{◌≡◌, ℕ, ◌&&◌, ◌==◌, Bool, true, false, Option, None, Some, inl, inr, refl, sym, ap, ◌∙◌, subst, ◌<◌}
+use Rattle.cow_arena.proofs.Words.{arith, option_map, option_or, cases_eq, cond-false, cond-true, some_same, eqb_same, eqb_apart, Slot}
+use Rattle.cow_arena.proofs.Words.{Node, Side, IsVisible, side_in, Slots, Tree, Found, from_side, walk, frame_in, frame_found, frame_shown}
+use Rattle.cow_arena.proofs.Words.{IsForest, Climbs, Reaches, Arrives, SameElsewhere, SameFrames, Sight, sight_of, absent_node, own_row}
+use Rattle.cow_arena.proofs.Words.{past_window, on_upwards, with_pair}
+use Rattle.cow_arena.proofs.WalkLaws.{climbs-bare, up-each, begins, walk-absent, walk-row, walk-past, walk-climbs}
 use Rattle.cow_arena.proofs.ReachLaws.{reach-one, reach-more, reach-each, reach-hidden, reach-deeper, hidden-apart, arrives-on}
 
 -- a value at another pair stays
@@ -58,9 +50,7 @@ module _ (t : Tree) (f : IsForest t.nodes t.lists) where
             walk-past (record t { slots = slots }) f k p node at (stays None k p node at (refl, refl) ∙ free) outside
             ∙ sym (walk-past t f k p node at free outside)
         | on_upwards h q c ↦
-            let free = stays None k p c.node c.at (refl, refl) ∙ c.free in
-            walk-climbs (record t { slots = slots }) f k p h q
-            (record { node = c.node; at = c.at; free = free; inside = c.inside; parent = c.parent; page = c.page })
+            walk-climbs (record t { slots = slots }) f k p h q (climbs-bare slots c (stays None k p c.node c.at (refl, refl) ∙ c.free))
             ∙ (ap (from_side (side_in t.nodes k)) (ih h q c (λ side j r node at w. stays (option_or side (side_in t.nodes k)) j r node at (arrives-on t f k p h q side j r c w)))
             ∙ sym (walk-climbs t f k p h q c))
       ])
@@ -86,14 +76,8 @@ module _ (t : Tree) (f : IsForest t.nodes t.lists) where
       (λ k p j r c on ih. reach-more (record t { slots = slots }) k p j r side h q (climbs k p j r c (reach-deeper t f k p side h q (reach-more t k p j r side h q c on))) ih) k p w
     where
       climbs : (k p j r : ℕ) → Climbs t k p j r → f.rank h < f.rank k → Climbs (record t { slots = slots }) k p j r
-      climbs k p j r c deeper = record {
-        node = c.node;
-        at = c.at;
-        free = but.same c.node.list.0 p (λ list _. let same = ap f.rank (f.by.own k h c.node node c.at at list) in absurd (omega arith)) ∙ c.free;
-        inside = c.inside;
-        parent = c.parent;
-        page = c.page;
-      }
+      climbs k p j r c deeper = climbs-bare slots c
+          (but.same c.node.list.0 p (λ list _. let same = ap f.rank (f.by.own k h c.node node c.at at list) in absurd (omega arith)) ∙ c.free)
 
   -- a row of a visible node is nothing to another node, nor to another page
   pub walk-beside : (l q : ℕ) (leaf : Node) (slot : Option Slot) (k p : ℕ) → IsVisible t.nodes l leaf → (k ≡ l → p ≡ q → ⊥) →
@@ -137,14 +121,7 @@ from_side-alike side a b e = sided a ∙ (ap (option_map (λ (it : Sight). recor
 
 module _ (t : Tree) (slots : Slots) (alike : SameFrames t.slots slots) where
   pub climbs-alike : (k p h q : ℕ) → Climbs t k p h q → Climbs (record t { slots = slots }) k p h q
-  climbs-alike k p h q c = record {
-    node = c.node;
-    at = c.at;
-    free = none-alike alike c.node.list.0 p c.free;
-    inside = c.inside;
-    parent = c.parent;
-    page = c.page;
-  }
+  climbs-alike k p h q c = climbs-bare slots c (none-alike alike c.node.list.0 p c.free)
 
   -- walks find the same but for what the row says of sides
   pub walk-alike : IsForest t.nodes t.lists → (k p : ℕ) → option_map sight_of (walk (record t { slots = slots }) k p) ≡ option_map sight_of (walk t k p)

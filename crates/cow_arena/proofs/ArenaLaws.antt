@@ -1,24 +1,19 @@
 -- The arena after each change of its slab: its fields hold what they must, and so many nodes are hidden and visible.
-use Rattle.std.proofs.Common.{◌≡◌, ◌≢◌, ℕ, ◌+◌, ◌-◌, ◌<◌, ◌≤◌, Bool, cond, [], None, Some, ◌⊎◌, refl, sym, ap, subst, ◌∙◌, inl, inr, arith}
-use Rattle.std.specs.Prelude.{IsSome, IsSomeAnd, is_some, is_none}
-use Rattle.slab.specs.Slab.{Slab, get, with_value}
-use Rattle.vm_base.specs.Entries.{with_key, without_key, entry_count}
-use Rattle.vm_base.proofs.SearchLaws.{bit-true, bit-false}
-use Rattle.vm_base.proofs.EntryLaws.{some_same, some_is, entry_count-empty, entry_count_hit, entry_count_le, with_key-cases, without_key-some, entry_count-with_key}
-use Rattle.vm_base.specs.declared.names.Koid.{Koid}
+use Rattle.cow_arena.proofs.Words.{◌≡◌, ◌≢◌, ℕ, ◌+◌, ◌-◌, ◌<◌, ◌≤◌, Bool, cond, [], None, Some, ◌⊎◌, refl, sym, ap, subst, ◌∙◌, inl, inr}
+use Rattle.cow_arena.proofs.Words.{arith, IsSome, IsSomeAnd, is_some, is_none, Slab, get, with_value, with_key, without_key, entry_count}
+use Rattle.cow_arena.proofs.Words.{bit-true, bit-false, some_same, some_is, entry_count-empty, entry_count_hit, entry_count_le}
+use Rattle.cow_arena.proofs.Words.{with_key-cases, without_key-some, entry_count-with_key, Koid, Node, Nodes, Arena, AreFamily, link_to}
+use Rattle.cow_arena.proofs.Words.{nodes_of, node_above, IsForest, IsForestBy, root_node, window_first, relinked, hidden_over, below_hidden}
+use Rattle.cow_arena.proofs.Words.{snapshot_node, paired, lifted, spliced, hidden_count, visible_count, arena_of, root_count, IsArena}
 use Rattle.cow_arena.specs.declared.arena.CowArena.TheInside.{Inside}
-use Rattle.cow_arena.specs.declared.node.Node.{Node}
-use Rattle.cow_arena.specs.Nodes.{Nodes, Arena, AreFamily, link_to, nodes_of, node_above}
-use Rattle.cow_arena.specs.Forest.{IsForest, IsForestBy}
-use Rattle.cow_arena.specs.Changes.{root_node, window_first, relinked, hidden_over, below_hidden, snapshot_node, paired, lifted, spliced}
-use Rattle.cow_arena.specs.Counts.{hidden_count, visible_count}
-use Rattle.cow_arena.specs.inside.Fields.{arena_of, root_count, IsArena}
-use Rattle.cow_arena.proofs.LinkLaws.{link_same}
+use Rattle.cow_arena.proofs.WalkLaws.{link_same}
 use Rattle.cow_arena.proofs.SlotLaws.{nodes_written}
-use Rattle.cow_arena.proofs.ForestLaws.{SamePlace, IsFit, some_and, fits_window, fits_count, no_nodes, resized_by, rooted_by, unrooted_by, root_rank}
+use Rattle.cow_arena.proofs.ForestLaws.{SamePlace, IsFit, some_and, fits_window, fits_count, no_nodes, resized_by, rooted_by, unrooted_by}
+use Rattle.cow_arena.proofs.ForestLaws.{root_rank}
 use Rattle.cow_arena.proofs.PairForestLaws.{paired_by, held_paired, pair_rank}
 use Rattle.cow_arena.proofs.SpliceForestLaws.{spliced_by, held_spliced, s_k, s_h, k_h, parent_is_hidden, sibling_parent}
-use Rattle.cow_arena.proofs.CountLaws.{fewer_hidden, is_none-some, is_hidden, is_visible, is_root, IsDeaf, entry_count-room, entry_count-kept, entry_count-gone, paired_count, spliced_count}
+use Rattle.cow_arena.proofs.CountLaws.{fewer_hidden, is_none-some, is_hidden, is_visible, is_root, IsDeaf, entry_count-room}
+use Rattle.cow_arena.proofs.CountLaws.{entry_count-kept, entry_count-gone, paired_count, spliced_count}
 
 -- the same nodes, in the same room
 entry_count-at : (m n : ℕ) (test : Node → Bool) (nodes others : Nodes) → m ≡ n → nodes ≡ others → entry_count m test nodes ≡ entry_count n test others
@@ -28,11 +23,26 @@ entry_count-at m n test nodes others room same = λ i. entry_count (room i) test
 forest_at : (nodes others : Nodes) (lists : ℕ) (rank : ℕ → ℕ) → others ≡ nodes → IsForestBy nodes lists rank → IsForest others lists
 forest_at nodes others lists rank same by = record { rank = rank; by = subst (λ (map : Nodes). IsForestBy map lists rank) (sym same) by }
 
+-- each node is below the bound after one was put
+held_put : (old bound : ℕ) (nodes map : Nodes) (k : ℕ) (new : Node) → ((n : ℕ) → IsSome (nodes n) → n < old) → old ≤ bound → k < bound →
+    map ≡ with_key nodes k new → (n : ℕ) → IsSome (map n) → n < bound
+held_put old bound nodes map k new held room within is n some =
+    let b = some_is (with_key nodes k new n) (ap (λ (map : Nodes). is_some (map n)) (sym is) ∙ some) in
+    elim (with_key-cases nodes k new n b.0 b.1) [
+      | inl h ↦ omega (arith, h.0, within)
+      | inr h ↦ omega (arith, held n (ap is_some h.1), room)
+    ]
+
 -- b is an arena, and beside the old nodes so many nodes of it are hidden and visible
 pub record IsAfter (old : Arena) (b : Inside) (hidden_is visible_is : ℕ → ℕ → Type 0) : Type 0 where
   pub arena : IsArena b
   pub hidden : hidden_is (hidden_count (arena_of b)) (hidden_count old)
   pub visible : visible_is (visible_count (arena_of b)) (visible_count old)
+
+-- so it is after the arena as a caller sees it
+pub after_seen : {old v : Arena} {b : Inside} {hidden_is visible_is : ℕ → ℕ → Type 0} → old ≡ v → IsAfter old b hidden_is visible_is →
+    IsAfter v b hidden_is visible_is
+after_seen {b = b} {hidden_is = hidden_is} {visible_is = visible_is} view is = subst (λ (v : Arena). IsAfter v b hidden_is visible_is) view is
 
 abbrev pub Same : ℕ → ℕ → Type 0
 Same new old = new ≡ old
@@ -90,14 +100,6 @@ module _ (a : Inside) (arena : IsArena a) (slots : Slab Node) where
     rewritten_count test same = entry_count-at slots.capacity a.nodes.capacity test (get slots) (with_key (get a.nodes) k new) room is
         ∙ entry_count-kept a.nodes.capacity test (get a.nodes) k node new (arena.held k (ap is_some at)) at same
 
-    rewritten_held : (n : ℕ) → IsSome (get slots n) → n < slots.capacity
-    rewritten_held n some =
-        let b = some_is (with_key (get a.nodes) k new n) (ap (λ (map : Nodes). is_some (map n)) (sym is) ∙ some) in
-        elim (with_key-cases (get a.nodes) k new n b.0 b.1) [
-          | inl h ↦ omega (arith, arena.held k (ap is_some at), h.0, room)
-          | inr h ↦ omega (arith, arena.held n (ap is_some h.1), room)
-        ]
-
     pub rewritten : IsAfter (arena_of a) (record a { nodes = slots }) Same Same
     unfolding hidden_count visible_count root_count
     rewritten =
@@ -107,7 +109,8 @@ module _ (a : Inside) (arena : IsArena a) (slots : Slab Node) where
         record {
           arena = record {
             forest = forest_at _ (get slots) a.lists forest.rank is forest.by;
-            held = rewritten_held;
+            held = held_put a.nodes.capacity slots.capacity (get a.nodes) (get slots) k new arena.held (omega (arith, room))
+                (omega (arith, arena.held k (ap is_some at), room)) is;
             hidden = arena.hidden ∙ sym hidden;
             balance = omega (arith, hidden, visible, roots, arena.balance);
           };
@@ -125,14 +128,6 @@ module _ (a : Inside) (arena : IsArena a) (slots : Slab Node) where
         ∙ (entry_count-with_key slots.capacity test (get a.nodes) k (root_node koid a.lists count) within free
         ∙ ap (λ (n : ℕ). n + cond (test (root_node koid a.lists count)) 1 0) (entry_count-room a.nodes.capacity slots.capacity test (get a.nodes) arena.held room))
 
-    rooted_held : (n : ℕ) → IsSome (get slots n) → n < slots.capacity
-    rooted_held n some =
-        let b = some_is (with_key (get a.nodes) k (root_node koid a.lists count) n) (ap (λ (map : Nodes). is_some (map n)) (sym is) ∙ some) in
-        elim (with_key-cases (get a.nodes) k (root_node koid a.lists count) n b.0 b.1) [
-          | inl h ↦ omega (arith, h.0, within)
-          | inr h ↦ omega (arith, arena.held n (ap is_some h.1), room)
-        ]
-
     pub rooted : IsAfter (arena_of a) (record a { nodes = slots; lists = a.lists + 1 }) Same More
     unfolding hidden_count visible_count root_count
     rooted =
@@ -141,7 +136,7 @@ module _ (a : Inside) (arena : IsArena a) (slots : Slab Node) where
           arena = record {
             forest = forest_at _ (get slots) (a.lists + 1) (root_rank (get a.nodes) a.lists arena.forest.rank arena.forest.by k free koid count) is
                 (rooted_by (get a.nodes) a.lists arena.forest.rank arena.forest.by k free koid count);
-            held = rooted_held;
+            held = held_put a.nodes.capacity slots.capacity (get a.nodes) (get slots) k (root_node koid a.lists count) arena.held room within is;
             hidden = omega (arith, arena.hidden, hidden);
             balance = omega (arith, hidden, visible, roots, arena.balance);
           };
@@ -267,7 +262,7 @@ module _ (a : Inside) (arena : IsArena a) (slots : Slab Node) where
 
 module _ (a : Inside) (arena : IsArena a) (v : Arena) (view : arena_of a ≡ v) (k : ℕ) (node : Node) (at : get a.nodes k ≡ Some node) where
   written : (new : Node) → SamePlace node new → (new.count ≡ node.count) ⊎ IsSome node.koid → IsFit (get a.nodes) new → IsAfter v (record a { nodes = with_value a.nodes k new }) Same Same
-  written new place keeps fits = subst (λ (v : Arena). IsAfter v (record a { nodes = with_value a.nodes k new }) Same Same) view
+  written new place keeps fits = after_seen view
       (rewritten a arena (with_value a.nodes k new) k node new at place.koid place.parent
       (record { rank = arena.forest.rank; by = resized_by (get a.nodes) a.lists arena.forest.rank arena.forest.by k node new at place keeps fits }) refl
       (nodes_written a.nodes k new (ap is_some at)))
@@ -300,8 +295,7 @@ pub gone_after : (a : Inside) (arena : IsArena a) (v : Arena) (view : arena_of a
     IsAfter v (record a { nodes = slots }) Same Less
 gone_after a arena v view slots k leaf room is =
     let found = some_and (get a.nodes k) (λ (node : Node). IsSome node.koid × (node.parent ≡ None)) (rw (← view) at leaf) in
-    subst (λ (v : Arena). IsAfter v (record a { nodes = slots }) Same Less) view
-    (unrooted a arena slots k found.0 found.1 found.2.0 found.2.1 room is)
+    after_seen view (unrooted a arena slots k found.0 found.1 found.2.0 found.2.1 room is)
 
 -- ---- the first arena
 
@@ -325,17 +319,6 @@ new_arena slots none =
       },
       visible,
     )
-
--- ---- a root comes, or there is no memory for it
-
-module _ (a : Inside) (arena : IsArena a) (v : Arena) (view : arena_of a ≡ v) (slots : Slab Node) where
-  pub grown_after : a.nodes.capacity ≤ slots.capacity → get slots ≡ get a.nodes → IsAfter v (record a { nodes = slots }) Same Same
-  grown_after room is = subst (λ (v : Arena). IsAfter v (record a { nodes = slots }) Same Same) view (grown a arena slots room is)
-
-  pub rooted_after : (k : ℕ) → get a.nodes k ≡ None → (koid : Koid) (count : ℕ) → a.nodes.capacity ≤ slots.capacity → k < slots.capacity →
-      get slots ≡ with_key (get a.nodes) k (root_node koid a.lists count) → IsAfter v (record a { nodes = slots; lists = a.lists + 1 }) Same More
-  rooted_after k free koid count room within is = subst (λ (v : Arena). IsAfter v (record a { nodes = slots; lists = a.lists + 1 }) Same More) view
-      (rooted a arena slots k free koid count room within is)
 
 -- ---- a snapshot is made
 
@@ -380,7 +363,7 @@ module _ (a : Inside) (arena : IsArena a) (v : Arena) (view : arena_of a ≡ v) 
         let seen_leaf = rw here at (rw (← view) at leaf) in
         let second_step = paired_after (record a { nodes = mid }) first_step.arena slots k h c node at seen_leaf.0 free.0 free.1 free.2 koid first seen count seen_leaf.1 short
         (omega (arith, room)) within.0 within.1 is in
-        subst (λ (v : Arena). IsAfter v (record { nodes = slots; lists = a.lists + 2; hidden = a.hidden + 1 }) More More) view (record {
+        after_seen view (record {
           arena = second_step.arena;
           hidden = omega (arith, first_step.hidden, second_step.hidden);
           visible = omega (arith, first_step.visible, second_step.visible);
@@ -397,8 +380,8 @@ spliced_is nodes k h s parent sibling new is = λ i. with_key (without_key (with
 pub family_same : (make : (h s : ℕ) (parent sibling : Node) → Nodes) (nodes : Nodes) (k h g s r : ℕ) (node was parent above sibling other : Node) →
     AreFamily nodes k h s node parent sibling → AreFamily nodes k g r was above other → make h s parent sibling ≡ make g r above other
 family_same make nodes k h g s r node was parent above sibling other one two =
-    let up = link_same h g (sym one.parent_is ∙ (ap (λ (x : Node). x.parent) (some_same (sym one.at ∙ two.at)) ∙ two.parent_is)) in
-    let beside = link_same s r (sym one.sibling_is ∙ two.sibling_is) in
+    let up = link_same (sym one.parent_is ∙ (ap (λ (x : Node). x.parent) (some_same (sym one.at ∙ two.at)) ∙ two.parent_is)) in
+    let beside = link_same (sym one.sibling_is ∙ two.sibling_is) in
     let parents = some_same (sym one.parent_at ∙ (ap nodes up ∙ two.parent_at)) in
     let siblings = some_same (sym one.sibling_at ∙ (ap nodes beside ∙ two.sibling_at)) in
     λ i. make (up i) (beside i) (parents i) (siblings i)
@@ -425,5 +408,4 @@ module _ (a : Inside) (arena : IsArena a) (v : Arena) (view : arena_of a ≡ v) 
         IsAfter v (record a { nodes = slots; hidden = a.hidden - 1 }) Less Less
     splice_after leaf room =
         let is_leaf = rw (family.at) at (rw (← view) at leaf) in
-        subst (λ (v : Arena). IsAfter v (record a { nodes = slots; hidden = a.hidden - 1 }) Less Less) view
-        (spliced_after a arena slots k h s node parent sibling family is_leaf.0 room is)
+        after_seen view (spliced_after a arena slots k h s node parent sibling family is_leaf.0 room is)

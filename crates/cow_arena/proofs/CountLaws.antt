@@ -1,21 +1,12 @@
 -- How many nodes are hidden, visible, and without a parent, after each change.
-use Rattle.std.proofs.Common.{◌≡◌, ◌≢◌, ℕ, zero, suc, ◌+◌, ◌<◌, ◌≤◌, Bool, false, cond, Option, None, Some, refl, sym, ap, ◌∙◌, inl, inr, arith}
-use Rattle.std.specs.Prelude.{IsSome, is_some, is_none}
-use Rattle.std.specs.Option.{option_map}
-use Rattle.std.proofs.lemmas.Bool.{cases_lt, lt-ltb, false_from_ne_true}
-use Rattle.slab.specs.Slab.{get}
-use Rattle.vm_base.specs.Entries.{with_key, without_key, passes, entry_count}
-use Rattle.vm_base.proofs.SearchLaws.{count_below_gap, bit_same}
-use Rattle.vm_base.proofs.EntryLaws.{passes-some, passes_found, with_key-same, with_key-other, entry_count-change, entry_count-same, entry_count-with_key, entry_count-without_key, entry_count_hit, any_entry_found, any_entry-count, without_key-other}
-use Rattle.vm_base.specs.declared.names.Koid.{Koid}
-use Rattle.cow_arena.specs.declared.node.NodeId.{NodeId}
-use Rattle.cow_arena.specs.declared.node.Node.{Node}
-use Rattle.cow_arena.specs.Nodes.{Nodes}
-use Rattle.cow_arena.specs.Forest.{IsForestBy}
-use Rattle.cow_arena.specs.Changes.{moved_link, relinked, paired, spliced, hidden_over, below_hidden, snapshot_node, lifted}
-use Rattle.cow_arena.specs.Counts.{visible_count, HasFewerHidden}
+use Rattle.cow_arena.proofs.Words.{◌≡◌, ◌≢◌, ℕ, zero, suc, ◌+◌, ◌<◌, ◌≤◌, Bool, false, cond, Option, None, Some, refl, sym, ap, ◌∙◌, inl}
+use Rattle.cow_arena.proofs.Words.{inr, arith, IsSome, is_some, is_none, option_map, cases_lt, lt-ltb, false_from_ne_true, get, with_key}
+use Rattle.cow_arena.proofs.Words.{without_key, passes, entry_count, count_below_gap, bit_same, passes-some, passes_found, with_key-same}
+use Rattle.cow_arena.proofs.Words.{with_key-other, entry_count-change, entry_count-same, entry_count-with_key, entry_count-without_key}
+use Rattle.cow_arena.proofs.Words.{entry_count_hit, any_entry_found, any_entry-count, without_key-other, Koid, NodeId, Node, Nodes}
+use Rattle.cow_arena.proofs.Words.{IsForestBy, moved_link, relinked, paired, spliced, hidden_over, below_hidden, snapshot_node, lifted}
+use Rattle.cow_arena.proofs.Words.{visible_count, HasFewerHidden, arena_of, root_count, IsArena}
 use Rattle.cow_arena.specs.declared.arena.CowArena.TheInside.{Inside}
-use Rattle.cow_arena.specs.inside.Fields.{arena_of, root_count, IsArena}
 use Rattle.cow_arena.proofs.LinkLaws.{moved, relinked_at}
 use Rattle.cow_arena.proofs.ForestLaws.{held_apart}
 

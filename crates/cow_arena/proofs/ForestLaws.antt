@@ -1,16 +1,8 @@
 -- The nodes stay a forest where one gets another count or window, and where a root comes or goes.
-use Rattle.std.proofs.Common.{◌≡◌, ◌≢◌, ℕ, ◌+◌, ◌<◌, ◌≤◌, cond, Option, None, Some, ◌⊎◌, refl, sym, ap, subst, ◌∙◌, inl, inr, arith, ◌==◌}
-use Rattle.std.specs.Prelude.{IsSome, IsSomeAnd, is_some}
-use Rattle.std.proofs.lemmas.Bool.{cases_eq}
-use Rattle.vm_base.specs.Entries.{with_key, without_key}
-use Rattle.vm_base.proofs.SearchLaws.{eqb_same, eqb_apart}
-use Rattle.vm_base.proofs.EntryLaws.{some_same, with_key-here, with_key-other, with_key-cases, without_key-some, without_key-other}
-use Rattle.vm_base.specs.declared.names.Koid.{Koid}
-use Rattle.cow_arena.specs.declared.node.NodeId.{NodeId}
-use Rattle.cow_arena.specs.declared.node.Node.{Node}
-use Rattle.cow_arena.specs.Nodes.{Nodes, link_to, node_above}
-use Rattle.cow_arena.specs.Forest.{IsForest, IsForestBy, HasPair, IsChild, HasAsChild}
-use Rattle.cow_arena.specs.Changes.{root_node}
+use Rattle.cow_arena.proofs.Words.{◌≡◌, ◌≢◌, ℕ, ◌+◌, ◌<◌, ◌≤◌, cond, Option, None, Some, ◌⊎◌, refl, sym, ap, subst, ◌∙◌, inl, inr, arith}
+use Rattle.cow_arena.proofs.Words.{◌==◌, IsSome, IsSomeAnd, is_some, cases_eq, with_key, without_key, eqb_same, eqb_apart, some_same}
+use Rattle.cow_arena.proofs.Words.{with_key-here, with_key-other, with_key-cases, without_key-some, without_key-other, Koid, NodeId, Node}
+use Rattle.cow_arena.proofs.Words.{Nodes, link_to, node_above, IsForest, IsForestBy, HasPair, IsChild, HasAsChild, root_node}
 use Rattle.cow_arena.proofs.LinkLaws.{node_above-root, node_above-child}
 
 -- what is required of a value that is there
@@ -33,6 +25,24 @@ pub roots_apart : (nodes : Nodes) (n k h : ℕ) (a b : Node) → nodes n ≡ Som
 roots_apart nodes n k h a b here there child root same =
     let one = ap (λ (x : Node). x.parent) (some_same (sym there ∙ (ap nodes (sym same) ∙ here))) in
     absurd (let no : ◌≡◌ {A = Option NodeId} None (link_to h) = sym root ∙ (one ∙ child) in cc)
+
+-- a node has its pair of children as long as both are its children
+pub pair_stays : {nodes now : Nodes} {n : ℕ} {a b : Node} → b.left ≡ a.left → b.right ≡ a.right → ((l : ℕ) → IsChild nodes n l → IsChild now n l) →
+    HasPair nodes n a → HasPair now n b
+pair_stays left right stays pair = record {
+  left = pair.left;
+  right = pair.right;
+  left_is = left ∙ pair.left_is;
+  right_is = right ∙ pair.right_is;
+  apart = pair.apart;
+  left_child = stays pair.left pair.left_child;
+  right_child = stays pair.right pair.right_child;
+}
+
+-- and it stays below a parent that stays as it is
+pub below_same : {nodes now : Nodes} {rank after : ℕ → ℕ} {h n : ℕ} {a : Node} (up : HasAsChild nodes rank h n a) → now h ≡ Some up.above →
+    after h < after n → HasAsChild now after h n a
+below_same up at deeper = record { above = up.above; at = at; hidden = up.hidden; side = up.side; window = up.window; deeper = deeper }
 
 -- without nodes there is a forest
 pub no_nodes : (rank : ℕ → ℕ) → IsForestBy (λ k. None) 0 rank
@@ -150,17 +160,7 @@ module _ (nodes : Nodes) (lists : ℕ) (rank : ℕ → ℕ) (f : IsForestBy node
   resized_by = record {
     leaves = λ n b v. let w = was n b v.at in
         let ends = f.leaves n w.0 (record { at = w.1; koid = ap is_some (sym w.2.koid) ∙ v.koid }) in (w.2.left ∙ ends.0, w.2.right ∙ ends.1);
-    pairs = λ n b e hidden. let w = was n b e in
-        let pair = f.pairs n w.0 w.1 (sym w.2.koid ∙ hidden) in
-        record {
-          left = pair.left;
-          right = pair.right;
-          left_is = w.2.left ∙ pair.left_is;
-          right_is = w.2.right ∙ pair.right_is;
-          apart = pair.apart;
-          left_child = child_stays n pair.left pair.left_child;
-          right_child = child_stays n pair.right pair.right_child;
-        };
+    pairs = λ n b e hidden. let w = was n b e in pair_stays w.2.left w.2.right (child_stays n) (f.pairs n w.0 w.1 (sym w.2.koid ∙ hidden));
     below = below_now;
     own = λ i j a b e g same. let v = was i a e in let w = was j b g in f.own i j v.0 w.0 v.1 w.1 (sym v.2.list ∙ same ∙ w.2.list);
     given = λ n b e. let w = was n b e in omega (arith, f.given n w.0 w.1, w.2.list);
@@ -194,32 +194,14 @@ module _ (nodes : Nodes) (lists : ℕ) (rank : ℕ → ℕ) (f : IsForestBy node
   child_held : (h n : ℕ) → IsChild nodes h n → IsChild with_root h n
   child_held h n child = record { node = child.node; at = held_stays n child.node child.at; parent = child.parent }
 
-  pair_held : (n : ℕ) (a : Node) → HasPair nodes n a → HasPair with_root n a
-  pair_held n a pair = record {
-    left = pair.left;
-    right = pair.right;
-    left_is = pair.left_is;
-    right_is = pair.right_is;
-    apart = pair.apart;
-    left_child = child_held n pair.left pair.left_child;
-    right_child = child_held n pair.right pair.right_child;
-  }
-
   below_held : (h n : ℕ) (a : Node) → nodes n ≡ Some a → HasAsChild nodes rank h n a → HasAsChild with_root root_rank h n a
-  below_held h n a e up = record {
-    above = up.above;
-    at = held_stays h up.above up.at;
-    hidden = up.hidden;
-    side = up.side;
-    window = up.window;
-    deeper = omega (arith, up.deeper, rank_stays n a e, rank_stays h up.above up.at);
-  }
+  below_held h n a e up = below_same up (held_stays h up.above up.at) (omega (arith, up.deeper, rank_stays n a e, rank_stays h up.above up.at))
 
   pub rooted_by : IsForestBy with_root (lists + 1) root_rank
   rooted_by = record {
     leaves = λ n b v. each_rooted (λ n b. IsSome b.koid → (b.left ≡ None) × (b.right ≡ None)) (λ some. (refl, refl))
         (λ n a e some. f.leaves n a (record { at = e; koid = some })) n b v.at v.koid;
-    pairs = each_rooted (λ n b. b.koid ≡ None → HasPair with_root n b) (λ hidden. absurd (cc)) (λ n a e hidden. pair_held n a (f.pairs n a e hidden));
+    pairs = each_rooted (λ n b. b.koid ≡ None → HasPair with_root n b) (λ hidden. absurd (cc)) (λ n a e hidden. pair_stays refl refl (child_held n) (f.pairs n a e hidden));
     below = λ h. each_rooted (λ n b. b.parent ≡ link_to h → HasAsChild with_root root_rank h n b) (λ child. absurd (cc))
         (λ n a e child. below_held h n a e (f.below h n a e child));
     own = λ i j a b e g same. each_rooted (λ i a. a.list.0 ≡ b.list.0 → i ≡ j)
@@ -248,31 +230,13 @@ module _ (nodes : Nodes) (lists : ℕ) (rank : ℕ → ℕ) (f : IsForestBy node
     parent = child.parent;
   }
 
-  pair_kept : (n : ℕ) (a : Node) → HasPair nodes n a → HasPair less_root n a
-  pair_kept n a pair = record {
-    left = pair.left;
-    right = pair.right;
-    left_is = pair.left_is;
-    right_is = pair.right_is;
-    apart = pair.apart;
-    left_child = child_kept n pair.left pair.left_child;
-    right_child = child_kept n pair.right pair.right_child;
-  }
-
   below_kept : (h n : ℕ) (a : Node) → HasAsChild nodes rank h n a → HasAsChild less_root rank h n a
-  below_kept h n a up = record {
-    above = up.above;
-    at = without_key-other nodes k h (kinds_apart nodes h k up.above node up.at at up.hidden koid) ∙ up.at;
-    hidden = up.hidden;
-    side = up.side;
-    window = up.window;
-    deeper = up.deeper;
-  }
+  below_kept h n a up = below_same up (without_key-other nodes k h (kinds_apart nodes h k up.above node up.at at up.hidden koid) ∙ up.at) up.deeper
 
   pub unrooted_by : IsForestBy less_root lists rank
   unrooted_by = record {
     leaves = λ n b v. f.leaves n b (record { at = kept n b v.at; koid = v.koid });
-    pairs = λ n b e hidden. pair_kept n b (f.pairs n b (kept n b e) hidden);
+    pairs = λ n b e hidden. pair_stays refl refl (child_kept n) (f.pairs n b (kept n b e) hidden);
     below = λ h n b e child. below_kept h n b (f.below h n b (kept n b e) child);
     own = λ i j a b e g same. f.own i j a b (kept i a e) (kept j b g) same;
     given = λ n b e. f.given n b (kept n b e);

@@ -1,3 +1,4 @@
+pub mod Words
 pub mod LinkLaws
 pub mod SlotLaws
 pub mod ForestLaws

@@ -1,23 +1,10 @@
 -- Laws of links: the node above a node, its sibling, and a link that is moved.
-use Rattle.std.proofs.Common.{◌≡◌, ◌≢◌, ℕ, ◌+◌, ◌≤◌, Bool, true, false, cond, Option, None, Some, refl, sym, ap, ◌∙◌, inl, inr, arith, ◌==◌}
-use Rattle.std.specs.Prelude.{IsSome, IfSome, is_some, is_none}
-use Rattle.std.specs.Option.{option_map}
-use Rattle.std.proofs.lemmas.Bool.{cases_eq}
+use Rattle.cow_arena.proofs.Words.{◌≡◌, ◌≢◌, ℕ, ◌+◌, ◌≤◌, Bool, true, false, cond, Option, None, Some, refl, sym, ap, ◌∙◌, inl, inr, arith}
+use Rattle.cow_arena.proofs.Words.{◌==◌, IsSome, IfSome, is_some, is_none, option_map, cases_eq, passes, eqb_same, eqb_apart, some_same}
+use Rattle.cow_arena.proofs.Words.{none_is, NodeId, Node, Side, Nodes, leads_to, link_to, child_on, other_side, side_of, node_above}
+use Rattle.cow_arena.proofs.Words.{sibling_in, AreFamily, IsForest, IsForestBy, HasPair, IsChild, moved_link, relinked}
 use Rattle.std.proofs.lemmas.Bool.Decides.{nat_tests}
-use Rattle.vm_base.specs.Entries.{passes}
-use Rattle.vm_base.proofs.SearchLaws.{eqb_same, eqb_apart}
-use Rattle.vm_base.proofs.EntryLaws.{some_same, none_is}
-use Rattle.cow_arena.specs.declared.node.NodeId.{NodeId}
-use Rattle.cow_arena.specs.declared.node.Node.{Node}
-use Rattle.cow_arena.specs.declared.node.Side.{Side}
-use Rattle.cow_arena.specs.declared.node.Side.TheVariants as side
-use Rattle.cow_arena.specs.Nodes.{Nodes, leads_to, link_to, child_on, other_side, side_of, node_above, sibling_in, AreFamily}
-use Rattle.cow_arena.specs.Forest.{IsForest, IsForestBy, HasPair, IsChild}
-use Rattle.cow_arena.specs.Changes.{moved_link, relinked}
-
--- two links to one node
-pub link_same : (h k : ℕ) → link_to h ≡ link_to k → h ≡ k
-link_same h k e = ap (λ (x : NodeId). x.0) (some_same e)
+use Rattle.cow_arena.proofs.WalkLaws.{link_same}
 
 -- ---- the node above
 
@@ -62,8 +49,8 @@ module _ (nodes : Nodes) (lists : ℕ) (f : IsForest nodes lists) (k : ℕ) (nod
       rw (node_above-child nodes h.0 k node at e, above.at) (on_side above.above pair (other_side (side_of above.above k)))
     where
       on_side : (above : Node) → HasPair nodes h.0 above → (s : Side) → is_none (child_on above s) ≡ false
-      on_side above pair side.Left = ap is_none pair.left_is
-      on_side above pair side.Right = ap is_none pair.right_is
+      on_side above pair Side.Left = ap is_none pair.left_is
+      on_side above pair Side.Right = ap is_none pair.right_is
 
   -- and has a sibling there
   pub sibling_none : is_none (sibling_in nodes k) ≡ is_none node.parent
@@ -79,12 +66,12 @@ module _ (nodes : Nodes) (lists : ℕ) (f : IsForest nodes lists) (k h : ℕ) (n
 
   -- a node that has a child has another, and both are there
   pub other_child : (s : Side) → (n : ℕ) × (child_on parent s ≡ link_to n) × IsSome (nodes n)
-  other_child side.Left = let pair = f.by.pairs h parent there above_hidden in (pair.left, pair.left_is, ap is_some pair.left_child.at)
-  other_child side.Right = let pair = f.by.pairs h parent there above_hidden in (pair.right, pair.right_is, ap is_some pair.right_child.at)
+  other_child Side.Left = let pair = f.by.pairs h parent there above_hidden in (pair.left, pair.left_is, ap is_some pair.left_child.at)
+  other_child Side.Right = let pair = f.by.pairs h parent there above_hidden in (pair.right, pair.right_is, ap is_some pair.right_child.at)
 
   -- the child on this side is there
   pub child_there : (s : Side) (n : ℕ) → child_on parent s ≡ link_to n → IsSome (nodes n)
-  child_there s n is = let other = other_child s in ap (λ (m : ℕ). is_some (nodes m)) (link_same n other.0 (sym is ∙ other.1)) ∙ other.2
+  child_there s n is = let other = other_child s in ap (λ (m : ℕ). is_some (nodes m)) (link_same (sym is ∙ other.1)) ∙ other.2
 
   pub child_some : (s : Side) → child_on parent s ≢ None
   child_some s none = let no : ◌≡◌ {A = Option NodeId} None (link_to (other_child s).0) = sym none ∙ (other_child s).1 in absurd cc
@@ -183,7 +170,7 @@ module _ (nodes : Nodes) (lists : ℕ) (rank : ℕ → ℕ) (f : IsForestBy node
   relinked_by j n None e = stays_elsewhere j n (nodes n) refl (λ is. absurd (let no : ◌≡◌ {A = Option NodeId} None (link_to n) = sym e ∙ is in cc))
   relinked_by j n (Some h) e = elim (cases_eq n h.0) [
     | inl same ↦ rw (same, eqb_same h.0) refl
-    | inr apart ↦ rw (eqb_apart n h.0 apart) (stays_elsewhere j n (nodes n) refl (λ is. apart (link_same n h.0 (sym is ∙ e))))
+    | inr apart ↦ rw (eqb_apart n h.0 apart) (stays_elsewhere j n (nodes n) refl (λ is. apart (link_same (sym is ∙ e))))
   ]
 
   -- where node j is below its parent in place of it, the links are moved at each node

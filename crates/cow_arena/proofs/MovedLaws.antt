@@ -1,15 +1,7 @@
 -- Walks over other nodes: they stay where the nodes that they pass say the same of rows, windows, parents and sides.
-use Rattle.std.proofs.Common.{◌≡◌, ◌≢◌, ℕ, Option, None, Some, refl, sym, ap, ◌∙◌, arith}
-use Rattle.std.specs.Prelude.{IsSome, is_some, ◌↔◌}
-use Rattle.vm_base.proofs.EntryLaws.{some_same}
-use Rattle.page_list.specs.declared.row.Slot.{Slot}
-use Rattle.cow_arena.specs.declared.node.NodeId.{NodeId}
-use Rattle.cow_arena.specs.declared.node.Node.{Node}
-use Rattle.cow_arena.specs.declared.node.Side.{Side}
-use Rattle.cow_arena.specs.Nodes.{Nodes, link_to, child_on, side_in}
-use Rattle.cow_arena.specs.Walk.{Tree, from_side, walk}
-use Rattle.cow_arena.specs.Forest.{IsForest}
-use Rattle.cow_arena.specs.Ways.{HasRow, Climbs, Reaches, absent_node, own_row, past_window, on_upwards}
+use Rattle.cow_arena.proofs.Words.{◌≡◌, ◌≢◌, ℕ, Option, None, Some, refl, sym, ap, ◌∙◌, arith, IsSome, is_some, ◌↔◌, some_same, Slot}
+use Rattle.cow_arena.proofs.Words.{NodeId, Node, Side, Nodes, link_to, child_on, side_in, Tree, from_side, walk, IsForest, HasRow, Climbs}
+use Rattle.cow_arena.proofs.Words.{IsPageAbove, Reaches, absent_node, own_row, past_window, on_upwards}
 use Rattle.cow_arena.proofs.WalkLaws.{climb_below, up-each, begins, walk-row, walk-past, walk-climbs}
 use Rattle.cow_arena.proofs.ReachLaws.{reach-one, reach-more, reach-each, side-of-child, side-of-parent, hidden-of-child}
 
@@ -54,19 +46,26 @@ same-side nodes new lists now_lists f g j i node now at now_at parent child = wi
         let there = child h.0 was.0 was.1 e was.2 was.3 in
         side-of-child new now_lists g h.0 i there.0 was.1 there.1 there.2 ∙ sym was.4
 
-pub climbs-moved : (t u : Tree) (j i : ℕ) → SameStep t u j i → (p h q : ℕ) → Climbs t j p h q → Climbs u i p h q
-climbs-moved t u j i s p h q c =
-    let same : c.node ≡ s.node = some_same (sym c.at ∙ s.at) in
+-- a node says of its window, its parent and its side what another said
+pub page-moved : (t u : Tree) (k i p j r : ℕ) → SameStep t u k i → IsPageAbove t k p j r → IsPageAbove u i p j r
+page-moved t u k i p j r s step =
+    let same : step.node ≡ s.node = some_same (sym step.at ∙ s.at) in
     let seen = ap (λ (n : Node). n.seen) same in
     let first = ap (λ (n : Node). n.first) same in
     record {
       node = s.now;
       at = s.now_at;
-      free = s.rows p ∙ (ap (λ (n : Node). t.slots n.list.0 p) (sym same) ∙ c.free);
-      inside = let now_seen = s.seen in let inside = c.inside in omega arith;
-      parent = s.parent ∙ (ap (λ (n : Node). n.parent) (sym same) ∙ c.parent);
-      page = let now_first = s.first in let page = c.page in omega arith;
+      inside = let now_seen = s.seen in let inside = step.inside in omega arith;
+      parent = s.parent ∙ (ap (λ (n : Node). n.parent) (sym same) ∙ step.parent);
+      page = let now_first = s.first in let page = step.page in omega arith;
     }
+
+pub climbs-moved : (t u : Tree) (j i : ℕ) → SameStep t u j i → (p h q : ℕ) → Climbs t j p h q → Climbs u i p h q
+unfolding page-moved
+climbs-moved t u j i s p h q c =
+    let it = page-moved t u j i p h q s (record { node = c.node; at = c.at; inside = c.inside; parent = c.parent; page = c.page }) in
+    let free = s.rows p ∙ (ap (λ (n : Node). t.slots n.list.0 p) (some_same (sym s.at ∙ c.at)) ∙ c.free) in
+    record { node = it.node; at = it.at; free = free; inside = it.inside; parent = it.parent; page = it.page }
 
 -- it has the rows of the other
 pub row-moved : (t u : Tree) (j i p : ℕ) (slot : Slot) → SameStep t u j i → HasRow t j p slot → HasRow u i p slot

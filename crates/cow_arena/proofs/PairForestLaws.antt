@@ -1,16 +1,11 @@
 -- The nodes stay a forest after a snapshot.
-use Rattle.std.proofs.Common.{◌≡◌, ◌≢◌, ℕ, ◌+◌, ◌<◌, ◌≤◌, Bool, true, false, cond, Option, None, Some, ◌⊎◌, refl, sym, ap, subst, ◌∙◌, inl, inr, arith, ◌==◌}
-use Rattle.std.specs.Prelude.{IsSome, is_some}
-use Rattle.std.specs.Option.{option_map}
-use Rattle.std.proofs.lemmas.Bool.{cases_eq}
-use Rattle.vm_base.proofs.SearchLaws.{eqb_same, eqb_apart}
-use Rattle.vm_base.proofs.EntryLaws.{some_same, some_is, with_key-same, with_key-other}
-use Rattle.vm_base.specs.declared.names.Koid.{Koid}
-use Rattle.cow_arena.specs.declared.node.Node.{Node}
-use Rattle.cow_arena.specs.Nodes.{Nodes, link_to}
-use Rattle.cow_arena.specs.Forest.{IsForestBy, HasPair, IsChild, HasAsChild}
-use Rattle.cow_arena.specs.Changes.{window_first, moved_link, paired, hidden_over, below_hidden, snapshot_node}
-use Rattle.cow_arena.proofs.LinkLaws.{link_same, moved, moved_key, moved_key-here, moved_key-other, moved_key-apart, moved_link-none, moved_link-to, moved_link-here, moved_link-other, relinked_at}
+use Rattle.cow_arena.proofs.Words.{◌≡◌, ◌≢◌, ℕ, ◌+◌, ◌<◌, ◌≤◌, Bool, true, false, cond, Option, None, Some, ◌⊎◌, refl, sym, ap, subst, ◌∙◌}
+use Rattle.cow_arena.proofs.Words.{inl, inr, arith, ◌==◌, IsSome, is_some, option_map, cases_eq, eqb_same, eqb_apart, some_same, some_is}
+use Rattle.cow_arena.proofs.Words.{with_key-same, with_key-other, Koid, Node, Nodes, link_to, IsForestBy, HasPair, IsChild, HasAsChild}
+use Rattle.cow_arena.proofs.Words.{window_first, moved_link, paired, hidden_over, below_hidden, snapshot_node}
+use Rattle.cow_arena.proofs.WalkLaws.{link_same}
+use Rattle.cow_arena.proofs.LinkLaws.{moved, moved_key, moved_key-here, moved_key-other, moved_key-apart, moved_link-none, moved_link-to}
+use Rattle.cow_arena.proofs.LinkLaws.{moved_link-here, moved_link-other, relinked_at}
 use Rattle.cow_arena.proofs.ForestLaws.{held_apart, kinds_apart}
 
 -- a window without pages begins at 0, and still ends where it may
@@ -216,29 +211,26 @@ module _ (nodes : Nodes) (lists : ℕ) (rank : ℕ → ℕ) (f : IsForestBy node
 
   -- ---- the forest
 
-  leaves_now : (n : ℕ) (b : Node) → now n ≡ Some b → IsSome b.koid → (b.left ≡ None) × (b.right ≡ None)
-  leaves_now = each_now (λ n b. IsSome b.koid → (b.left ≡ None) × (b.right ≡ None))
-      (λ some. absurd cc)
-      (λ some. f.leaves k node (record { at = at; koid = visible }))
-      (λ some. (refl, refl))
-      (λ n a n_k e some. let ends = f.leaves n a (record { at = e; koid = some }) in (ap (moved_link k h) ends.0 ∙ moved_link-none k h, ap (moved_link k h) ends.1 ∙ moved_link-none k h))
-
-  below_now : (p n : ℕ) (b : Node) → now n ≡ Some b → b.parent ≡ link_to p → HasAsChild now pair_rank p n b
-  below_now p = each_now (λ n b. b.parent ≡ link_to p → HasAsChild now pair_rank p n b)
-      (λ child. below_hidden_at p (f.below p k node at child))
-      (λ child. subst (λ (q : ℕ). HasAsChild now pair_rank q k below_at) (link_same h p child) below_new_left)
-      (λ child. subst (λ (q : ℕ). HasAsChild now pair_rank q c snapshot_at) (link_same h p child) below_new_right)
-      (λ n a n_k e child. below_other p n a n_k e (f.below p n a e child))
-
   pub paired_by : IsForestBy now (lists + 2) pair_rank
   paired_by = record {
-    leaves = λ n b v. leaves_now n b v.at v.koid;
+    leaves = λ n b v. each_now (λ n b. IsSome b.koid → (b.left ≡ None) × (b.right ≡ None))
+        (λ some. absurd cc)
+        (λ some. f.leaves k node (record { at = at; koid = visible }))
+        (λ some. (refl, refl))
+        (λ n a n_k e some.
+        let ends = f.leaves n a (record { at = e; koid = some }) in
+        (ap (moved_link k h) ends.0 ∙ moved_link-none k h, ap (moved_link k h) ends.1 ∙ moved_link-none k h))
+        n b v.at v.koid;
     pairs = each_now (λ n b. b.koid ≡ None → HasPair now n b)
         (λ hidden. pair_new)
         (λ hidden. absurd (let no = sym visible ∙ ap is_some hidden in cc))
         (λ hidden. absurd cc)
         (λ n a n_k e hidden. pair_now n a (f.pairs n a e hidden));
-    below = below_now;
+    below = λ p. each_now (λ n b. b.parent ≡ link_to p → HasAsChild now pair_rank p n b)
+        (λ child. below_hidden_at p (f.below p k node at child))
+        (λ child. subst (λ (q : ℕ). HasAsChild now pair_rank q k below_at) (link_same child) below_new_left)
+        (λ child. subst (λ (q : ℕ). HasAsChild now pair_rank q c snapshot_at) (link_same child) below_new_right)
+        (λ n a n_k e child. below_other p n a n_k e (f.below p n a e child));
     own = λ i j a b e g same. own_now i j b.list.0 (subst (Owner i) same (owner i a e)) (owner j b g);
     given = each_now (λ n b. b.list.0 < lists + 2) (omega (arith, f.given k node at)) (omega arith) (omega arith) (λ n a n_k e. omega (arith, f.given n a e));
     ranks = each_now (λ n b. pair_rank n < lists + 2) (omega (arith, f.ranks k node at, rank_h)) (omega (arith, f.ranks k node at, rank_k))

@@ -1,22 +1,11 @@
 -- Walks after a snapshot: the hidden node has the rows of the leaf, which sees all of it, and the new node sees its window.
-use Rattle.std.proofs.Common.{◌≡◌, ◌≢◌, ℕ, ◌+◌, ◌<◌, ◌≤◌, Option, None, Some, ◌⊎◌, inl, inr, refl, sym, ap, ◌∙◌, subst, arith}
-use Rattle.std.proofs.lemmas.Bool.{cases_eq}
-use Rattle.vm_base.specs.declared.names.Koid.{Koid}
-use Rattle.vm_base.proofs.SearchLaws.{eqb_apart}
-use Rattle.vm_base.proofs.EntryLaws.{some_same, with_key-same, with_key-other}
-use Rattle.page_list.specs.declared.row.ListId.{ListId}
-use Rattle.page_list.specs.declared.row.Slot.{Slot}
-use Rattle.cow_arena.specs.declared.node.NodeId.{NodeId}
-use Rattle.cow_arena.specs.declared.node.Node.{Node}
-use Rattle.cow_arena.specs.declared.node.Side.{Side}
-use Rattle.cow_arena.specs.declared.node.Side.TheVariants as side
-use Rattle.cow_arena.specs.Nodes.{IsVisible, link_to, child_on, side_in}
-use Rattle.cow_arena.specs.Walk.{Tree, from_side, walk, frame_found, frame_shown}
-use Rattle.cow_arena.specs.Forest.{IsForest, IsListed, HasListedRows}
-use Rattle.cow_arena.specs.Changes.{relinked, hidden_over, below_hidden, snapshot_node, paired}
-use Rattle.cow_arena.specs.Ways.{Climbs, Reaches}
+use Rattle.cow_arena.proofs.Words.{◌≡◌, ◌≢◌, ℕ, ◌+◌, ◌<◌, ◌≤◌, Option, None, Some, ◌⊎◌, inl, inr, refl, sym, ap, ◌∙◌, subst, arith}
+use Rattle.cow_arena.proofs.Words.{cases_eq, Koid, eqb_apart, some_same, with_key-same, with_key-other, ListId, Slot, NodeId, Node, Side}
+use Rattle.cow_arena.proofs.Words.{IsVisible, link_to, child_on, side_in, Tree, from_side, walk, frame_found, frame_shown, IsForest}
+use Rattle.cow_arena.proofs.Words.{IsListed, HasListedRows, relinked, hidden_over, below_hidden, snapshot_node, paired, Climbs, Reaches}
 use Rattle.cow_arena.proofs.WalkLaws.{climb_below, walk-own, walk-past}
-use Rattle.cow_arena.proofs.ReachLaws.{reach-one, reach-more, reach-cases, climbs-same, side-of-child, hidden-of-child, side-kept, hidden-apart, walk-reach}
+use Rattle.cow_arena.proofs.ReachLaws.{reach-one, reach-more, reach-cases, climbs-same, side-of-child, hidden-of-child, side-kept}
+use Rattle.cow_arena.proofs.ReachLaws.{hidden-apart, walk-reach}
 use Rattle.cow_arena.proofs.MovedLaws.{SameStep, step-back, same-side, climbs-moved, step-free, walk-moved, reach-moved, reach-back}
 use Rattle.cow_arena.proofs.RelinkLaws.{relinked-stays, relinked-here}
 use Rattle.cow_arena.proofs.ForestLaws.{held_apart}
@@ -38,9 +27,7 @@ module _ (t : Tree) (f : IsForest t.nodes t.lists) (rows : HasListedRows t) wher
       none None e = e
       none (Some slot) e =
           let of = rows.listed l p slot e in
-          let given = f.by.given of.k of.node of.at in
-          let named = of.named in
-          absurd (omega arith)
+          absurd (omega (arith, f.by.given of.k of.node of.at, of.named))
 
 -- Node i, below node h on this side, has no rows and sees this window of it.
 pub record Views (t : Tree) (h i : ℕ) (s : Side) (first seen : ℕ) : Type 0 where
@@ -68,10 +55,7 @@ module _ {t : Tree} {h i : ℕ} {s : Side} {first seen : ℕ} (v : Views t h i s
 
   views-inside : (p x y : ℕ) → Climbs t i p x y → p < seen
   views-inside p x y step =
-      let seen_was = ap (λ (n : Node). n.seen) (some_same (sym step.at ∙ v.at)) in
-      let seen_is = v.seen_is in
-      let inside = step.inside in
-      omega arith
+      omega (arith, ap (λ (n : Node). n.seen) (some_same (sym step.at ∙ v.at)), v.seen_is, step.inside)
 
 module _ (t : Tree) (f : IsForest t.nodes t.lists) (k : ℕ) (leaf : Node) (visible : IsVisible t.nodes k leaf) (h c : ℕ) (koid : Koid) (first seen count : ℕ)
     (no_h : t.nodes h ≡ None) (no_c : t.nodes c ≡ None) (apart : h ≢ c) (g : IsForest (paired t.nodes k leaf h c t.lists koid first seen count) (t.lists + 2)) where
@@ -194,25 +178,25 @@ module _ (t : Tree) (f : IsForest t.nodes t.lists) (k : ℕ) (leaf : Node) (visi
   -- ---- the nodes below the hidden node
 
   -- the leaf sees all of it
-  pub pair-views-leaf : HasListedRows t → Views after h k side.Left 0 leaf.count
+  pub pair-views-leaf : HasListedRows t → Views after h k Side.Left 0 leaf.count
   pair-views-leaf rows = record {
     node = below_hidden leaf h t.lists;
     at = leaf-at;
     free = λ p. rows-fresh t f rows t.lists p (omega arith);
     parent = refl;
-    side = side-of-child after.nodes after.lists g h k (hidden_over leaf k c) side.Left hidden-at refl;
+    side = side-of-child after.nodes after.lists g h k (hidden_over leaf k c) Side.Left hidden-at refl;
     first_is = λ some_page. refl;
     seen_is = refl;
   }
 
   -- and the node of the snapshot its window
-  pub pair-views-child : HasListedRows t → Views after h c side.Right first seen
+  pub pair-views-child : HasListedRows t → Views after h c Side.Right first seen
   pair-views-child rows = record {
     node = snapshot_node koid h (t.lists + 1) first seen count;
     at = child-at;
     free = λ p. rows-fresh t f rows (t.lists + 1) p (omega arith);
     parent = refl;
-    side = side-of-child after.nodes after.lists g h c (hidden_over leaf k c) side.Right hidden-at refl;
+    side = side-of-child after.nodes after.lists g h c (hidden_over leaf k c) Side.Right hidden-at refl;
     first_is = λ some_page. rw (eqb_apart seen 0 (λ none. omega arith)) refl;
     seen_is = refl;
   }

@@ -1,19 +1,9 @@
 -- Laws of the ways upwards in a forest: which child a step comes from, what a way ends at, and that it is the only one.
-use Rattle.std.proofs.Common.{◌≡◌, ◌≢◌, ℕ, zero, suc, ◌+◌, ◌<◌, ◌==◌, Bool, false, Option, None, Some, ◌⊎◌, inl, inr, refl, sym, ap, ◌∙◌, subst, arith}
-use Rattle.std.specs.Prelude.{IsSome, is_some}
-use Rattle.std.specs.Option.{option_or}
-use Rattle.std.proofs.lemmas.Bool.{cases_eq}
-use Rattle.vm_base.specs.Entries.{passes}
-use Rattle.vm_base.proofs.SearchLaws.{eqb_same, eqb_apart}
-use Rattle.vm_base.proofs.EntryLaws.{some_same}
-use Rattle.page_list.specs.declared.row.Slot.{Slot}
-use Rattle.cow_arena.specs.declared.node.Node.{Node}
-use Rattle.cow_arena.specs.declared.node.Side.{Side}
-use Rattle.cow_arena.specs.declared.node.Side.TheVariants as side
-use Rattle.cow_arena.specs.Nodes.{Nodes, IsVisible, link_to, child_on, side_of, side_in}
-use Rattle.cow_arena.specs.Walk.{Tree, Found, from_side, walk}
-use Rattle.cow_arena.specs.Forest.{IsForest, IsChild, HasPair}
-use Rattle.cow_arena.specs.Ways.{HasRow, Climbs, ReachesIn, Reaches, Arrives, Ends, absent_node, own_row, past_window, on_upwards}
+use Rattle.cow_arena.proofs.Words.{◌≡◌, ◌≢◌, ℕ, zero, suc, ◌+◌, ◌<◌, ◌==◌, Bool, false, Option, None, Some, ◌⊎◌, inl, inr, refl, sym, ap}
+use Rattle.cow_arena.proofs.Words.{◌∙◌, subst, arith, IsSome, is_some, option_or, cases_eq, passes, eqb_same, eqb_apart, some_same, Slot}
+use Rattle.cow_arena.proofs.Words.{Node, Side, Nodes, IsVisible, link_to, child_on, side_of, side_in, Tree, Found, from_side, walk}
+use Rattle.cow_arena.proofs.Words.{IsForest, IsChild, HasPair, HasRow, Climbs, ReachesIn, Reaches, Arrives, Ends, absent_node, own_row}
+use Rattle.cow_arena.proofs.Words.{past_window, on_upwards}
 use Rattle.cow_arena.proofs.WalkLaws.{link_same, climb_below, up-each, begins, walk-absent, walk-row, walk-past, walk-climbs}
 
 -- ---- ways, step by step
@@ -62,8 +52,8 @@ module _ (nodes : Nodes) (lists : ℕ) (f : IsForest nodes lists) where
   hidden-of-child h k above s at child = with_koid above.koid refl
     where
       no_child : (side : Side) → (above.left ≡ None) × (above.right ≡ None) → child_on above side ≡ link_to k → IsVisible nodes h above → above.koid ≡ None
-      no_child side.Left none e v = absurd (let left = none.0 in cc)
-      no_child side.Right none e v = absurd (let right = none.1 in cc)
+      no_child Side.Left none e v = absurd (let left = none.0 in cc)
+      no_child Side.Right none e v = absurd (let right = none.1 in cc)
 
       with_koid : (o : Option _) → above.koid ≡ o → above.koid ≡ None
       with_koid None e = e
@@ -77,8 +67,8 @@ module _ (nodes : Nodes) (lists : ℕ) (f : IsForest nodes lists) where
       on_side s child (f.by.pairs h above at (hidden-of-child h k above s at child))
     where
       on_side : (side : Side) → child_on above side ≡ link_to k → HasPair nodes h above → IsChild nodes h k
-      on_side side.Left e pair = subst (IsChild nodes h) (link_same (sym pair.left_is ∙ e)) pair.left_child
-      on_side side.Right e pair = subst (IsChild nodes h) (link_same (sym pair.right_is ∙ e)) pair.right_child
+      on_side Side.Left e pair = subst (IsChild nodes h) (link_same (sym pair.left_is ∙ e)) pair.left_child
+      on_side Side.Right e pair = subst (IsChild nodes h) (link_same (sym pair.right_is ∙ e)) pair.right_child
 
   pub side-is : (h k : ℕ) (above node : Node) → nodes h ≡ Some above → nodes k ≡ Some node → node.parent ≡ link_to h → side_in nodes k ≡ Some (side_of above k)
   side-is h k above node above_at at parent = rw (at, parent, above_at) refl
@@ -91,8 +81,8 @@ module _ (nodes : Nodes) (lists : ℕ) (f : IsForest nodes lists) where
       side-is h k above it.node at it.at it.parent ∙ ap Some (on_side s child (f.by.pairs h above at (hidden-of-child h k above s at child)))
     where
       on_side : (side : Side) → child_on above side ≡ link_to k → HasPair nodes h above → side_of above k ≡ side
-      on_side side.Left e pair = rw (e, eqb_same k) refl
-      on_side side.Right e pair =
+      on_side Side.Left e pair = rw (e, eqb_same k) refl
+      on_side Side.Right e pair =
           let other : ◌≡◌ {A = Bool} (pair.left == k) false = eqb_apart pair.left k (λ same. pair.apart (same ∙ sym (link_same (sym pair.right_is ∙ e)))) in
           rw (pair.left_is, other) refl
 
@@ -102,8 +92,8 @@ module _ (nodes : Nodes) (lists : ℕ) (f : IsForest nodes lists) where
   side-of-parent h k node at parent =
       let below = f.by.below h k node at parent in
       elim below.side [
-        | inl e ↦ (below.above, side.Left, below.at, e, side-of-child h k below.above side.Left below.at e)
-        | inr e ↦ (below.above, side.Right, below.at, e, side-of-child h k below.above side.Right below.at e)
+        | inl e ↦ (below.above, Side.Left, below.at, e, side-of-child h k below.above Side.Left below.at e)
+        | inr e ↦ (below.above, Side.Right, below.at, e, side-of-child h k below.above Side.Right below.at e)
       ]
 
 module _ (t : Tree) (f : IsForest t.nodes t.lists) where
@@ -143,18 +133,14 @@ module _ (t : Tree) (f : IsForest t.nodes t.lists) where
       last k p c is r w = elim (reach-cases t k r u h x w) [
         | inl one ↦ ((climbs-same k p h q r h x c one.0).1, some_same (sym is ∙ one.1))
         | inr on ↦
-            let deeper = reach-deeper on.0 on.1 u h x on.3 in
-            let same = ap f.rank (climbs-same k p h q r on.0 on.1 c on.2).0 in
-            absurd (omega arith)
+            absurd (omega (arith, reach-deeper on.0 on.1 u h x on.3, ap f.rank (climbs-same k p h q r on.0 on.1 c on.2).0))
       ]
 
       more : (k p j y : ℕ) → Climbs t k p j y → Reaches t j y s h q → ((r : ℕ) → Reaches t j r u h x → (q + r ≡ x + y) × (s ≡ u)) →
           (r : ℕ) → Reaches t k r u h x → (q + r ≡ x + p) × (s ≡ u)
       more k p j y c way ih r w = elim (reach-cases t k r u h x w) [
         | inl one ↦
-            let deeper = reach-deeper j y s h q way in
-            let same = ap f.rank (climbs-same k p j y r h x c one.0).0 in
-            absurd (omega arith)
+            absurd (omega (arith, reach-deeper j y s h q way, ap f.rank (climbs-same k p j y r h x c one.0).0))
         | inr on ↦
             let steps = climbs-same k p j y r on.0 on.1 c on.2 in
             let further = ih on.1 (subst (λ i. Reaches t i on.1 u h x) (sym steps.0) on.3) in
@@ -296,9 +282,7 @@ module _ (t : Tree) (f : IsForest t.nodes t.lists) where
       | absent_node e ↦ inr (none k p apart (λ j r c. absurd (let at = c.at in cc)))
       | own_row slot r ↦ inr (none k p apart (λ j x c. absurd (let free = ap (λ (n : Node). t.slots n.list.0 p) (some_same (sym r.at ∙ c.at)) ∙ c.free in let row = r.row in cc)))
       | past_window node at free outside ↦ inr (none k p apart (λ j x c.
-          let seen = ap (λ (n : Node). n.seen) (some_same (sym at ∙ c.at)) in
-          let inside = c.inside in
-          absurd (omega arith)))
+          absurd (omega (arith, ap (λ (n : Node). n.seen) (some_same (sym at ∙ c.at)), c.inside))))
       | on_upwards j r c ↦ after k p j r c apart (ih j r c)
     ]
   ])

@@ -1,14 +1,6 @@
 -- What a node says after another node took the place of one of its children.
-use Rattle.std.proofs.Common.{◌≡◌, ◌≢◌, ℕ, Option, None, Some, inl, inr, refl, sym, ap, subst, ◌∙◌}
-use Rattle.std.proofs.lemmas.Bool.{cases_eq}
-use Rattle.vm_base.proofs.EntryLaws.{some_same}
-use Rattle.vm_base.proofs.SearchLaws.{eqb_same, eqb_apart}
-use Rattle.cow_arena.specs.declared.node.NodeId.{NodeId}
-use Rattle.cow_arena.specs.declared.node.Node.{Node}
-use Rattle.cow_arena.specs.declared.node.Side.{Side}
-use Rattle.cow_arena.specs.declared.node.Side.TheVariants as side
-use Rattle.cow_arena.specs.Nodes.{Nodes, link_to, child_on}
-use Rattle.cow_arena.specs.Changes.{relinked}
+use Rattle.cow_arena.proofs.Words.{◌≡◌, ◌≢◌, ℕ, Option, None, Some, inl, inr, refl, sym, ap, subst, ◌∙◌, cases_eq, some_same, eqb_same}
+use Rattle.cow_arena.proofs.Words.{eqb_apart, NodeId, Node, Side, Nodes, link_to, child_on, relinked}
 use Rattle.cow_arena.proofs.LinkLaws.{moved, moved_link-here, moved_link-other}
 
 -- the node but for its links, of which those to other nodes than k stay
@@ -28,8 +20,8 @@ relinked-moved : (k j : ℕ) (a : Node) → IsRelinked k a (moved k j a)
 relinked-moved k j a = record { koid = refl; list = refl; parent = refl; count = refl; first = refl; seen = refl; child = child }
   where
     child : (s : Side) (l : ℕ) → l ≢ k → child_on a s ≡ link_to l → child_on (moved k j a) s ≡ link_to l
-    child side.Left l apart e = moved_link-other k j l a.left apart e
-    child side.Right l apart e = moved_link-other k j l a.right apart e
+    child Side.Left l apart e = moved_link-other k j l a.left apart e
+    child Side.Right l apart e = moved_link-other k j l a.right apart e
 
 -- a node after node j came below the parent in place of its child k
 pub relinked-stays : (nodes : Nodes) (parent : Option NodeId) (k j n : ℕ) (a : Node) → nodes n ≡ Some a → (b : Node) × (relinked nodes parent k j n ≡ Some b) × IsRelinked k a b
@@ -47,8 +39,8 @@ unfolding relinked
 relinked-here nodes k j n a s at e = (moved k j a, rw (eqb_same n, at) refl, child s e)
   where
     child : (s : Side) → child_on a s ≡ link_to k → child_on (moved k j a) s ≡ link_to j
-    child side.Left e = moved_link-here k j a.left e
-    child side.Right e = moved_link-here k j a.right e
+    child Side.Left e = moved_link-here k j a.left e
+    child Side.Right e = moved_link-here k j a.right e
 
 -- a key without a node stays without one
 pub relinked-absent : (nodes : Nodes) (parent : Option NodeId) (k j n : ℕ) → nodes n ≡ None → relinked nodes parent k j n ≡ None

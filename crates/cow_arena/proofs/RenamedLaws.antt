@@ -1,18 +1,11 @@
 -- A tree under other list numbers: its walks are the same, and its nodes are a forest.
-use Rattle.std.proofs.Common.{◌≡◌, ◌≢◌, ℕ, zero, suc, ◌<◌, ◌≤◌, Option, None, Some, inl, inr, refl, sym, ap, subst, ◌∙◌, arith}
-use Rattle.std.specs.Option.{option_map}
-use Rattle.std.specs.Prelude.{IsSome}
-use Rattle.std.proofs.lemmas.Bool.{cases_eq}
-use Rattle.vm_base.proofs.SearchLaws.{eqb_same, eqb_apart}
-use Rattle.vm_base.proofs.EntryLaws.{some_same}
-use Rattle.cow_arena.specs.declared.node.NodeId.{NodeId}
-use Rattle.cow_arena.specs.declared.node.Node.{Node}
-use Rattle.cow_arena.specs.Nodes.{Nodes, link_to, side_of, side_in}
-use Rattle.cow_arena.specs.Walk.{Tree, from_side, walk_over, walk, frame_found, frame_shown}
-use Rattle.cow_arena.specs.Forest.{IsForest, IsForestBy, IsChild, HasPair, HasAsChild}
-use Rattle.cow_arena.specs.Renamed.{exchanged, renamed_node, renamed_nodes, renamed, IsExchange}
-use Rattle.cow_arena.specs.Ways.{absent_node, own_row, past_window, on_upwards}
+use Rattle.cow_arena.proofs.Words.{◌≡◌, ◌≢◌, ℕ, zero, suc, ◌<◌, ◌≤◌, Option, None, Some, inl, inr, refl, sym, ap, subst, ◌∙◌, arith}
+use Rattle.cow_arena.proofs.Words.{option_map, IsSome, cases_eq, eqb_same, eqb_apart, some_same, NodeId, Node, Nodes, link_to, side_of}
+use Rattle.cow_arena.proofs.Words.{side_in, Tree, from_side, walk_over, walk, frame_found, frame_shown, IsForest, IsForestBy, IsChild}
+use Rattle.cow_arena.proofs.Words.{HasPair, HasAsChild, exchanged, renamed_node, renamed_nodes, renamed, IsExchange, absent_node, own_row}
+use Rattle.cow_arena.proofs.Words.{past_window, on_upwards}
 use Rattle.cow_arena.proofs.WalkLaws.{over-none, over-absent, over-own, over-past, over-up, begins}
+use Rattle.cow_arena.proofs.ForestLaws.{pair_stays}
 
 -- ---- two numbers that are exchanged
 
@@ -94,23 +87,12 @@ module _ (name : ℕ → ℕ) (lists : ℕ) (exchange : IsExchange name lists) (
   child : (h k : ℕ) → IsChild nodes h k → IsChild (renamed_nodes name nodes) h k
   child h k c = record { node = renamed_node name c.node; at = renamed-at name nodes k c.node c.at; parent = c.parent }
 
-  pair : (k : ℕ) (node : Node) → HasPair nodes k node → HasPair (renamed_nodes name nodes) k (renamed_node name node)
-  pair k node p = record {
-    left = p.left;
-    right = p.right;
-    left_is = p.left_is;
-    right_is = p.right_is;
-    apart = p.apart;
-    left_child = child k p.left p.left_child;
-    right_child = child k p.right p.right_child;
-  }
-
   pub forest-renamed_by : IsForestBy (renamed_nodes name nodes) lists rank
   forest-renamed_by = record {
     leaves = λ k now v. renamed-each name nodes (λ k now. IsSome now.koid → (now.left ≡ None) × (now.right ≡ None))
         (λ k node at koid. f.leaves k node (record { at = at; koid = koid })) k now v.at v.koid;
     pairs = renamed-each name nodes (λ k now. now.koid ≡ None → HasPair (renamed_nodes name nodes) k now)
-        (λ k node at hidden. pair k node (f.pairs k node at hidden));
+        (λ k node at hidden. pair_stays refl refl (child k) (f.pairs k node at hidden));
     below = λ h. renamed-each name nodes (λ k now. now.parent ≡ link_to h → HasAsChild (renamed_nodes name nodes) rank h k now)
         (λ k node at parent.
         let b = f.below h k node at parent in

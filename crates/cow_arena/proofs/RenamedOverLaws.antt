@@ -1,23 +1,14 @@
 -- A leaf goes with its parent, and its sibling has the parent's list: the tree is the one in which the sibling has its own, with
 -- the two list numbers exchanged.
-use Rattle.std.proofs.Common.{◌≡◌, ◌≢◌, ◌⊎◌, ℕ, Option, None, Some, inl, inr, refl, sym, ap, subst, ◌∙◌}
-use Rattle.std.specs.Prelude.{IsSome, IsSomeAnd}
-use Rattle.std.specs.Option.{option_map}
-use Rattle.std.proofs.lemmas.Bool.{cases_eq}
-use Rattle.vm_base.specs.Entries.{with_key, without_key}
-use Rattle.vm_base.proofs.EntryLaws.{some_same, with_key-here, with_key-same, with_key-other, with_key-cases, without_key-some, without_key-other}
-use Rattle.page_list.specs.declared.row.ListId.{ListId}
-use Rattle.page_list.specs.declared.row.Slot.{Slot}
-use Rattle.cow_arena.specs.declared.node.Node.{Node}
-use Rattle.cow_arena.specs.declared.node.NodeId.{NodeId}
-use Rattle.cow_arena.specs.Nodes.{Arena, Nodes, nodes_of, IsVisible, AreFamily, sibling_in, other_side, side_of}
-use Rattle.cow_arena.specs.Walk.{Tree, Slots, tree_with, walk}
-use Rattle.cow_arena.specs.Forest.{IsForest, IsForestBy, IsListed, HasListedRows}
-use Rattle.cow_arena.specs.Changes.{relinked, lifted, spliced, spliced_over}
-use Rattle.cow_arena.specs.Renamed.{exchanged, renamed_node, renamed_nodes, renamed, IsExchange, AreExchanged}
-use Rattle.cow_arena.specs.Views.{KeepsWalks, KeepsListed}
+use Rattle.cow_arena.proofs.Words.{◌≡◌, ◌≢◌, ◌⊎◌, ℕ, Option, None, Some, inl, inr, refl, sym, ap, subst, ◌∙◌, IsSome, IsSomeAnd, option_map}
+use Rattle.cow_arena.proofs.Words.{cases_eq, with_key, without_key, some_same, with_key-here, with_key-same, with_key-other, with_key-cases}
+use Rattle.cow_arena.proofs.Words.{without_key-some, without_key-other, ListId, Slot, Node, NodeId, Arena, Nodes, nodes_of, IsVisible}
+use Rattle.cow_arena.proofs.Words.{AreFamily, sibling_in, other_side, side_of, Tree, Slots, tree_with, walk, IsForest, IsForestBy, IsListed}
+use Rattle.cow_arena.proofs.Words.{HasListedRows, relinked, lifted, spliced, spliced_over, exchanged, renamed_node, renamed_nodes, renamed}
+use Rattle.cow_arena.proofs.Words.{IsExchange, AreExchanged}
 use Rattle.cow_arena.proofs.ReachLaws.{child-there}
 use Rattle.cow_arena.proofs.RelinkLaws.{relinked-stays, relinked-was}
+use Rattle.cow_arena.proofs.SpliceWalkLaws.{rowless}
 use Rattle.cow_arena.proofs.ViewLaws.{spliced-keeps}
 use Rattle.cow_arena.proofs.RenamedLaws.{exchanged-second, exchanged-other, exchange-of, forest-renamed_by, walk-renamed}
 
@@ -118,17 +109,11 @@ module _ (nodes : Nodes) (lists : ℕ) (rank : ℕ → ℕ) (f : IsForestBy node
   unfolding spliced_over
   over-listed slots bare left rows = record { listed = λ l p slot e. here l p slot e (rows.listed l p slot e) }
     where
-      rowless : (n i l p : ℕ) (a b : Node) (slot : Slot) → i ≡ n → nodes i ≡ Some a → nodes n ≡ Some b → ((p : ℕ) → slots b.list.0 p ≡ None) →
-          a.list.0 ≡ l → slots l p ≡ Some slot → ⊥
-      rowless n i l p a b slot same at there none named e =
-          let list = sym (ap (λ (x : Node). x.list.0) (some_same (sym at ∙ (ap nodes same ∙ there)))) ∙ named in
-          absurd (let free = sym (ap (λ m. slots m p) list) ∙ none p in cc)
-
       here : (l p : ℕ) (slot : Slot) → slots l p ≡ Some slot → IsListed nodes l → IsListed (spliced_over nodes k h s parent sibling) l
       here l p slot e of = elim (cases_eq of.k k) [
-        | inl same ↦ absurd (rowless k of.k l p of.node node slot same of.at family.at bare of.named e)
+        | inl same ↦ absurd (rowless nodes slots k of.k l p of.node node slot same of.at family.at bare of.named e)
         | inr j_k ↦ elim (cases_eq of.k s) [
-          | inl same ↦ absurd (rowless s of.k l p of.node sibling slot same of.at family.sibling_at left of.named e)
+          | inl same ↦ absurd (rowless nodes slots s of.k l p of.node sibling slot same of.at family.sibling_at left of.named e)
           | inr j_s ↦ elim (cases_eq of.k h) [
             | inl same ↦
                 let one : parent ≡ of.node = some_same (sym family.parent_at ∙ (sym (ap nodes same) ∙ of.at)) in
@@ -198,21 +183,17 @@ module _ (old : Arena) (new : Nodes) (lists : ℕ) (f : IsForest (nodes_of old) 
 
   pub keeps-walks_over : IsForest (spliced (nodes_of old) k h s parent sibling) old.lists → (slots over : Slots) →
       AreExchanged slots over parent.list.0 sibling.list.0 → ((p : ℕ) → slots parent.list.0 p ≡ None) →
-      KeepsWalks (tree_with (nodes_of old) old.lists slots) (tree_with new lists over) k h
-  keeps-walks_over g slots over rows empty = record {
-    walks = λ j p j_k j_h.
-        let t : Tree = tree_with (nodes_of old) old.lists slots in
-        let u : Tree = tree_with (spliced (nodes_of old) k h s parent sibling) old.lists slots in
-        let name = over-exchange (nodes_of old) old.lists f.rank f.by k h s leaf parent sibling family in
-        ap (λ (x : Tree). walk x j p)
-        (sym (over_now over) ∙ tree-over (nodes_of old) old.lists f.rank f.by k h s leaf parent sibling family slots over rows)
-        ∙ (walk-renamed (exchanged parent.list.0 sibling.list.0) name.twice u g j p
-        ∙ (spliced-keeps t f k h s leaf parent sibling family visible empty g).walks j p j_k j_h);
-  }
+      (j p : ℕ) → j ≢ k → j ≢ h → walk (tree_with new lists over) j p ≡ walk (tree_with (nodes_of old) old.lists slots) j p
+  keeps-walks_over g slots over rows empty j p j_k j_h =
+      let t : Tree = tree_with (nodes_of old) old.lists slots in
+      let u : Tree = tree_with (spliced (nodes_of old) k h s parent sibling) old.lists slots in
+      let name = over-exchange (nodes_of old) old.lists f.rank f.by k h s leaf parent sibling family in
+      ap (λ (x : Tree). walk x j p)
+      (sym (over_now over) ∙ tree-over (nodes_of old) old.lists f.rank f.by k h s leaf parent sibling family slots over rows)
+      ∙ (walk-renamed (exchanged parent.list.0 sibling.list.0) name.twice u g j p
+      ∙ spliced-keeps t f k h s leaf parent sibling family visible empty g j p j_k j_h)
 
   pub keeps-listed_over : (slots : Slots) → ((p : ℕ) → slots leaf.list.0 p ≡ None) → ((p : ℕ) → slots sibling.list.0 p ≡ None) →
-      KeepsListed (tree_with (nodes_of old) old.lists slots) (tree_with new lists slots)
-  keeps-listed_over slots bare left = record {
-    listed = λ rows. subst HasListedRows (over_now slots)
-        (over-listed (nodes_of old) old.lists f.rank f.by k h s leaf parent sibling family slots bare left rows);
-  }
+      HasListedRows (tree_with (nodes_of old) old.lists slots) → HasListedRows (tree_with new lists slots)
+  keeps-listed_over slots bare left rows =
+      subst HasListedRows (over_now slots) (over-listed (nodes_of old) old.lists f.rank f.by k h s leaf parent sibling family slots bare left rows)

@@ -1,19 +1,11 @@
 -- Laws of the ways upwards from a page of a node, whether it has a row there or not: they are joined, and stay where rows go, where
 -- a visible node gets rows or changes, and where a snapshot is made.
-use Rattle.std.proofs.Common.{◌≡◌, ◌≢◌, ℕ, ◌+◌, ◌<◌, None, Some, inl, inr, refl, sym, ap, ◌∙◌, subst, arith}
-use Rattle.std.specs.Prelude.{IsSome, is_some}
-use Rattle.vm_base.specs.declared.names.Koid.{Koid}
-use Rattle.vm_base.proofs.EntryLaws.{some_same}
-use Rattle.cow_arena.specs.declared.node.Node.{Node}
-use Rattle.cow_arena.specs.declared.node.Side.{Side}
-use Rattle.cow_arena.specs.Nodes.{Nodes, IsVisible, side_in}
-use Rattle.cow_arena.specs.Walk.{Tree, Slots}
-use Rattle.cow_arena.specs.Forest.{IsForest}
-use Rattle.cow_arena.specs.Changes.{paired}
-use Rattle.cow_arena.specs.Ways.{Climbs, Reaches, IsPageAbove, Rises, KeepsBare}
-use Rattle.cow_arena.proofs.WalkLaws.{climb_below}
+use Rattle.cow_arena.proofs.Words.{◌≡◌, ◌≢◌, ℕ, ◌+◌, ◌<◌, None, Some, inl, inr, refl, sym, ap, ◌∙◌, subst, arith, IsSome, is_some, Koid}
+use Rattle.cow_arena.proofs.Words.{some_same, Node, Side, Nodes, IsVisible, side_in, Tree, Slots, IsForest, paired, Climbs, Reaches}
+use Rattle.cow_arena.proofs.Words.{IsPageAbove, Rises, KeepsBare}
+use Rattle.cow_arena.proofs.WalkLaws.{climb_below, climbs-bare}
 use Rattle.cow_arena.proofs.ReachLaws.{reach-one, reach-more, reach-each, hidden-apart, hidden-of-child}
-use Rattle.cow_arena.proofs.MovedLaws.{SameStep, IsChangeOf, other-same, same-side, reach-stays}
+use Rattle.cow_arena.proofs.MovedLaws.{page-moved, IsChangeOf, other-same, same-side, reach-stays}
 use Rattle.cow_arena.proofs.PairWalkLaws.{paired_tree, pair-same-hidden, pair-same-other, pair-reach-other}
 
 module _ (t : Tree) where
@@ -43,7 +35,7 @@ module _ (t : Tree) where
       ]
 
   -- a way, and a way on from there
-  reach-then : (k p : ℕ) (side : Side) (h q : ℕ) (last : Side) (g r : ℕ) → Reaches t k p side h q → Reaches t h q last g r → Reaches t k p last g r
+  pub reach-then : (k p : ℕ) (side : Side) (h q : ℕ) (last : Side) (g r : ℕ) → Reaches t k p side h q → Reaches t h q last g r → Reaches t k p last g r
   reach-then k p side h q last g r way on = reach-each t side h q (λ k p. Reaches t k p last g r)
       (λ k p c _. reach-more t k p h q last g r c on)
       (λ k p j x c _ ih. reach-more t k p j x last g r c ih) k p way
@@ -83,23 +75,17 @@ module _ (t : Tree) (f : IsForest t.nodes t.lists) (slots : Slots) (v : ℕ) (le
   abbrev with_slots : Tree
   with_slots = record { nodes = t.nodes; slots = slots; lists = t.lists }
 
-  climbs-bare : (k p h q : ℕ) (node : Node) → t.nodes k ≡ Some node → node.koid ≡ None → Climbs t k p h q → Climbs with_slots k p h q
-  climbs-bare k p h q node at hidden c = record {
-    node = c.node;
-    at = c.at;
-    free = keeps.bare c.node.list.0 p (λ same. hidden-apart t f k v node leaf at hidden visible (f.by.own k v c.node leaf c.at visible.at same)) c.free;
-    inside = c.inside;
-    parent = c.parent;
-    page = c.page;
-  }
+  climbs-kept : (k p h q : ℕ) (node : Node) → t.nodes k ≡ Some node → node.koid ≡ None → Climbs t k p h q → Climbs with_slots k p h q
+  climbs-kept k p h q node at hidden c = climbs-bare slots c
+      (keeps.bare c.node.list.0 p (λ same. hidden-apart t f k v node leaf at hidden visible (f.by.own k v c.node leaf c.at visible.at same)) c.free)
 
   reach-bare : (k p : ℕ) (side : Side) (h q : ℕ) (node : Node) → t.nodes k ≡ Some node → node.koid ≡ None → Reaches t k p side h q → Reaches with_slots k p side h q
   reach-bare k p side h q node at hidden way = reach-each t side h q
       (λ k p. (node : Node) → t.nodes k ≡ Some node → node.koid ≡ None → Reaches with_slots k p side h q)
-      (λ k p c is node at hidden. reach-one with_slots k p side h q (climbs-bare k p h q node at hidden c) is)
+      (λ k p c is node at hidden. reach-one with_slots k p side h q (climbs-kept k p h q node at hidden c) is)
       (λ k p j r c _ ih node at hidden.
       let below = climb_below t f.rank f.by k p j r c in
-      reach-more with_slots k p j r side h q (climbs-bare k p j r node at hidden c) (ih below.above below.at below.hidden)) k p way node at hidden
+      reach-more with_slots k p j r side h q (climbs-kept k p j r node at hidden c) (ih below.above below.at below.hidden)) k p way node at hidden
 
   pub rises-bare : (k p : ℕ) (side : Side) (h q : ℕ) → Rises t k p side h q → Rises with_slots k p side h q
   rises-bare k p side h q = rises-moved t with_slots k k p side h q
@@ -165,28 +151,14 @@ module _ (t : Tree) (f : IsForest t.nodes t.lists) (v : ℕ) (leaf : Node) (visi
       pair-reach-other t f v leaf visible h c koid first seen count no_h no_c apart g j r side x q
       (above.0, above.1, hidden-apart t f j v above.0 leaf above.1 above.2 visible) way
 
-  -- a node says of its window, its parent and its side what another said
-  page-moved : (k i p j r : ℕ) → SameStep t pair k i → IsPageAbove t k p j r → IsPageAbove pair i p j r
-  page-moved k i p j r s step =
-      let same : step.node ≡ s.node = some_same (sym step.at ∙ s.at) in
-      let seen = ap (λ (n : Node). n.seen) same in
-      let first = ap (λ (n : Node). n.first) same in
-      record {
-        node = s.now;
-        at = s.now_at;
-        inside = let now_seen = s.seen in let inside = step.inside in omega arith;
-        parent = s.parent ∙ (ap (λ (n : Node). n.parent) (sym same) ∙ step.parent);
-        page = let now_first = s.first in let page = step.page in omega arith;
-      }
-
   -- from another node
   pub rises-paired : (k p : ℕ) (side : Side) (x q : ℕ) → k ≢ v → Rises t k p side x q → Rises pair k p side x q
   rises-paired k p side x q other rises =
       let s = pair-same-other t f v leaf visible h c koid first seen count no_h no_c apart g k (rises.step.node, rises.step.at, other) in
-      rises-moved t pair k k p side x q (λ j r step. page-moved k k p j r s step) s.side (λ j r step way. pair-above k p j r side x q step way) rises
+      rises-moved t pair k k p side x q (λ j r step. page-moved t pair k k p j r s step) s.side (λ j r step way. pair-above k p j r side x q step way) rises
 
   -- from the hidden node as it was from the leaf
   pub rises-hidden : (p : ℕ) (side : Side) (x q : ℕ) → Rises t v p side x q → Rises pair h p side x q
   rises-hidden p side x q rises =
       let s = pair-same-hidden t f v leaf visible h c koid first seen count no_h no_c apart g in
-      rises-moved t pair v h p side x q (λ j r step. page-moved v h p j r s step) s.side (λ j r step way. pair-above v p j r side x q step way) rises
+      rises-moved t pair v h p side x q (λ j r step. page-moved t pair v h p j r s step) s.side (λ j r step way. pair-above v p j r side x q step way) rises

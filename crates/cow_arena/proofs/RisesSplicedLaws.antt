@@ -1,24 +1,14 @@
 -- The ways upwards after a leaf went with its parent, whose rows may have moved into the other child.
-use Rattle.std.proofs.Common.{◌≡◌, ◌≢◌, ℕ, ◌+◌, ◌-◌, ◌<◌, ◌≤◌, ◌⊎◌, Option, None, Some, inl, inr, refl, sym, ap, ◌∙◌, subst, arith}
-use Rattle.std.proofs.lemmas.Bool.{cases_eq}
-use Rattle.vm_base.proofs.EntryLaws.{some_same}
-use Rattle.balanced_tree.specs.Pairs.{with_pair}
-use Rattle.page_list.specs.declared.row.Slot.{Slot}
-use Rattle.cow_arena.specs.declared.node.Node.{Node}
-use Rattle.cow_arena.specs.declared.node.Side.{Side}
-use Rattle.cow_arena.specs.Nodes.{IsVisible, link_to, side_in, AreFamily}
-use Rattle.cow_arena.specs.Walk.{Tree, Slots}
-use Rattle.cow_arena.specs.Forest.{IsForest}
-use Rattle.cow_arena.specs.Changes.{lifted, spliced}
-use Rattle.cow_arena.specs.Renamed.{renamed, renamed_node}
-use Rattle.cow_arena.specs.Ways.{Climbs, Reaches, IsPageAbove, Rises, KeepsBelow}
-use Rattle.cow_arena.proofs.WalkLaws.{link_same}
+use Rattle.cow_arena.proofs.Words.{◌≡◌, ◌≢◌, ℕ, ◌+◌, ◌-◌, ◌<◌, ◌≤◌, ◌⊎◌, Option, None, Some, inl, inr, refl, sym, ap, ◌∙◌, subst, arith}
+use Rattle.cow_arena.proofs.Words.{cases_eq, some_same, Slot, Node, Side, IsVisible, link_to, side_in, AreFamily, Tree, Slots, IsForest}
+use Rattle.cow_arena.proofs.Words.{spliced, renamed, renamed_node, Climbs, Reaches, IsPageAbove, Rises, KeepsBelow, with_pair}
+use Rattle.cow_arena.proofs.WalkLaws.{link_same, climbs-bare}
 use Rattle.cow_arena.proofs.ReachLaws.{reach-one, reach-more, reach-each, reach-cases}
-use Rattle.cow_arena.proofs.MovedLaws.{SameStep, climbs-moved}
+use Rattle.cow_arena.proofs.MovedLaws.{page-moved, climbs-moved}
 use Rattle.cow_arena.proofs.AlikeLaws.{with_pair-same, with_pair-other}
 use Rattle.cow_arena.proofs.RenamedLaws.{renamed-at, side-renamed}
 use Rattle.cow_arena.proofs.RisesLaws.{rises-moved}
-use Rattle.cow_arena.proofs.SpliceWalkLaws.{family-parent, sibling_at, above_parent, above_other, splice-same, lifted_side, lifted-first}
+use Rattle.cow_arena.proofs.SpliceWalkLaws.{family-parent, above_parent, above_other, splice-same, lifted_side, lifted-page, lifted-climbs}
 
 -- Node k, a leaf, and its parent h are gone, and s, the other child, is in the parent's place. The rows were those of t, and are these.
 module _ (t : Tree) (f : IsForest t.nodes t.lists) (k h s : ℕ) (leaf parent sibling : Node) (family : AreFamily t.nodes k h s leaf parent sibling)
@@ -33,14 +23,7 @@ module _ (t : Tree) (f : IsForest t.nodes t.lists) (k h s : ℕ) (leaf parent si
 
   -- a step with the new rows
   step-mid : (j p x q : ℕ) (node : Node) → t.nodes j ≡ Some node → slots node.list.0 p ≡ None → Climbs t j p x q → Climbs mid j p x q
-  step-mid j p x q node at free c = record {
-    node = c.node;
-    at = c.at;
-    free = ap (λ (n : Node). slots n.list.0 p) (some_same (sym c.at ∙ at)) ∙ free;
-    inside = c.inside;
-    parent = c.parent;
-    page = c.page;
-  }
+  step-mid j p x q node at free c = climbs-bare slots c (ap (λ (n : Node). slots n.list.0 p) (some_same (sym c.at ∙ at)) ∙ free)
 
   up : sibling.parent ≡ link_to h
   up = family-parent t.nodes t.lists f k h s leaf parent sibling family
@@ -82,29 +65,9 @@ module _ (t : Tree) (f : IsForest t.nodes t.lists) (k h s : ℕ) (leaf parent si
             (free-there h on.1 side x q parent (subst (λ i. Reaches t i on.1 side x q) here.0 on.3) family.parent_at)
       ]
 
-  -- the window of the sibling now
-  lifted-page : (p x q : ℕ) → p < sibling.seen → Climbs t h (sibling.first + p) x q → IsPageAbove last s p x q
-  lifted-page p x q inside c =
-      let one : c.node ≡ parent = some_same (sym c.at ∙ family.parent_at) in
-      let first_is = ap (λ (n : Node). n.first) one in
-      let seen_is = ap (λ (n : Node). n.seen) one in
-      let page = c.page in
-      let sees = c.inside in
-      let now_inside : p < (lifted parent sibling).seen = omega arith in
-      let now_first = lifted-first mid f k h s leaf parent sibling family visible empty g p now_inside in
-      record {
-        node = lifted parent sibling;
-        at = sibling_at mid f k h s leaf parent sibling family visible empty g;
-        inside = now_inside;
-        parent = sym (ap (λ (n : Node). n.parent) one) ∙ c.parent;
-        page = omega arith;
-      }
-
-  lifted-climbs : (p x q : ℕ) → slots sibling.list.0 p ≡ None → p < sibling.seen → Climbs t h (sibling.first + p) x q → Climbs last s p x q
-  unfolding lifted-page
-  lifted-climbs p x q free inside c =
-      let it = lifted-page p x q inside c in
-      record { node = it.node; at = it.at; free = free; inside = it.inside; parent = it.parent; page = it.page }
+  -- a step from the parent, whose list has no rows, is one with the new rows too
+  up-mid : (p x q : ℕ) → Climbs t h p x q → Climbs mid h p x q
+  up-mid p x q c = step-mid h p x q parent family.parent_at (empty p) c
 
   side-up : side_in last.nodes s ≡ side_in t.nodes h
   side-up = lifted_side mid f k h s leaf parent sibling family visible empty g
@@ -139,7 +102,8 @@ module _ (t : Tree) (f : IsForest t.nodes t.lists) (k h s : ℕ) (leaf parent si
       ],
       λ same r page inside free.
           let from : Climbs t h (sibling.first + r) x q = subst (λ y. Climbs t h y x q) page (subst (λ i. Climbs t i p x q) same c) in
-          reach-one last s r side x q (lifted-climbs r x q free inside from) (side-up ∙ (ap (side_in t.nodes) (sym same) ∙ is)),
+          reach-one last s r side x q (lifted-climbs mid f k h s leaf parent sibling family visible empty g r x q free inside (up-mid (sibling.first + r) x q from))
+          (side-up ∙ (ap (side_in t.nodes) (sym same) ∙ is)),
     )
 
     more-steps : (j p i r : ℕ) → Climbs t j p i r → Reaches t i r side x q → Stays i r → Stays j p
@@ -158,7 +122,8 @@ module _ (t : Tree) (f : IsForest t.nodes t.lists) (k h s : ℕ) (leaf parent si
       λ same r0 page inside free.
           let from : Climbs t h (sibling.first + r0) i r = subst (λ y. Climbs t h y i r) page (subst (λ y. Climbs t y p i r) same c) in
           let above = on-parent (sibling.first + r0) i r from in
-          reach-more last s r0 i r side x q (lifted-climbs r0 i r free inside from)
+          reach-more last s r0 i r side x q
+          (lifted-climbs mid f k h s leaf parent sibling family visible empty g r0 i r free inside (up-mid (sibling.first + r0) i r from))
           (ih.0 above.0 above.1 above.2 above.3 (bare-now i r side x q above.0 way x_h above.1)),
     )
 
@@ -186,7 +151,13 @@ module _ (t : Tree) (f : IsForest t.nodes t.lists) (k h s : ℕ) (leaf parent si
           record {
             j = rises.j;
             r = rises.r;
-            step = page-now moved;
+            step = page-moved mid last j j p rises.j rises.r moved (record {
+              node = rises.step.node;
+              at = rises.step.at;
+              inside = rises.step.inside;
+              parent = rises.step.parent;
+              page = rises.step.page;
+            });
             further = elim rises.further [
               | inl here ↦ inl (here.0, here.1, moved.side ∙ here.2)
               | inr way ↦ inr (reach-on rises.j rises.r above.0 above.1 above.2 above.3 way)
@@ -200,29 +171,21 @@ module _ (t : Tree) (f : IsForest t.nodes t.lists) (k h s : ℕ) (leaf parent si
         past at page inside (inr way) =
             let from : Reaches t h (sibling.first + p) side x q = subst (λ y. Reaches t h y side x q) page (subst (λ i. Reaches t i rises.r side x q) at way) in
             elim (reach-cases t h (sibling.first + p) side x q from) [
-              | inl one ↦ record { j = x; r = q; step = lifted-page p x q inside one.0; further = inl (refl, refl, side-up ∙ one.1) }
+              | inl one ↦ record {
+                j = x;
+                r = q;
+                step = lifted-page mid f k h s leaf parent sibling family visible empty g p x q inside (up-mid (sibling.first + p) x q one.0);
+                further = inl (refl, refl, side-up ∙ one.1);
+              }
               | inr on ↦
                   let above = on-parent (sibling.first + p) on.0 on.1 on.2 in
                   record {
                     j = on.0;
                     r = on.1;
-                    step = lifted-page p on.0 on.1 inside on.2;
+                    step = lifted-page mid f k h s leaf parent sibling family visible empty g p on.0 on.1 inside (up-mid (sibling.first + p) on.0 on.1 on.2);
                     further = inr (reach-on on.0 on.1 above.0 above.1 above.2 above.3 on.3);
                   }
             ]
-
-        page-now : SameStep mid last j j → IsPageAbove last j p rises.j rises.r
-        page-now moved =
-            let same : rises.step.node ≡ moved.node = some_same (sym rises.step.at ∙ moved.at) in
-            let seen = ap (λ (n : Node). n.seen) same in
-            let first = ap (λ (n : Node). n.first) same in
-            record {
-              node = moved.now;
-              at = moved.now_at;
-              inside = let now_seen = moved.seen in let inside = rises.step.inside in omega arith;
-              parent = moved.parent ∙ (ap (λ (n : Node). n.parent) (sym same) ∙ rises.step.parent);
-              page = let now_first = moved.first in let page = rises.step.page in omega arith;
-            }
 
 -- ---- other list numbers
 

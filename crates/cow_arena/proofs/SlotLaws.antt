@@ -1,17 +1,9 @@
 -- The nodes as a map from numbers, after a change of one key of their slab.
-use Rattle.std.proofs.Common.{◌≡◌, ◌≢◌, ℕ, Bool, true, false, cond, Option, None, Some, refl, sym, ap, subst, ◌∙◌, inl, inr, ◌==◌}
-use Rattle.std.specs.Prelude.{IsSome, IfSome, is_some}
-use Rattle.std.specs.Option.{option_map}
-use Rattle.std.proofs.lemmas.Bool.{cases_eq}
-use Rattle.slab.specs.Slab.{Slab, get, ContainsKey, with_value, Updates}
+use Rattle.cow_arena.proofs.Words.{◌≡◌, ◌≢◌, ℕ, Bool, true, false, cond, Option, None, Some, refl, sym, ap, subst, ◌∙◌, inl, inr, ◌==◌}
+use Rattle.cow_arena.proofs.Words.{IsSome, IfSome, is_some, option_map, cases_eq, Slab, get, ContainsKey, with_value, Updates, with_key}
+use Rattle.cow_arena.proofs.Words.{without_key, with_key-here, with_key-same, with_key-other, without_key-same, without_key-other, eqb_same}
+use Rattle.cow_arena.proofs.Words.{eqb_apart, NodeId, Node, Nodes, relinked}
 use Rattle.slab.proofs.SlabLemmas.{Updates-with_value}
-use Rattle.vm_base.specs.Entries.{with_key, without_key}
-use Rattle.vm_base.proofs.EntryLaws.{with_key-here, with_key-same, with_key-other, without_key-same, without_key-other}
-use Rattle.vm_base.proofs.SearchLaws.{eqb_same, eqb_apart}
-use Rattle.cow_arena.specs.declared.node.NodeId.{NodeId}
-use Rattle.cow_arena.specs.declared.node.Node.{Node}
-use Rattle.cow_arena.specs.Nodes.{Nodes}
-use Rattle.cow_arena.specs.Changes.{relinked}
 use Rattle.cow_arena.proofs.LinkLaws.{moved}
 
 pub nodes_with : (old new : Slab Node) (k : ℕ) (node : Node) → Updates old new k (Some node) → get new ≡ with_key (get old) k node

@@ -1,18 +1,14 @@
 -- The nodes stay a forest where a leaf and the hidden node above it go.
-use Rattle.std.proofs.Common.{◌≡◌, ◌≢◌, ℕ, ◌+◌, ◌-◌, ◌≤◌, Bool, true, false, cond, Option, None, Some, ◌⊎◌, refl, sym, ap, subst, ◌∙◌, inl, inr, arith, ◌==◌}
-use Rattle.std.specs.Prelude.{IsSome, is_some, min}
-use Rattle.std.specs.Option.{option_map}
-use Rattle.std.proofs.lemmas.Bool.{cases_eq}
-use Rattle.vm_base.proofs.SearchLaws.{eqb_same, eqb_apart, eqb_is}
-use Rattle.vm_base.proofs.EntryLaws.{some_same, some_is, with_key-same, with_key-other, without_key-same, without_key-other}
-use Rattle.cow_arena.specs.declared.node.NodeId.{NodeId}
-use Rattle.cow_arena.specs.declared.node.Node.{Node}
-use Rattle.cow_arena.specs.declared.node.Side.TheVariants as side
-use Rattle.cow_arena.specs.Nodes.{Nodes, AreFamily, leads_to, link_to, child_on, other_side, side_of}
-use Rattle.cow_arena.specs.Forest.{IsForestBy, HasPair, IsChild, HasAsChild}
-use Rattle.cow_arena.specs.Changes.{window_first, moved_link, spliced, lifted}
-use Rattle.cow_arena.proofs.LinkLaws.{link_same, leads_to-link, node_above-child, sibling_below, moved, moved-away, moved_key, moved_key-here, moved_key-other, moved_key-apart, moved_link-none, moved_link-to, moved_link-here, moved_link-other, relinked_at}
-use Rattle.cow_arena.proofs.ForestLaws.{kinds_apart}
+use Rattle.cow_arena.proofs.Words.{◌≡◌, ◌≢◌, ℕ, ◌+◌, ◌-◌, ◌≤◌, Bool, true, false, cond, Option, None, Some, refl, sym, ap, subst, ◌∙◌, inl}
+use Rattle.cow_arena.proofs.Words.{inr, arith, ◌==◌, IsSome, is_some, min, option_map, cases_eq, eqb_is, some_same, some_is, with_key-same}
+use Rattle.cow_arena.proofs.Words.{with_key-other, without_key-same, without_key-other, Node, Side, Nodes, AreFamily, link_to, child_on}
+use Rattle.cow_arena.proofs.Words.{other_side, side_of, IsForest, IsForestBy, HasPair, IsChild, HasAsChild, window_first, moved_link}
+use Rattle.cow_arena.proofs.Words.{spliced, lifted}
+use Rattle.cow_arena.proofs.WalkLaws.{link_same}
+use Rattle.cow_arena.proofs.LinkLaws.{moved, moved-away, moved_key, moved_key-here, moved_key-other, moved_key-apart, moved_link-none}
+use Rattle.cow_arena.proofs.LinkLaws.{moved_link-to, moved_link-here, moved_link-other, relinked_at}
+use Rattle.cow_arena.proofs.ForestLaws.{kinds_apart, pair_stays}
+use Rattle.cow_arena.proofs.SpliceWalkLaws.{family-side, family-both, family-parent}
 
 -- a window through two windows ends where the upper one does
 pub lifted_fits : (first seen above_first above_seen n : ℕ) → above_first + above_seen ≤ n →
@@ -27,64 +23,27 @@ lifted_fits first seen above_first above_seen n h = by_test (min seen (above_see
     ]
 
 module _ (nodes : Nodes) (lists : ℕ) (rank : ℕ → ℕ) (f : IsForestBy nodes lists rank) (k h s : ℕ) (node parent sibling : Node) (family : AreFamily nodes k h s node parent sibling) where
+  abbrev forest : IsForest nodes lists
+  forest = record { rank = rank; by = f }
+
   up_k : HasAsChild nodes rank h k node
   up_k = f.below h k node family.at family.parent_is
 
-  one_parent : up_k.above ≡ parent
-  one_parent = some_same (sym up_k.at ∙ family.parent_at)
-
   pub parent_is_hidden : parent.koid ≡ None
-  parent_is_hidden = ap (λ (x : Node). x.koid) (sym one_parent) ∙ up_k.hidden
-
-  pair_h : HasPair nodes h parent
-  pair_h = f.pairs h parent family.parent_at parent_is_hidden
-
-  sibling_link : child_on parent (other_side (side_of parent k)) ≡ link_to s
-  sibling_link = sym (sibling_below nodes k parent (node_above-child nodes h k node family.at family.parent_is ∙ family.parent_at)) ∙ family.sibling_is
-
-  -- a node below h is one of its two children
-  sides : (n : ℕ) (a : Node) → nodes n ≡ Some a → a.parent ≡ link_to h → (n ≡ pair_h.left) ⊎ (n ≡ pair_h.right)
-  sides n a e child = let up = f.below h n a e child in
-      let one = some_same (sym up.at ∙ family.parent_at) in
-      elim up.side [
-        | inl left ↦ inl (link_same n pair_h.left (sym left ∙ (ap (λ (x : Node). x.left) one ∙ pair_h.left_is)))
-        | inr right ↦ inr (link_same n pair_h.right (sym right ∙ (ap (λ (x : Node). x.right) one ∙ pair_h.right_is)))
-      ]
-
-  -- they are k and s
-  both : ((k ≡ pair_h.left) × (s ≡ pair_h.right)) ⊎ ((k ≡ pair_h.right) × (s ≡ pair_h.left))
-  both = elim (sides k node family.at family.parent_is) [
-    | inl left ↦ inl (left, by_left left)
-    | inr right ↦ inr (right, by_right right)
-  ]
-    where
-      left_leads : leads_to parent.left k ≡ (pair_h.left == k)
-      left_leads = ap (λ (link : Option NodeId). leads_to link k) pair_h.left_is ∙ leads_to-link pair_h.left k
-
-      by_left : k ≡ pair_h.left → s ≡ pair_h.right
-      by_left same =
-          let test : leads_to parent.left k ≡ true = left_leads ∙ (ap (λ (n : ℕ). pair_h.left == n) same ∙ eqb_same pair_h.left) in
-          link_same s pair_h.right (sym sibling_link ∙ (ap (λ (b : Bool). child_on parent (other_side (cond b side.Left side.Right))) test ∙ pair_h.right_is))
-
-      by_right : k ≡ pair_h.right → s ≡ pair_h.left
-      by_right same =
-          let test : leads_to parent.left k ≡ false = left_leads ∙ eqb_apart pair_h.left k (λ e. pair_h.apart (e ∙ same)) in
-          link_same s pair_h.left (sym sibling_link ∙ (ap (λ (b : Bool). child_on parent (other_side (cond b side.Left side.Right))) test ∙ pair_h.left_is))
+  parent_is_hidden = ap (λ (x : Node). x.koid) (some_same (sym family.parent_at ∙ up_k.at)) ∙ up_k.hidden
 
   pub s_k : s ≢ k
-  s_k same = elim both [
-    | inl b ↦ pair_h.apart (sym b.0 ∙ (sym same ∙ b.1))
-    | inr b ↦ pair_h.apart (sym b.1 ∙ (same ∙ b.0))
-  ]
+  s_k same = apart (side_of parent k) (family-side nodes lists forest k h s node parent sibling family)
+    where
+      pair : HasPair nodes h parent
+      pair = f.pairs h parent family.parent_at parent_is_hidden
 
-  sibling_child : (l : ℕ) → s ≡ l → IsChild nodes h l → sibling.parent ≡ link_to h
-  sibling_child l same child = ap (λ (x : Node). x.parent) (some_same (sym family.sibling_at ∙ (ap nodes same ∙ child.at))) ∙ child.parent
+      apart : (a : Side) → (child_on parent a ≡ link_to k) × (child_on parent (other_side a) ≡ link_to s) → ⊥
+      apart Side.Left both = pair.apart (link_same (sym pair.left_is ∙ both.0) ∙ (sym same ∙ sym (link_same (sym pair.right_is ∙ both.1))))
+      apart Side.Right both = pair.apart (link_same (sym pair.left_is ∙ both.1) ∙ (same ∙ sym (link_same (sym pair.right_is ∙ both.0))))
 
   pub sibling_parent : sibling.parent ≡ link_to h
-  sibling_parent = elim both [
-    | inl b ↦ sibling_child pair_h.right b.1 pair_h.right_child
-    | inr b ↦ sibling_child pair_h.left b.1 pair_h.left_child
-  ]
+  sibling_parent = family-parent nodes lists forest k h s node parent sibling family
 
   up_s : HasAsChild nodes rank h s sibling
   up_s = f.below h s sibling family.sibling_at sibling_parent
@@ -97,10 +56,8 @@ module _ (nodes : Nodes) (lists : ℕ) (rank : ℕ → ℕ) (f : IsForestBy node
 
   -- nobody else is below h
   not_below : (n : ℕ) (a : Node) → n ≢ s → n ≢ k → nodes n ≡ Some a → a.parent ≢ link_to h
-  not_below n a n_s n_k e child = elim both [
-    | inl b ↦ elim (sides n a e child) [ inl left ↦ n_k (left ∙ sym b.0) | inr right ↦ n_s (right ∙ sym b.1) ]
-    | inr b ↦ elim (sides n a e child) [ inl left ↦ n_s (left ∙ sym b.1) | inr right ↦ n_k (right ∙ sym b.0) ]
-  ]
+  not_below n a n_s n_k e child =
+      elim (family-both nodes lists forest k h s node parent sibling family n a e child) [ inl same ↦ n_k same | inr same ↦ n_s same ]
 
   -- the parent of h is another node than the three
   module _ (p : ℕ) (e : parent.parent ≡ link_to p) where
@@ -167,7 +124,7 @@ module _ (nodes : Nodes) (lists : ℕ) (rank : ℕ → ℕ) (f : IsForestBy node
     -- a child of another node than h is not one of its two
     child_apart : (n l m : ℕ) (x : Node) → n ≢ h → IsChild nodes n l → nodes m ≡ Some x → x.parent ≡ link_to h → l ≢ m
     child_apart n l m x n_h child there below same =
-        n_h (link_same n h (sym child.parent ∙ (ap (λ (y : Node). y.parent) (some_same (sym child.at ∙ (ap nodes same ∙ there))) ∙ below)))
+        n_h (link_same (sym child.parent ∙ (ap (λ (y : Node). y.parent) (some_same (sym child.at ∙ (ap nodes same ∙ there))) ∙ below)))
 
     child_now : (n l : ℕ) → n ≢ h → IsChild nodes n l → IsChild now n (moved_key h s l)
     child_now n l n_h child = elim (cases_eq l h) [
@@ -201,16 +158,7 @@ module _ (nodes : Nodes) (lists : ℕ) (rank : ℕ → ℕ) (f : IsForestBy node
     pair_sibling : HasPair nodes s sibling → HasPair now s lifted_at
     pair_sibling pair =
         let kept = moved-away nodes lists rank f h parent family.parent_at s sibling family.sibling_at (λ e. p_s s e refl) s in
-        let new = pair_now s sibling s_h pair in
-        record {
-          left = new.left;
-          right = new.right;
-          left_is = sym (ap (λ (x : Node). x.left) kept) ∙ new.left_is;
-          right_is = sym (ap (λ (x : Node). x.right) kept) ∙ new.right_is;
-          apart = new.apart;
-          left_child = new.left_child;
-          right_child = new.right_child;
-        }
+        pair_stays (sym (ap (λ (x : Node). x.left) kept)) (sym (ap (λ (x : Node). x.right) kept)) (λ l child. child) (pair_now s sibling s_h pair)
 
     above_apart : (p n : ℕ) (a : Node) → (up : HasAsChild nodes rank p n a) → p ≢ k
     above_apart p n a up = kinds_apart nodes p k up.above node up.at family.at up.hidden visible

@@ -1,21 +1,9 @@
 -- Walks after a node went: a leaf with its parent, whose other child takes the parent's place, or a root.
-use Rattle.std.proofs.Common.{◌≡◌, ◌≢◌, ℕ, ◌+◌, ◌-◌, min, ◌<◌, Option, None, Some, ◌⊎◌, inl, inr, refl, sym, ap, ◌∙◌, subst, arith}
-use Rattle.std.specs.Prelude.{IsSome}
-use Rattle.std.proofs.lemmas.Bool.{cases_eq}
-use Rattle.vm_base.specs.Entries.{without_key}
-use Rattle.vm_base.proofs.SearchLaws.{eqb_apart}
-use Rattle.vm_base.proofs.EntryLaws.{some_same, with_key-same, with_key-other, without_key-other}
-use Rattle.page_list.specs.declared.row.ListId.{ListId}
-use Rattle.page_list.specs.declared.row.Slot.{Slot}
-use Rattle.cow_arena.specs.declared.node.NodeId.{NodeId}
-use Rattle.cow_arena.specs.declared.node.Node.{Node}
-use Rattle.cow_arena.specs.declared.node.Side.{Side}
-use Rattle.cow_arena.specs.declared.node.Side.TheVariants as side
-use Rattle.cow_arena.specs.Nodes.{Nodes, IsVisible, link_to, child_on, other_side, side_of, side_in, AreFamily}
-use Rattle.cow_arena.specs.Walk.{Tree, from_side, walk}
-use Rattle.cow_arena.specs.Forest.{IsForest, IsListed, HasListedRows}
-use Rattle.cow_arena.specs.Changes.{relinked, lifted, spliced}
-use Rattle.cow_arena.specs.Ways.{Climbs, absent_node, own_row, past_window, on_upwards}
+use Rattle.cow_arena.proofs.Words.{◌≡◌, ◌≢◌, ℕ, ◌+◌, ◌-◌, min, ◌<◌, Option, None, Some, ◌⊎◌, inl, inr, refl, sym, ap, ◌∙◌, subst, arith}
+use Rattle.cow_arena.proofs.Words.{IsSome, cases_eq, without_key, eqb_apart, some_same, with_key-same, with_key-other, without_key-other}
+use Rattle.cow_arena.proofs.Words.{ListId, Slot, NodeId, Node, Side, Nodes, IsVisible, link_to, child_on, other_side, side_of, side_in}
+use Rattle.cow_arena.proofs.Words.{AreFamily, Tree, Slots, from_side, walk, IsForest, IsListed, HasListedRows, relinked, lifted, spliced}
+use Rattle.cow_arena.proofs.Words.{Climbs, IsPageAbove, absent_node, own_row, past_window, on_upwards}
 use Rattle.cow_arena.proofs.WalkLaws.{link_same, climb_below, rank-each, begins, walk-row, walk-past, walk-climbs}
 use Rattle.cow_arena.proofs.ReachLaws.{side-is, side-of-parent, child-there, climb-side, from_side-twice, hidden-apart}
 use Rattle.cow_arena.proofs.MovedLaws.{SameStep, IsChangeOf, walk-stays, same-side, step-same}
@@ -40,16 +28,23 @@ module _ (nodes : Nodes) (lists : ℕ) (f : IsForest nodes lists) (k h s : ℕ) 
       which is.1 (side_of parent k) (ap (λ (n : Node). child_on n is.1) (sym above) ∙ is.3) family-side
     where
       which : (a b : Side) → child_on parent a ≡ link_to j → (child_on parent b ≡ link_to k) × (child_on parent (other_side b) ≡ link_to s) → (j ≡ k) ⊎ (j ≡ s)
-      which side.Left side.Left e both = inl (link_same (sym e ∙ both.0))
-      which side.Left side.Right e both = inr (link_same (sym e ∙ both.1))
-      which side.Right side.Left e both = inr (link_same (sym e ∙ both.1))
-      which side.Right side.Right e both = inl (link_same (sym e ∙ both.0))
+      which Side.Left Side.Left e both = inl (link_same (sym e ∙ both.0))
+      which Side.Left Side.Right e both = inr (link_same (sym e ∙ both.1))
+      which Side.Right Side.Left e both = inr (link_same (sym e ∙ both.1))
+      which Side.Right Side.Right e both = inl (link_same (sym e ∙ both.0))
 
   -- the sibling has the same parent
   pub family-parent : sibling.parent ≡ link_to h
   family-parent =
       let is = child-there nodes lists f h s parent (other_side (side_of parent k)) family.parent_at family-side.1 in
       ap (λ (n : Node). n.parent) (some_same (sym family.sibling_at ∙ is.at)) ∙ is.parent
+
+-- a row stands in no list without rows
+pub rowless : (nodes : Nodes) (slots : Slots) (n i l p : ℕ) (a b : Node) (slot : Slot) → i ≡ n → nodes i ≡ Some a → nodes n ≡ Some b →
+    ((p : ℕ) → slots b.list.0 p ≡ None) → a.list.0 ≡ l → slots l p ≡ Some slot → ⊥
+rowless nodes slots n i l p a b slot same at there none named e =
+    let list = sym (ap (λ (x : Node). x.list.0) (some_same (sym at ∙ (ap nodes same ∙ there)))) ∙ named in
+    absurd (let free = sym (ap (λ m. slots m p) list) ∙ none p in cc)
 
 -- ---- a leaf goes with its parent
 
@@ -107,8 +102,8 @@ module _ (t : Tree) (f : IsForest t.nodes t.lists) (k h s : ℕ) (leaf parent si
   ]
     where
       lifted_child : (a : Side) → child_on (lifted parent sibling) a ≡ child_on sibling a
-      lifted_child side.Left = refl
-      lifted_child side.Right = refl
+      lifted_child Side.Left = refl
+      lifted_child Side.Right = refl
 
   pub splice-same : (j : ℕ) → IsOther j → j ≢ s → SameStep t after j j
   splice-same j other j_s =
@@ -139,8 +134,8 @@ module _ (t : Tree) (f : IsForest t.nodes t.lists) (k h s : ℕ) (leaf parent si
   pub lifted-first : (p : ℕ) → p < (lifted parent sibling).seen → (lifted parent sibling).first ≡ sibling.first + parent.first
   lifted-first p inside = rw (eqb_apart (min sibling.seen (parent.seen - sibling.first)) 0 (λ none. absurd (omega arith))) refl
 
-  lifted_climbs : (p x q : ℕ) → t.slots sibling.list.0 p ≡ None → p < sibling.seen → Climbs t h (sibling.first + p) x q → Climbs after s p x q
-  lifted_climbs p x q free inside up =
+  pub lifted-page : (p x q : ℕ) → p < sibling.seen → Climbs t h (sibling.first + p) x q → IsPageAbove after s p x q
+  lifted-page p x q inside up =
       let one : up.node ≡ parent = some_same (sym up.at ∙ family.parent_at) in
       let first_is = ap (λ (n : Node). n.first) one in
       let seen_is = ap (λ (n : Node). n.seen) one in
@@ -151,11 +146,16 @@ module _ (t : Tree) (f : IsForest t.nodes t.lists) (k h s : ℕ) (leaf parent si
       record {
         node = lifted parent sibling;
         at = sibling_at;
-        free = free;
         inside = now_inside;
         parent = sym (ap (λ (n : Node). n.parent) one) ∙ up.parent;
         page = omega arith;
       }
+
+  pub lifted-climbs : (p x q : ℕ) → t.slots sibling.list.0 p ≡ None → p < sibling.seen → Climbs t h (sibling.first + p) x q → Climbs after s p x q
+  unfolding lifted-page
+  lifted-climbs p x q free inside up =
+      let it = lifted-page p x q inside up in
+      record { node = it.node; at = it.at; free = free; inside = it.inside; parent = it.parent; page = it.page }
 
   -- the walk from the sibling
   module _ (p : ℕ) (further : (x q : ℕ) → IsOther x → f.rank x < f.rank s → walk after x q ≡ walk t x q) where
@@ -175,7 +175,7 @@ module _ (t : Tree) (f : IsForest t.nodes t.lists) (k h s : ℕ) (leaf parent si
           let deeper = (climb_below t f.rank f.by h q x r up).deeper in
           let sibling_deeper = (climb_below t f.rank f.by s p h q c).deeper in
           let from = climb-side t f h q x r up in
-          walk-climbs after g s p x r (lifted_climbs p x r free inside (subst (λ y. Climbs t h y x r) page up))
+          walk-climbs after g s p x r (lifted-climbs p x r free inside (subst (λ y. Climbs t h y x r) page up))
           ∙ (ap (λ a. from_side a (walk after x r)) (lifted_side ∙ from.4)
           ∙ (ap (from_side (Some from.1)) (further x r above.0 (omega arith))
           ∙ sym (walk-climbs t f s p h q c
@@ -224,17 +224,11 @@ module _ (t : Tree) (f : IsForest t.nodes t.lists) (k h s : ℕ) (leaf parent si
   pub spliced-listed : ((p : ℕ) → t.slots leaf.list.0 p ≡ None) → HasListedRows t → HasListedRows after
   spliced-listed bare rows = record { listed = λ l p slot e. here l p slot e (rows.listed l p slot e) }
     where
-      rowless : (n i : ℕ) (a b : Node) (l p : ℕ) (slot : Slot) → i ≡ n → t.nodes i ≡ Some a → t.nodes n ≡ Some b → ((p : ℕ) → t.slots b.list.0 p ≡ None) →
-          a.list.0 ≡ l → t.slots l p ≡ Some slot → ⊥
-      rowless n i a b l p slot same at there none named e =
-          let list = sym (ap (λ (x : Node). x.list.0) (some_same (sym at ∙ (ap t.nodes same ∙ there)))) ∙ named in
-          absurd (let free = sym (ap (λ m. t.slots m p) list) ∙ none p in cc)
-
       here : (l p : ℕ) (slot : Slot) → t.slots l p ≡ Some slot → IsListed t.nodes l → IsListed after.nodes l
       here l p slot e of = elim (cases_eq of.k k) [
-        | inl same ↦ absurd (rowless k of.k of.node leaf l p slot same of.at family.at bare of.named e)
+        | inl same ↦ absurd (rowless t.nodes t.slots k of.k l p of.node leaf slot same of.at family.at bare of.named e)
         | inr j_k ↦ elim (cases_eq of.k h) [
-          | inl same ↦ absurd (rowless h of.k of.node parent l p slot same of.at family.parent_at empty of.named e)
+          | inl same ↦ absurd (rowless t.nodes t.slots h of.k l p of.node parent slot same of.at family.parent_at empty of.named e)
           | inr j_h ↦ elim (cases_eq of.k s) [
             | inl same ↦
                 let one : sibling ≡ of.node = some_same (sym family.sibling_at ∙ (sym (ap t.nodes same) ∙ of.at)) in
@@ -263,8 +257,6 @@ module _ (t : Tree) (f : IsForest t.nodes t.lists) (k : ℕ) (leaf : Node) (visi
     where
       here : (l p : ℕ) (slot : Slot) → t.slots l p ≡ Some slot → IsListed t.nodes l → IsListed (without_key t.nodes k) l
       here l p slot e of = elim (cases_eq of.k k) [
-        | inl same ↦
-            let list = ap (λ (n : Node). n.list.0) (some_same (sym visible.at ∙ (sym (ap t.nodes same) ∙ of.at))) ∙ of.named in
-            absurd (let free = sym (ap (λ m. t.slots m p) list) ∙ bare p in cc)
+        | inl same ↦ absurd (rowless t.nodes t.slots k of.k l p of.node leaf slot same of.at visible.at bare of.named e)
         | inr apart ↦ record { k = of.k; node = of.node; at = without_key-other t.nodes k of.k apart ∙ of.at; named = of.named }
       ]

@@ -1,16 +1,8 @@
 -- Laws of walks in a forest: how they begin, which ways they take upwards, and where they end.
-use Rattle.std.proofs.Common.{◌≡◌, ℕ, zero, suc, ◌+◌, ◌<◌, ◌≤◌, true, false, Option, None, Some, inl, inr, refl, sym, ap, ◌∙◌, arith}
-use Rattle.std.specs.Prelude.{nat_lt}
-use Rattle.std.proofs.lemmas.Bool.{cases_lt, lt-ltb, le-ltb}
-use Rattle.vm_base.proofs.EntryLaws.{some_same}
-use Rattle.page_list.specs.declared.row.Slot.{Slot}
-use Rattle.cow_arena.specs.declared.node.NodeId.{NodeId}
-use Rattle.cow_arena.specs.declared.node.Node.{Node}
-use Rattle.cow_arena.specs.declared.node.Side.{Side}
-use Rattle.cow_arena.specs.Nodes.{link_to, side_in}
-use Rattle.cow_arena.specs.Walk.{Tree, from_side, walk_over, walk}
-use Rattle.cow_arena.specs.Forest.{IsForest, IsForestBy, HasAsChild}
-use Rattle.cow_arena.specs.Ways.{HasRow, Climbs, Begins, absent_node, own_row, past_window, on_upwards}
+use Rattle.cow_arena.proofs.Words.{◌≡◌, ℕ, zero, suc, ◌+◌, ◌<◌, ◌≤◌, true, false, Option, None, Some, inl, inr, refl, sym, ap, ◌∙◌, arith}
+use Rattle.cow_arena.proofs.Words.{nat_lt, cases_lt, lt-ltb, le-ltb, some_same, Slot, NodeId, Node, Side, link_to, side_in, Tree, Slots}
+use Rattle.cow_arena.proofs.Words.{from_side, walk_over, walk, IsForest, IsForestBy, HasAsChild, HasRow, Climbs, Begins, absent_node}
+use Rattle.cow_arena.proofs.Words.{own_row, past_window, on_upwards}
 
 -- ---- one step
 
@@ -50,6 +42,10 @@ module _ (t : Tree) where
   pub over-up : (n k p h q : ℕ) → Climbs t k p h q →
       walk_over t.nodes t.slots (suc n) k p ≡ from_side (side_in t.nodes k) (walk_over t.nodes t.slots n h q)
   over-up n k p h q c = over-side n k p h q (side_in t.nodes k) c refl
+
+-- a step stays where other rows have none of the page either
+pub climbs-bare : {t : Tree} {k p h q : ℕ} (slots : Slots) (c : Climbs t k p h q) → slots c.node.list.0 p ≡ None → Climbs (record t { slots = slots }) k p h q
+climbs-bare slots c free = record { node = c.node; at = c.at; free = free; inside = c.inside; parent = c.parent; page = c.page }
 
 -- ---- the rank
 

@@ -1,16 +1,7 @@
 -- Walks after a leaf got another count or window, and where a root comes; and which lists have rows then.
-use Rattle.std.proofs.Common.{◌≡◌, ◌≢◌, ℕ, ◌<◌, ◌≤◌, None, Some, inl, inr, sym, ap, ◌∙◌, subst, arith}
-use Rattle.std.specs.Prelude.{IsSome}
-use Rattle.std.proofs.lemmas.Bool.{cases_eq}
-use Rattle.vm_base.specs.Entries.{with_key}
-use Rattle.vm_base.proofs.EntryLaws.{some_same, with_key-same, with_key-other}
-use Rattle.page_list.specs.declared.row.ListId.{ListId}
-use Rattle.cow_arena.specs.declared.node.Node.{Node}
-use Rattle.cow_arena.specs.Nodes.{Nodes, IsVisible, side_in}
-use Rattle.cow_arena.specs.Walk.{Tree, tree_with, from_side, walk}
-use Rattle.cow_arena.specs.Forest.{IsForest, IsListed}
-use Rattle.cow_arena.specs.Ways.{Climbs, absent_node, own_row, past_window, on_upwards}
-use Rattle.cow_arena.specs.Views.{KeepsListed}
+use Rattle.cow_arena.proofs.Words.{◌≡◌, ◌≢◌, ℕ, ◌<◌, ◌≤◌, None, Some, inl, inr, sym, ap, ◌∙◌, subst, arith, IsSome, cases_eq, with_key}
+use Rattle.cow_arena.proofs.Words.{some_same, with_key-same, with_key-other, ListId, Node, Nodes, IsVisible, side_in, Tree, tree_with}
+use Rattle.cow_arena.proofs.Words.{from_side, walk, IsForest, IsListed, Climbs, absent_node, own_row, past_window, on_upwards, HasListedRows}
 use Rattle.cow_arena.proofs.WalkLaws.{climb_below, begins, walk-row, walk-past, walk-climbs}
 use Rattle.cow_arena.proofs.ReachLaws.{hidden-of-child, hidden-apart}
 use Rattle.cow_arena.proofs.MovedLaws.{IsChangeOf, same-side, walk-stays}
@@ -24,8 +15,8 @@ leaf-changed nodes k leaf new visible = record {
 
 -- where a node comes, or one keeps its list, rows still stand in lists of nodes alone
 pub put-listed : (t : Tree) (nodes : Nodes) (lists k : ℕ) (new : Node) → nodes ≡ with_key t.nodes k new → ((node : Node) → t.nodes k ≡ Some node → new.list ≡ node.list) →
-    KeepsListed t (tree_with nodes lists t.slots)
-put-listed t nodes lists k new is list = record { listed = λ rows. record { listed = λ l p slot e. here l (rows.listed l p slot e) } }
+    HasListedRows t → HasListedRows (tree_with nodes lists t.slots)
+put-listed t nodes lists k new is list rows = record { listed = λ l p slot e. here l (rows.listed l p slot e) }
   where
     here : (l : ℕ) → IsListed t.nodes l → IsListed nodes l
     here l of = elim (cases_eq of.k k) [
@@ -42,10 +33,7 @@ put-listed t nodes lists k new is list = record { listed = λ rows. record { lis
 
 -- a node comes
 pub node-added : (nodes : Nodes) (k : ℕ) (new : Node) → nodes k ≡ None → IsChangeOf nodes (with_key nodes k new) k
-node-added nodes k new free = record {
-  leaf = λ node at. absurd (cc);
-  stay = λ j node at apart. with_key-other nodes k new j apart ∙ at;
-}
+node-added nodes k new free = record { leaf = λ node at. absurd (cc); stay = λ j node at apart. with_key-other nodes k new j apart ∙ at }
 
 module _ (t : Tree) (f : IsForest t.nodes t.lists) (k : ℕ) (leaf new : Node) (visible : IsVisible t.nodes k leaf) (list : new.list ≡ leaf.list) (parent : new.parent ≡ leaf.parent)
     (g : IsForest (with_key t.nodes k new) t.lists) where

@@ -5,8 +5,7 @@ ghost use Rattle.slab.specs.Slab.{get, ContainsKey, HasRoomFor};
 ghost use Rattle.vm_base.specs.Entries.{with_key, without_key};
 ghost use Rattle.cow_arena.specs.declared.node.Node.{Node};
 ghost use Rattle.cow_arena.specs.Nodes.{nodes_of, link_to, child_on, other_side, side_of, node_above, side_in, sibling_in, AreFamily};
-ghost use Rattle.cow_arena.specs.Walk.{Slots, tree_with};
-ghost use Rattle.cow_arena.specs.Views.{ShowsSnapshot, KeepsWalks, KeepsListed};
+ghost use Rattle.cow_arena.specs.Walk.{Slots, tree_with, walk, frame_shown};
 ghost use Rattle.cow_arena.specs.Forest.{IsForest, HasListedRows};
 ghost use Rattle.cow_arena.specs.Changes.{root_node, window_first, moved_link, hidden_over, below_hidden, paired, relinked, lifted, spliced, spliced_over};
 ghost use Rattle.cow_arena.specs.Renamed.{AreExchanged};
@@ -21,7 +20,7 @@ use vm_base::{HostMemory, Koid, PageNo};
 
 /// The nodes of all clone trees. Contracts see the node of each number (`nodes_of`), and how many lists were given to
 /// nodes so far. The nodes are a forest at every moment (`IsForest`). If all rows stand in lists of nodes, they still
-/// do after each call (`KeepsListed`), provided that the lists of removed nodes have no rows. Only `add_root` and
+/// do after each call (`HasListedRows`), provided that the lists of removed nodes have no rows. Only `add_root` and
 /// `add_pair` ask the host for memory. No call goes over more than four nodes.
 #[derive(Drop)]
 pub struct CowArena {
@@ -70,8 +69,8 @@ impl CowArena {
         ensures hidden { hidden_count self.new ≡ hidden_count self.old }
         ensures visible { OnOk result (visible_count self.new ≡ visible_count self.old + 1) }
         ensures forest { IsForest (nodes_of self.new) self.new.lists }
-        ensures listed { OnOk result ((slots : Slots) → KeepsListed (tree_with (nodes_of self.old) self.old.lists slots)
-            (tree_with (nodes_of self.new) self.new.lists slots)) }
+        ensures listed { OnOk result ((slots : Slots) → HasListedRows (tree_with (nodes_of self.old) self.old.lists slots) →
+            HasListedRows (tree_with (nodes_of self.new) self.new.lists slots)) }
         ensures err { OnErr result (nodes_of self.new ≡ nodes_of self.old) }
         ensures err_lists { OnErr result (self.new.lists ≡ self.old.lists) }
         ensures err_visible { OnErr result (visible_count self.new ≡ visible_count self.old) }
@@ -97,8 +96,8 @@ impl CowArena {
     /// Puts a hidden node in the place of a VMO's node, with the list, the count and the window of that node. Below it
     /// stand the VMO's node, which sees all of it, and the node of a snapshot of `count` pages, which sees `seen` of
     /// its pages from page `first` on. Both have new lists without rows. So each page of the VMO's node shows what it
-    /// showed, and the walk from a page of any other node finds what it found. `HostMemory` if the host has too little
-    /// memory. Fewer than 2^64 - 2 lists were given before.
+    /// showed, and the walk from a page of any other node finds what it found. A page of the snapshot past those that it
+    /// sees is zero. `HostMemory` if the host has too little memory. Fewer than 2^64 - 2 lists were given before.
     pub fn add_pair(
         &mut self,
         leaf: NodeId,
@@ -115,15 +114,23 @@ impl CowArena {
         ensures nodes { IfOk result (λ pair. (node : Node) → nodes_of self.old leaf.0 ≡ Some node →
             nodes_of self.new ≡ paired (nodes_of self.old) leaf.0 node pair.hidden.0 pair.child.0 self.old.lists
             koid first seen count) }
-        ensures shows { IfOk result (λ pair. (slots : Slots) → HasListedRows (tree_with (nodes_of self.old) self.old.lists slots) →
-            ShowsSnapshot (tree_with (nodes_of self.old) self.old.lists slots) (tree_with (nodes_of self.new) self.new.lists slots)
-            leaf.0 pair.child.0 first seen) }
+        ensures shows { OnOk result ((slots : Slots) → HasListedRows (tree_with (nodes_of self.old) self.old.lists slots) →
+            (p : ℕ) (node : Node) → nodes_of self.old leaf.0 ≡ Some node → p < node.count →
+            frame_shown (tree_with (nodes_of self.new) self.new.lists slots) leaf.0 p ≡
+            frame_shown (tree_with (nodes_of self.old) self.old.lists slots) leaf.0 p) }
+        ensures walks { OnOk result ((slots : Slots) (k p : ℕ) (other : Node) → nodes_of self.old k ≡ Some other → k ≢ leaf.0 →
+            walk (tree_with (nodes_of self.new) self.new.lists slots) k p ≡ walk (tree_with (nodes_of self.old) self.old.lists slots) k p) }
+        ensures inside { IfOk result (λ pair. (slots : Slots) → HasListedRows (tree_with (nodes_of self.old) self.old.lists slots) →
+            (p : ℕ) → p < seen → frame_shown (tree_with (nodes_of self.new) self.new.lists slots) pair.child.0 p ≡
+            frame_shown (tree_with (nodes_of self.old) self.old.lists slots) leaf.0 (first + p)) }
+        ensures past { IfOk result (λ pair. (slots : Slots) → HasListedRows (tree_with (nodes_of self.old) self.old.lists slots) →
+            (p : ℕ) → seen ≤ p → frame_shown (tree_with (nodes_of self.new) self.new.lists slots) pair.child.0 p ≡ None) }
         ensures lists { OnOk result (self.new.lists ≡ self.old.lists + 2) }
         ensures hidden { OnOk result (hidden_count self.new ≡ hidden_count self.old + 1) }
         ensures visible { OnOk result (visible_count self.new ≡ visible_count self.old + 1) }
         ensures forest { IsForest (nodes_of self.new) self.new.lists }
-        ensures listed { OnOk result ((slots : Slots) → KeepsListed (tree_with (nodes_of self.old) self.old.lists slots)
-            (tree_with (nodes_of self.new) self.new.lists slots)) }
+        ensures listed { OnOk result ((slots : Slots) → HasListedRows (tree_with (nodes_of self.old) self.old.lists slots) →
+            HasListedRows (tree_with (nodes_of self.new) self.new.lists slots)) }
         ensures err { OnErr result (nodes_of self.new ≡ nodes_of self.old) }
         ensures err_lists { OnErr result (self.new.lists ≡ self.old.lists) }
         ensures err_hidden { OnErr result (hidden_count self.new ≡ hidden_count self.old) }
@@ -205,8 +212,8 @@ impl CowArena {
         ensures hidden { hidden_count self.new ≡ hidden_count self.old }
         ensures visible { visible_count self.new ≡ visible_count self.old }
         ensures forest { IsForest (nodes_of self.new) self.new.lists }
-        ensures listed { (slots : Slots) → KeepsListed (tree_with (nodes_of self.old) self.old.lists slots)
-            (tree_with (nodes_of self.new) self.new.lists slots) }
+        ensures listed { (slots : Slots) → HasListedRows (tree_with (nodes_of self.old) self.old.lists slots) →
+            HasListedRows (tree_with (nodes_of self.new) self.new.lists slots) }
     {
         let node = &mut self.nodes[at.0];
         node.first = first;
@@ -222,8 +229,8 @@ impl CowArena {
         ensures hidden { hidden_count self.new ≡ hidden_count self.old }
         ensures visible { visible_count self.new ≡ visible_count self.old }
         ensures forest { IsForest (nodes_of self.new) self.new.lists }
-        ensures listed { (slots : Slots) → KeepsListed (tree_with (nodes_of self.old) self.old.lists slots)
-            (tree_with (nodes_of self.new) self.new.lists slots) }
+        ensures listed { (slots : Slots) → HasListedRows (tree_with (nodes_of self.old) self.old.lists slots) →
+            HasListedRows (tree_with (nodes_of self.new) self.new.lists slots) }
     {
         self.nodes[at.0].count = count;
     }
@@ -237,8 +244,8 @@ impl CowArena {
         ensures visible { visible_count self.new + 1 ≡ visible_count self.old }
         ensures forest { IsForest (nodes_of self.new) self.new.lists }
         ensures listed { (slots : Slots) (node : Node) → nodes_of self.old leaf.0 ≡ Some node → ((p : ℕ) → slots node.list.0 p ≡ None) →
-            KeepsListed (tree_with (nodes_of self.old) self.old.lists slots)
-            (tree_with (nodes_of self.new) self.new.lists slots) }
+            HasListedRows (tree_with (nodes_of self.old) self.old.lists slots) →
+            HasListedRows (tree_with (nodes_of self.new) self.new.lists slots) }
     {
         self.nodes.try_remove(leaf.0);
     }
@@ -253,7 +260,8 @@ impl CowArena {
             nodes_of self.new ≡ spliced (nodes_of self.old) leaf.0 h s parent sibling }
         ensures walks { (slots : Slots) (h s : ℕ) (node parent sibling : Node) →
             AreFamily (nodes_of self.old) leaf.0 h s node parent sibling → ((p : ℕ) → slots parent.list.0 p ≡ None) →
-            KeepsWalks (tree_with (nodes_of self.old) self.old.lists slots) (tree_with (nodes_of self.new) self.new.lists slots) leaf.0 h }
+            (k p : ℕ) → k ≢ leaf.0 → k ≢ h → walk (tree_with (nodes_of self.new) self.new.lists slots) k p ≡
+            walk (tree_with (nodes_of self.old) self.old.lists slots) k p }
         ensures lists { self.new.lists ≡ self.old.lists }
         ensures hidden { hidden_count self.new + 1 ≡ hidden_count self.old }
         ensures visible { visible_count self.new + 1 ≡ visible_count self.old }
@@ -261,8 +269,8 @@ impl CowArena {
         ensures listed { (slots : Slots) (h s : ℕ) (node parent sibling : Node) →
             AreFamily (nodes_of self.old) leaf.0 h s node parent sibling →
             ((p : ℕ) → slots parent.list.0 p ≡ None) → ((p : ℕ) → slots node.list.0 p ≡ None) →
-            KeepsListed (tree_with (nodes_of self.old) self.old.lists slots)
-            (tree_with (nodes_of self.new) self.new.lists slots) }
+            HasListedRows (tree_with (nodes_of self.old) self.old.lists slots) →
+            HasListedRows (tree_with (nodes_of self.new) self.new.lists slots) }
     {
         let Some(hidden) = self.nodes[leaf.0].parent else {
             unreachable!()
@@ -295,7 +303,8 @@ impl CowArena {
         ensures walks { (slots over : Slots) (h s : ℕ) (node parent sibling : Node) →
             AreFamily (nodes_of self.old) leaf.0 h s node parent sibling →
             AreExchanged slots over parent.list.0 sibling.list.0 → ((p : ℕ) → slots parent.list.0 p ≡ None) →
-            KeepsWalks (tree_with (nodes_of self.old) self.old.lists slots) (tree_with (nodes_of self.new) self.new.lists over) leaf.0 h }
+            (k p : ℕ) → k ≢ leaf.0 → k ≢ h → walk (tree_with (nodes_of self.new) self.new.lists over) k p ≡
+            walk (tree_with (nodes_of self.old) self.old.lists slots) k p }
         ensures lists { self.new.lists ≡ self.old.lists }
         ensures hidden { hidden_count self.new + 1 ≡ hidden_count self.old }
         ensures visible { visible_count self.new + 1 ≡ visible_count self.old }
@@ -303,8 +312,8 @@ impl CowArena {
         ensures listed { (slots : Slots) (h s : ℕ) (node parent sibling : Node) →
             AreFamily (nodes_of self.old) leaf.0 h s node parent sibling →
             ((p : ℕ) → slots sibling.list.0 p ≡ None) → ((p : ℕ) → slots node.list.0 p ≡ None) →
-            KeepsListed (tree_with (nodes_of self.old) self.old.lists slots)
-            (tree_with (nodes_of self.new) self.new.lists slots) }
+            HasListedRows (tree_with (nodes_of self.old) self.old.lists slots) →
+            HasListedRows (tree_with (nodes_of self.new) self.new.lists slots) }
     {
         let (Some(hidden), Some(sibling)) = (self.nodes[leaf.0].parent, self.sibling(leaf)) else {
             unreachable!()

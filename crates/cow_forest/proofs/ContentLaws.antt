@@ -1,33 +1,17 @@
 -- What the content of the forest is, in the words of the tree: which pages are held, which frames are in use, and which VMOs
 -- show one.
-use Rattle.std.proofs.Common.{◌≡◌, ◌↔◌, ℕ, ◌<◌, ◌≤◌, true, false, not, ◌&&◌, ◌==◌, Option, None, Some, IsSome, refl, sym, ap, subst, ◌∙◌, inl, inr, arith}
-use Rattle.std.specs.Prelude.{is_some, unwrap_or}
+use Rattle.cow_forest.proofs.Words.{◌≡◌, ◌↔◌, ℕ, ◌<◌, ◌≤◌, true, false, not, ◌&&◌, ◌==◌, Option, None, Some, IsSome, refl, sym, ap, subst}
+use Rattle.cow_forest.proofs.Words.{◌∙◌, inl, inr, arith, is_some, unwrap_or, cases_lt, cases_eq, cases_Bool, and_from, not-true}
+use Rattle.cow_forest.proofs.Words.{common_steps, Koid, some_is, some_same, any_below_found, any_below_at, count_below_same, eqb_apart}
+use Rattle.cow_forest.proofs.Words.{Page, pages_of, in_use, used, views, seen_elsewhere, sole, count_from_page, views_found, views_at}
+use Rattle.cow_forest.proofs.Words.{sole-at, sole_from, Pool, taken_frames, taken_count, is_taken, frame_bytes, taken_count-is, Slot, Node}
+use Rattle.cow_forest.proofs.Words.{NodeId, Side, nodes_of, link_to, IsVisible, Found, frame_shown, frame_in, frame_found, IsPage}
+use Rattle.cow_forest.proofs.Words.{IsSeenFrom, IsLastViewer, all_in_sight, ShowsTag, node_in, Forest, tree, forest_content, count_from}
+use Rattle.cow_forest.proofs.Words.{pages_in, frame_from, page_with_frame, page_showing, HasNode, IsStore}
 use Rattle.std.specs.Cmp.{both_ways}
-use Rattle.std.proofs.lemmas.Bool.{cases_lt, cases_eq, cases_Bool, and_from, not-true}
-use Rattle.std.proofs.lemmas.Grind.{common_steps}
-use Rattle.vm_base.specs.declared.names.Koid.{Koid}
-use Rattle.vm_base.proofs.EntryLaws.{some_is, some_same}
-use Rattle.vm_base.proofs.SearchLaws.{any_below_found, any_below_at, count_below_same, eqb_apart}
-use Rattle.vm_model.specs.Contents.Content.{Page, pages_of, in_use, used, views, seen_elsewhere, sole}
-use Rattle.vm_model.proofs.ContentLaws.{count_from_page, views_found, views_at, sole-at, sole_from}
-use Rattle.frame_pool.specs.Pool.{Pool, taken_frames, taken_count, is_taken, frame_bytes}
-use Rattle.frame_pool.proofs.PoolLaws.{taken_count-is}
-use Rattle.page_list.specs.declared.row.Slot.{Slot}
-use Rattle.page_list.specs.declared.row.Slot.TheVariants as slot
-use Rattle.cow_arena.specs.declared.node.Node.{Node}
-use Rattle.cow_arena.specs.declared.node.NodeId.{NodeId}
-use Rattle.cow_arena.specs.declared.node.Side.{Side}
-use Rattle.cow_arena.specs.declared.node.Side.TheVariants as side
-use Rattle.cow_arena.specs.Nodes.{nodes_of, link_to, IsVisible}
-use Rattle.cow_arena.specs.Walk.{Found, frame_shown, frame_in, frame_found}
 use Rattle.cow_arena.proofs.WalkLaws.{link_same, walk-own}
 use Rattle.cow_arena.proofs.ReachLaws.{walk-ends}
-use Rattle.cow_split.specs.Sight.{IsPage, IsSeenFrom, IsLastViewer}
-use Rattle.cow_split.specs.Exact.{all_in_sight}
 use Rattle.cow_split.proofs.RowLaws.{frame-in_use}
-use Rattle.page_store.specs.Pages.{ShowsTag}
-use Rattle.cow_forest.specs.Tables.{node_in}
-use Rattle.cow_forest.specs.Store.{Forest, tree, forest_content, count_from, pages_in, frame_from, page_with_frame, page_showing, HasNode, IsStore}
 use Rattle.cow_forest.proofs.LookLaws.{page-past}
 
 -- the VMO v has the node k, and p is one of its pages
@@ -171,14 +155,14 @@ module _ (f : Forest) (s : IsStore f) where
     where
       with_bits : (h : ℕ) (node : Node) → nodes_of f.arena h ≡ Some node → node.koid ≡ None → (q : ℕ) (row : Slot) → (tree f).slots node.list.0 q ≡ Some row →
           frame_in row ≡ Some t → (v k p : ℕ) × ShownBy f v k p t
-      with_bits h node at hidden q slot.Zero is frame = absurd cc
-      with_bits h node at hidden q (slot.Frame tag left right) is frame =
+      with_bits h node at hidden q Slot.Zero is frame = absurd cc
+      with_bits h node at hidden q (Slot.Frame tag left right) is frame =
           let bits = s.exact.bits h q node tag left right at hidden is in
           elim (cases_Bool left) [
             | inl yes_left ↦
                 let not_right : right ≡ false = let some = bits.is_seen in grind (arith, common_steps) in
-                seen-shown side.Right h q t node (slot.Frame tag left right) at is frame (bits.right_bit.is_false not_right)
-            | inr not_left ↦ seen-shown side.Left h q t node (slot.Frame tag left right) at is frame (bits.left_bit.is_false not_left)
+                seen-shown Side.Right h q t node (Slot.Frame tag left right) at is frame (bits.right_bit.is_false not_right)
+            | inr not_left ↦ seen-shown Side.Left h q t node (Slot.Frame tag left right) at is frame (bits.left_bit.is_false not_left)
           ]
 
       with_koid : (h : ℕ) (node : Node) → nodes_of f.arena h ≡ Some node → (q : ℕ) (row : Slot) → (tree f).slots node.list.0 q ≡ Some row →

@@ -1,13 +1,8 @@
 -- How many numbers pass a test, where the elements of a list stand for them, or are they.
-use Rattle.std.proofs.Common.{◌≡◌, ◌≢◌, ℕ, ◌<◌, Bool, true, false, List, [], ◌∷◌, length, not, ◌&&◌, ◌==◌, inl, inr, refl, sym, ap, subst, ◌∙◌, arith}
-use Rattle.std.specs.Prelude.{eqb}
-use Rattle.std.specs.List.{All, Contains, IsDistinct}
-use Rattle.std.proofs.lemmas.List.Elements.{All-contains, All-from_recursion}
-use Rattle.std.proofs.lemmas.Map.Keys.{IsDistinct-head, IsDistinct-tail}
-use Rattle.std.proofs.lemmas.Bool.{and_left, and_parts, false_from_ne_true, not-true}
-use Rattle.slab.proofs.SlabLemmas.{Contains-cons_cases}
-use Rattle.vm_base.specs.Search.{count_below}
-use Rattle.vm_base.proofs.SearchLaws.{count_below_none, count_below_one_more, eqb_same, eqb_apart}
+use Rattle.cow_forest.proofs.Words.{◌≡◌, ◌≢◌, ℕ, ◌<◌, Bool, true, false, List, [], ◌∷◌, length, not, ◌&&◌, ◌==◌, inl, inr, refl, sym, ap}
+use Rattle.cow_forest.proofs.Words.{subst, ◌∙◌, arith, eqb, All, Contains, IsDistinct, All-contains, All-from_recursion, IsDistinct-head}
+use Rattle.cow_forest.proofs.Words.{IsDistinct-tail, and_left, and_parts, false_from_ne_true, not-true, count_below_none}
+use Rattle.cow_forest.proofs.Words.{count_below_one_more, eqb_same, eqb_apart, Contains-cons_cases, count_below}
 use Rattle.cow_split.proofs.SearchLaws.{contains-none, contains-first, contains-later}
 
 -- no element of a list comes again

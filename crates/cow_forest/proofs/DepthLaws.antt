@@ -1,15 +1,8 @@
 -- No way up from a VMO's node has more nodes than there are VMOs.
-use Rattle.std.proofs.Common.{◌≡◌, ℕ, ◌<◌, ◌≤◌, ap, inl, inr, arith}
-use Rattle.std.specs.Prelude.{IsSome, is_some}
-use Rattle.vm_base.proofs.EntryLaws.{entry_count_hit}
-use Rattle.vm_model.specs.Contents.Content.{vmos_of}
-use Rattle.cow_arena.specs.Nodes.{nodes_of, link_to}
-use Rattle.cow_arena.specs.Counts.{visible_count, HasFewerHidden}
+use Rattle.cow_forest.proofs.Words.{◌≡◌, ℕ, ◌<◌, ◌≤◌, ap, inl, inr, arith, IsSome, is_some, entry_count_hit, vmos_of, nodes_of, link_to}
+use Rattle.cow_forest.proofs.Words.{visible_count, HasFewerHidden, depth, node_in, Forest, forest_content, HasNode, IsStore}
 use Rattle.cow_arena.proofs.CountLaws.{is_visible}
-use Rattle.cow_split.specs.Cost.{depth}
 use Rattle.cow_split.proofs.DepthLaws.{depth-hidden}
-use Rattle.cow_forest.specs.Tables.{node_in}
-use Rattle.cow_forest.specs.Store.{Forest, forest_content, HasNode, IsStore}
 
 module _ (f : Forest) (s : IsStore f) (fewer : HasFewerHidden f.arena) (held : (k : ℕ) → IsSome (nodes_of f.arena k) → k < f.arena.slots.capacity) (v k : ℕ)
     (is : node_in f.nodes v ≡ link_to k) where

@@ -1,21 +1,10 @@
 -- Where only the elder founder of a hidden node may have a lesser koid, it shows the frame of a row of the node at the page of the row, or no
 -- VMO with a lesser koid shows it.
-use Rattle.std.proofs.Common.{◌≡◌, ℕ, ◌<◌, ◌≤◌, true, false, Option, None, Some, inl, inr, refl, sym, ap, subst, ◌∙◌, arith}
-use Rattle.std.proofs.lemmas.Bool.{cases_lt, false_from_ne_true}
-use Rattle.vm_base.specs.declared.names.Koid.{Koid}
-use Rattle.vm_model.specs.Contents.Content.{views}
-use Rattle.frame_pool.specs.Pool.{is_taken}
-use Rattle.cow_arena.specs.declared.node.NodeId.{NodeId}
-use Rattle.cow_arena.specs.declared.node.Side.{Side}
-use Rattle.cow_arena.specs.Nodes.{nodes_of}
-use Rattle.cow_arena.specs.Walk.{Found, frame_shown}
-use Rattle.cow_arena.specs.Ways.{Arrives}
+use Rattle.cow_forest.proofs.Words.{◌≡◌, ℕ, ◌<◌, ◌≤◌, true, false, Option, None, Some, inl, inr, refl, sym, ap, subst, ◌∙◌, arith, cases_lt}
+use Rattle.cow_forest.proofs.Words.{false_from_ne_true, Koid, views, is_taken, NodeId, Side, nodes_of, Found, frame_shown, Arrives}
+use Rattle.cow_forest.proofs.Words.{AreFounders, IsElderFor, HasFrameRow, node_in, Forest, tree, forest_content, frame_from, IsStore}
+use Rattle.cow_forest.proofs.Words.{FounderTable}
 use Rattle.cow_arena.proofs.ReachLaws.{walk-ends, hidden-apart}
-use Rattle.cow_forest.specs.declared.founders.FounderTable.{FounderTable}
-use Rattle.cow_forest.specs.inside.Founders.{AreFounders, IsElderFor}
-use Rattle.cow_forest.specs.inside.Viewing.{HasFrameRow}
-use Rattle.cow_forest.specs.Tables.{node_in}
-use Rattle.cow_forest.specs.Store.{Forest, tree, forest_content, frame_from, IsStore}
 use Rattle.cow_forest.proofs.ContentLaws.{ShownBy, node-visible, node-of, shown-views, views-shown, frame-past}
 use Rattle.cow_forest.proofs.ViewingLaws.{sees-row}
 use Rattle.cow_forest.proofs.FounderLaws.{reach-founders}

@@ -1,28 +1,11 @@
 -- A forest with nothing, one that gets its frames, and one with more room for rows.
-use Rattle.std.proofs.Common.{◌≡◌, ℕ, Bool, false, List, Option, None, Some, refl, sym, ap, subst, ◌∙◌, arith}
-use Rattle.std.specs.Prelude.{is_some}
-use Rattle.std.proofs.lemmas.Bool.{false_from_ne_true}
-use Rattle.balanced_tree.specs.Rows.{Rows}
-use Rattle.balanced_tree.specs.Pairs.{value_at}
-use Rattle.vm_base.proofs.SearchLaws.{count_below_none}
-use Rattle.vm_model.specs.Contents.Content.{Content, nothing, vmos_of}
-use Rattle.frame_pool.specs.Pool.{Pool, taken_frames, is_taken}
-use Rattle.page_list.specs.declared.row.Row.{Row}
-use Rattle.page_list.specs.Lists.{slots_of}
-use Rattle.page_list.specs.Order.{row_functions, slot_of}
-use Rattle.cow_arena.specs.declared.node.Node.{Node}
-use Rattle.cow_arena.specs.declared.node.NodeId.{NodeId}
-use Rattle.cow_arena.specs.Nodes.{Arena, Nodes, nodes_of}
-use Rattle.cow_arena.specs.Walk.{Slots}
-use Rattle.cow_arena.specs.Forest.{IsForest}
-use Rattle.cow_arena.specs.Counts.{visible_count}
-use Rattle.cow_split.specs.Trees.{tree_of}
-use Rattle.cow_split.specs.Exact.{IsExact, all_in_sight}
+use Rattle.cow_forest.proofs.Words.{◌≡◌, ℕ, Bool, false, List, Option, None, Some, refl, sym, ap, subst, ◌∙◌, arith, is_some}
+use Rattle.cow_forest.proofs.Words.{false_from_ne_true, Rows, value_at, count_below_none, Content, nothing, vmos_of, Pool, taken_frames}
+use Rattle.cow_forest.proofs.Words.{is_taken, Row, slots_of, row_functions, slot_of, Node, NodeId, Arena, Nodes, nodes_of, Slots, IsForest}
+use Rattle.cow_forest.proofs.Words.{visible_count, tree_of, IsExact, all_in_sight, same_content, node_in, Forest, tree, forest_content}
+use Rattle.cow_forest.proofs.Words.{count_from, frame_from, page_showing, IsNodeOf, IsStore}
 use Rattle.cow_split.proofs.RowLaws.{exact-in_use_alike}
 use Rattle.cow_fork.proofs.RootLaws.{exact-empty}
-use Rattle.vm_model.proofs.ContentLaws.{same_content}
-use Rattle.cow_forest.specs.Tables.{node_in}
-use Rattle.cow_forest.specs.Store.{Forest, tree, forest_content, count_from, frame_from, page_showing, IsNodeOf, IsStore}
 use Rattle.cow_forest.proofs.ContentLaws.{page-shown, taken-shown}
 use Rattle.cow_forest.proofs.StoreLaws.{store-kept}
 

@@ -1,33 +1,14 @@
 -- A forest that gets one more VMO stays a store, and one whose tables get room does.
-use Rattle.std.proofs.Common.{◌≡◌, ◌≢◌, ℕ, ◌+◌, ◌≤◌, Option, None, Some, refl, sym, ap, subst, ◌∙◌, inl, inr, arith}
-use Rattle.std.specs.Prelude.{is_some}
-use Rattle.std.proofs.lemmas.Bool.{cases_lt, cases_eq}
-use Rattle.balanced_tree.specs.Rows.{Rows}
+use Rattle.cow_forest.proofs.Words.{◌≡◌, ◌≢◌, ℕ, ◌+◌, ◌≤◌, Option, None, Some, refl, sym, ap, subst, ◌∙◌, inl, inr, arith, is_some}
+use Rattle.cow_forest.proofs.Words.{cases_lt, cases_eq, Rows, Koid, with_key, count_below_le, some_same, with_key-here, with_key-other}
+use Rattle.cow_forest.proofs.Words.{with_key-cases, Content, vmos_of, created, is_taken, Row, Node, NodeId, Arena, Nodes, nodes_of, link_to}
+use Rattle.cow_forest.proofs.Words.{IsVisible, visible_count, Tree, frame_shown, tree_of, IsPage, StaysVisible, IsExact, all_in_sight}
+use Rattle.cow_forest.proofs.Words.{AreLinked, same_content, vmos_of-same, vmos_of-created, NodeEntries, node_in, Forest, tree}
+use Rattle.cow_forest.proofs.Words.{forest_content, count_from, pages_in, frame_from, page_showing, HasNode, IsNodeOf, IsStore, forest_of}
+use Rattle.cow_forest.proofs.Words.{AreStore, AreFounders}
 use Rattle.vm_base.specs.declared.limits.TheConstants.{VMO_PAGES}
-use Rattle.vm_base.specs.declared.names.Koid.{Koid}
-use Rattle.vm_base.specs.Entries.{with_key}
-use Rattle.vm_base.proofs.SearchLaws.{count_below_le}
-use Rattle.vm_base.proofs.EntryLaws.{some_same, with_key-here, with_key-other, with_key-cases}
-use Rattle.vm_model.specs.Contents.Content.{Content, vmos_of, created}
-use Rattle.frame_pool.specs.Pool.{is_taken}
-use Rattle.page_list.specs.declared.row.Row.{Row}
-use Rattle.cow_arena.specs.declared.node.Node.{Node}
-use Rattle.cow_arena.specs.declared.node.NodeId.{NodeId}
-use Rattle.cow_arena.specs.Nodes.{Arena, Nodes, nodes_of, link_to, IsVisible}
-use Rattle.cow_arena.specs.Counts.{visible_count}
-use Rattle.cow_arena.specs.Walk.{Tree, frame_shown}
-use Rattle.cow_split.specs.Trees.{tree_of}
-use Rattle.cow_split.specs.Sight.{IsPage, StaysVisible}
-use Rattle.cow_split.specs.Exact.{IsExact, all_in_sight}
-use Rattle.cow_merge.specs.Ranges.{AreLinked}
-use Rattle.vm_model.proofs.ContentLaws.{same_content}
-use Rattle.vm_model.proofs.CountLaws.{vmos_of-same, vmos_of-created}
-use Rattle.cow_forest.specs.Tables.{NodeEntries, node_in}
-use Rattle.cow_forest.specs.Store.{Forest, tree, forest_content, count_from, pages_in, frame_from, page_showing, HasNode, IsNodeOf, IsStore}
 use Rattle.cow_jump.proofs.JumpRowLaws.{jumps-alike}
 use Rattle.cow_forest.specs.declared.forest.CowForest.TheInside.{Inside}
-use Rattle.cow_forest.specs.inside.Fields.{forest_of, AreStore}
-use Rattle.cow_forest.specs.inside.Founders.{AreFounders}
 use Rattle.cow_forest.proofs.ContentLaws.{node-visible, frame-past}
 
 -- there are no more VMOs than koids

@@ -1,31 +1,15 @@
 -- The founders of hidden nodes say who sees a row, and stay right where a VMO comes, changes its page count or goes, and where a
 -- snapshot is made.
-use Rattle.std.proofs.Common.{◌≡◌, ◌≢◌, ◌⊎◌, min, ℕ, zero, suc, ◌+◌, ◌≤◌, ◌==◌, if◌then◌else◌, Bool, Option, None, Some, inl, inr, refl, sym, ap, subst, ◌∙◌, arith}
-use Rattle.std.specs.Prelude.{List, [], ◌∷◌, ◌++◌, is_some, slice_index_or}
-use Rattle.std.proofs.lemmas.Bool.{cases_eq}
-use Rattle.vm_base.specs.declared.names.Koid.{Koid}
-use Rattle.vm_base.specs.Entries.{with_key}
-use Rattle.vm_base.proofs.EntryLaws.{some_same, with_key-cases}
-use Rattle.vm_base.proofs.SearchLaws.{eqb_same, eqb_apart}
-use Rattle.balanced_tree.specs.Rows.{Rows}
-use Rattle.page_list.specs.declared.row.Row.{Row}
-use Rattle.cow_arena.specs.declared.node.Node.{Node}
-use Rattle.cow_arena.specs.declared.node.Pair.{Pair}
-use Rattle.cow_arena.specs.declared.node.Side.{Side}
-use Rattle.cow_arena.specs.Nodes.{Arena, Nodes, nodes_of, IsVisible, link_to}
-use Rattle.cow_arena.specs.Walk.{Tree}
-use Rattle.cow_arena.specs.Ways.{Climbs, ReachesIn, Reaches}
-use Rattle.cow_arena.specs.Forest.{IsForest}
-use Rattle.cow_arena.specs.Changes.{root_node, paired, hidden_over, below_hidden, snapshot_node}
+use Rattle.cow_forest.proofs.Words.{◌≡◌, ◌≢◌, ◌⊎◌, min, ℕ, zero, suc, ◌+◌, ◌≤◌, ◌==◌, if◌then◌else◌, Bool, None, Some, inl, inr, refl, sym}
+use Rattle.cow_forest.proofs.Words.{ap, subst, ◌∙◌, arith, is_some, cases_eq, Koid, with_key, some_same, with_key-cases, eqb_same}
+use Rattle.cow_forest.proofs.Words.{eqb_apart, Rows, Row, Node, Pair, Side, Arena, Nodes, nodes_of, IsVisible, link_to, Tree, Climbs}
+use Rattle.cow_forest.proofs.Words.{ReachesIn, Reaches, IsForest, root_node, paired, hidden_over, below_hidden, snapshot_node, HasShared}
+use Rattle.cow_forest.proofs.Words.{with_count, IsRaised, WasUnder, founders_in, koid_or, eldest, IsUnder, AreFoundersBy, AreFounders}
+use Rattle.cow_forest.proofs.Words.{Forest, HasNode, IsStore, FounderTable}
 use Rattle.cow_arena.proofs.WalkLaws.{link_same}
 use Rattle.cow_arena.proofs.RelinkLaws.{relinked-was}
-use Rattle.cow_fork.specs.Sharing.{HasShared}
-use Rattle.cow_merge.specs.Merging.{with_count, IsRaised, KeepsParents}
 use Rattle.cow_merge.proofs.ParentLaws.{window_first-zero}
 use Rattle.cow_forest.specs.declared.founders.Founders.{Founders}
-use Rattle.cow_forest.specs.declared.founders.FounderTable.{FounderTable}
-use Rattle.cow_forest.specs.inside.Founders.{founders_in, koid_or, eldest, IsUnder, AreFoundersBy, AreFounders}
-use Rattle.cow_forest.specs.Store.{Forest, HasNode, IsStore}
 
 -- ---- from where a way comes
 
@@ -90,7 +74,7 @@ module _ (t : Tree) (f : IsForest t.nodes t.lists) (next : ℕ) (elder younger :
 
 -- ---- nodes keep their parents, or have those of their parents
 
-module _ (old new : Nodes) (next now : ℕ) (more : next ≤ now) (keeps : KeepsParents old new) (elder younger : ℕ → ℕ) (by : AreFoundersBy old next elder younger) where
+module _ (old new : Nodes) (next now : ℕ) (more : next ≤ now) (keeps : (k h : ℕ) (now : Node) → new k ≡ Some now → now.parent ≡ link_to h → WasUnder old k h now) (elder younger : ℕ → ℕ) (by : AreFoundersBy old next elder younger) where
   key-same : (k : ℕ) (node after : Node) → after.koid ≡ node.koid → eldest elder k after ≡ eldest elder k node
   key-same k node after same = ap (koid_or (elder k)) same
 
@@ -111,7 +95,7 @@ module _ (old new : Nodes) (next now : ℕ) (more : next ≤ now) (keeps : Keeps
 
   pub founders-kept : AreFoundersBy new now elder younger
   founders-kept = record {
-    under = λ h k after at up. elim (keeps.parents k h after at up) [
+    under = λ h k after at up. elim (keeps k h after at up) [
       | inl it ↦
           let key = key-same k it.node after it.koid in
           elim (by.under h k it.node it.at it.parent) [
@@ -120,7 +104,7 @@ module _ (old new : Nodes) (next now : ℕ) (more : next ≤ now) (keeps : Keeps
           ]
       | inr it ↦ under-raised h k after it
     ];
-    later = λ h k after at hidden up. elim (keeps.parents k h after at up) [
+    later = λ h k after at hidden up. elim (keeps k h after at up) [
       | inl it ↦ by.later h k it.node it.at (sym it.koid ∙ hidden) it.parent
       | inr it ↦
           let above = by.later h it.j it.between it.between_at it.hidden it.parent in
@@ -131,7 +115,8 @@ module _ (old new : Nodes) (next now : ℕ) (more : next ≤ now) (keeps : Keeps
   }
 
 -- the nodes may have changed, but no hidden node came
-pub founders-stay : (old new : Nodes) (next now : ℕ) → next ≤ now → KeepsParents old new →
+pub founders-stay : (old new : Nodes) (next now : ℕ) → next ≤ now →
+    ((k h : ℕ) (now : Node) → new k ≡ Some now → now.parent ≡ link_to h → WasUnder old k h now) →
     ((k : ℕ) (after : Node) → new k ≡ Some after → after.koid ≡ None → (node : Node) × (old k ≡ Some node) × (node.koid ≡ None)) →
     (table : FounderTable) → AreFounders old next table → AreFounders new now table
 founders-stay old new next now more keeps came table are = record {
@@ -147,12 +132,10 @@ pub founders-root : (old new : Nodes) (k list count : ℕ) (koid : Koid) → new
     AreFounders old next table → AreFounders new (next + 1) table
 founders-root old new k list count koid is next table =
     founders-stay old new next (next + 1) (omega arith)
-    (record {
-      parents = λ j h after at up. elim (with_key-cases old k (root_node koid list count) j after (sym (ap (λ (n : Nodes). n j) is) ∙ at)) [
-        | inl own ↦ absurd (let none = ap (λ (n : Node). n.parent) own.1 in cc)
-        | inr was ↦ inl (record { node = after; at = was.1; koid = refl; parent = up; first = λ none. none })
-      ];
-    })
+    (λ j h after at up. elim (with_key-cases old k (root_node koid list count) j after (sym (ap (λ (n : Nodes). n j) is) ∙ at)) [
+      | inl own ↦ absurd (let none = ap (λ (n : Node). n.parent) own.1 in cc)
+      | inr was ↦ inl (record { node = after; at = was.1; koid = refl; parent = up; first = λ none. none })
+    ])
     (λ j after at hidden. elim (with_key-cases old k (root_node koid list count) j after (sym (ap (λ (n : Nodes). n j) is) ∙ at)) [
       | inl own ↦ absurd (let some = ap (λ (n : Node). n.koid) own.1 in cc)
       | inr was ↦ (after, was.1, hidden)
@@ -165,18 +148,16 @@ pub founders-resized : (old new : Nodes) (k count : ℕ) (leaf : Node) → IsVis
     (table : FounderTable) → AreFounders old next table → AreFounders new next table
 founders-resized old new k count leaf visible is next table =
     founders-stay old new next next (omega arith)
-    (record {
-      parents = λ j h after at up. elim (with_key-cases old k (with_count leaf count) j after (sym (ap (λ (n : Nodes). n j) is) ∙ at)) [
-        | inl own ↦ inl (record {
-          node = leaf;
-          at = ap old own.0 ∙ visible.at;
-          koid = ap (λ (n : Node). n.koid) (sym own.1);
-          parent = ap (λ (n : Node). n.parent) own.1 ∙ up;
-          first = λ none. ap (λ (n : Node). n.first) (sym own.1) ∙ window_first-zero leaf.first (min leaf.seen count) none;
-        })
-        | inr was ↦ inl (record { node = after; at = was.1; koid = refl; parent = up; first = λ none. none })
-      ];
-    })
+    (λ j h after at up. elim (with_key-cases old k (with_count leaf count) j after (sym (ap (λ (n : Nodes). n j) is) ∙ at)) [
+      | inl own ↦ inl (record {
+        node = leaf;
+        at = ap old own.0 ∙ visible.at;
+        koid = ap (λ (n : Node). n.koid) (sym own.1);
+        parent = ap (λ (n : Node). n.parent) own.1 ∙ up;
+        first = λ none. ap (λ (n : Node). n.first) (sym own.1) ∙ window_first-zero leaf.first (min leaf.seen count) none;
+      })
+      | inr was ↦ inl (record { node = after; at = was.1; koid = refl; parent = up; first = λ none. none })
+    ])
     (λ j after at hidden. elim (with_key-cases old k (with_count leaf count) j after (sym (ap (λ (n : Nodes). n j) is) ∙ at)) [
       | inl own ↦ absurd (let same = ap (λ (n : Node). is_some n.koid) own.1 in let some = visible.koid in let none = ap is_some hidden in cc)
       | inr was ↦ (after, was.1, hidden)
@@ -184,6 +165,13 @@ founders-resized old new k count leaf visible is next table =
     table
 
 -- ---- a snapshot is made
+
+-- numbers of which one changes
+put-here : (map : ℕ → ℕ) (h n : ℕ) → (if h == h then n else map h) ≡ n
+put-here map h n = ap (λ (b : Bool). if b then n else map h) (eqb_same h)
+
+put-other : (map : ℕ → ℕ) (h n k : ℕ) → k ≢ h → (if k == h then n else map k) ≡ map k
+put-other map h n k away = ap (λ (b : Bool). if b then n else map k) (eqb_apart k h away)
 
 module _ (old : Nodes) (lists : ℕ) (f : IsForest old lists) (v : ℕ) (leaf : Node) (visible : IsVisible old v leaf) (of : Koid) (named : leaf.koid ≡ Some of) (h c : ℕ)
     (no_h : old h ≡ None) (no_c : old c ≡ None) (apart : h ≢ c) (first seen count next : ℕ) (older newer : FounderTable) (are : AreFounders old next older)
@@ -201,18 +189,6 @@ module _ (old : Nodes) (lists : ℕ) (f : IsForest old lists) (v : ℕ) (leaf : 
 
   abbrev younger : ℕ → ℕ
   younger k = if k == h then next else are.younger k
-
-  elder-here : elder h ≡ of.0
-  elder-here = ap (λ (b : Bool). if b then of.0 else are.elder h) (eqb_same h)
-
-  elder-other : (k : ℕ) → k ≢ h → elder k ≡ are.elder k
-  elder-other k away = ap (λ (b : Bool). if b then of.0 else are.elder k) (eqb_apart k h away)
-
-  younger-here : younger h ≡ next
-  younger-here = ap (λ (b : Bool). if b then next else are.younger h) (eqb_same h)
-
-  younger-other : (k : ℕ) → k ≢ h → younger k ≡ are.younger k
-  younger-other k away = ap (λ (b : Bool). if b then next else are.younger k) (eqb_apart k h away)
 
   -- the four kinds of nodes that are there
   data Kind (k : ℕ) (node : Node) : Type 0 where
@@ -240,8 +216,8 @@ module _ (old : Nodes) (lists : ℕ) (f : IsForest old lists) (v : ℕ) (leaf : 
 
   under-here : (x k : ℕ) (node : Node) → x ≡ h → ((eldest elder k node ≡ of.0) × (node.first ≡ 0)) ⊎ (next ≤ eldest elder k node) → IsUnder elder younger x k node
   under-here x k node same is =
-      let its = ap elder same ∙ elder-here in
-      let late = ap younger same ∙ younger-here in
+      let its = ap elder same ∙ put-here are.elder h of.0 in
+      let late = ap younger same ∙ put-here are.younger h next in
       elim is [
         | inl own ↦ (let key = own.0 in inl (omega arith, own.1))
         | inr newer ↦ inr (omega arith)
@@ -250,8 +226,8 @@ module _ (old : Nodes) (lists : ℕ) (f : IsForest old lists) (v : ℕ) (leaf : 
   under-there : (x k j : ℕ) (node was : Node) → x ≢ h → IsUnder are.elder are.younger x j was → eldest elder k node ≡ eldest are.elder j was → node.first ≡ was.first →
       IsUnder elder younger x k node
   under-there x k j node was away is key first_is =
-      let its = elder-other x away in
-      let late = younger-other x away in
+      let its = put-other are.elder h of.0 x away in
+      let late = put-other are.younger h next x away in
       elim is [
         | inl own ↦ (let mine = own.0 in inl (omega arith, first_is ∙ own.1))
         | inr newer ↦ inr (omega arith)
@@ -267,27 +243,27 @@ module _ (old : Nodes) (lists : ℕ) (f : IsForest old lists) (v : ℕ) (leaf : 
       let above : leaf.parent ≡ link_to x = sym (ap (λ (n : Node). n.parent) is) ∙ up in
       let away = parent-apart x v leaf visible.at above in
       under-there x k v node leaf away (are.by.under x v leaf visible.at above)
-      (ap (λ (n : Node). koid_or (elder k) n.koid) is ∙ (ap elder at ∙ elder-here) ∙ sym (ap (koid_or (are.elder v)) named))
+      (ap (λ (n : Node). koid_or (elder k) n.koid) is ∙ (ap elder at ∙ put-here are.elder h of.0) ∙ sym (ap (koid_or (are.elder v)) named))
       (ap (λ (n : Node). n.first) is)
   under-of x k node (other_kind away was at koid_is up_is first_is) up =
       let above : was.parent ≡ link_to x = sym up_is ∙ up in
       under-there x k k node was (parent-apart x k was at above) (are.by.under x k was at above)
-      (ap (koid_or (elder k)) koid_is ∙ ap (λ e. koid_or e was.koid) (elder-other k away)) first_is
+      (ap (koid_or (elder k)) koid_is ∙ ap (λ e. koid_or e was.koid) (put-other are.elder h of.0 k away)) first_is
 
   later-of : (x k : ℕ) (node : Node) → Kind k node → node.koid ≡ None → node.parent ≡ link_to x → younger x ≤ younger k
   later-of x k node (snapshot_kind at is) hidden up = absurd (let some = ap (λ (n : Node). n.koid) is in cc)
   later-of x k node (leaf_kind at is) hidden up = absurd (let some = ap (λ (n : Node). n.koid) is ∙ named in cc)
   later-of x k node (hidden_kind at is) hidden up =
       let above : leaf.parent ≡ link_to x = sym (ap (λ (n : Node). n.parent) is) ∙ up in
-      let its = younger-other x (parent-apart x v leaf visible.at above) in
+      let its = put-other are.younger h next x (parent-apart x v leaf visible.at above) in
       let made = are.by.made x in
-      let now = ap younger at ∙ younger-here in
+      let now = ap younger at ∙ put-here are.younger h next in
       omega arith
   later-of x k node (other_kind away was at koid_is up_is first_is) hidden up =
       let above : was.parent ≡ link_to x = sym up_is ∙ up in
       let order = are.by.later x k was at (sym koid_is ∙ hidden) above in
-      let its = younger-other x (parent-apart x k was at above) in
-      let own = younger-other k away in
+      let its = put-other are.younger h next x (parent-apart x k was at above) in
+      let own = put-other are.younger h next k away in
       omega arith
 
   noted-of : (k : ℕ) (node : Node) (founders : Founders) → Kind k node → node.koid ≡ None → founders_in newer k ≡ Some founders →
@@ -298,13 +274,13 @@ module _ (old : Nodes) (lists : ℕ) (f : IsForest old lists) (v : ℕ) (leaf : 
     | inr none ↦ absurd (let some = ap (founders_in newer) (sym at) ∙ has in cc)
     | inl mine ↦
         let same : record { elder = of; younger = koid } ≡ founders = some_same (sym mine ∙ (ap (founders_in newer) (sym at) ∙ has)) in (
-          ap (λ (it : Founders). it.elder.0) (sym same) ∙ sym (ap elder at ∙ elder-here),
-          ap (λ (it : Founders). it.younger.0) (sym same) ∙ sym (ap younger at ∙ younger-here),
+          ap (λ (it : Founders). it.elder.0) (sym same) ∙ sym (ap elder at ∙ put-here are.elder h of.0),
+          ap (λ (it : Founders). it.younger.0) (sym same) ∙ sym (ap younger at ∙ put-here are.younger h next),
         )
   ]
   noted-of k node founders (other_kind away was at koid_is up_is first_is) hidden has =
       let it = are.noted k was founders at (sym koid_is ∙ hidden) (sym (others k away) ∙ has) in
-      (it.0 ∙ sym (elder-other k away), it.1 ∙ sym (younger-other k away))
+      (it.0 ∙ sym (put-other are.elder h of.0 k away), it.1 ∙ sym (put-other are.younger h next k away))
 
   pub founders-paired : AreFounders new (next + 1) newer
   founders-paired = record {
@@ -314,8 +290,8 @@ module _ (old : Nodes) (lists : ℕ) (f : IsForest old lists) (v : ℕ) (leaf : 
       under = λ x k node at up. under-of x k node (kind k node at) up;
       later = λ x k node at hidden up. later-of x k node (kind k node at) hidden up;
       made = λ k. elim (cases_eq k h) [
-        | inl same ↦ (let now = ap younger same ∙ younger-here in omega arith)
-        | inr away ↦ (let was = are.by.made k in let its = younger-other k away in omega arith)
+        | inl same ↦ (let now = ap younger same ∙ put-here are.younger h next in omega arith)
+        | inr away ↦ (let was = are.by.made k in let its = put-other are.younger h next k away in omega arith)
       ];
     };
     noted = λ k node founders at hidden has. noted-of k node founders (kind k node at) hidden has;
@@ -351,13 +327,3 @@ founders-none nodes none next table = record {
   where
     empty : (k : ℕ) (node : Node) → nodes k ≡ Some node → ⊥
     empty k node at = let gone = ap (λ (n : Nodes). n k) none in cc
-
--- a place more, without founders
-pub none-pushed : (xs ys : List (Option Founders)) (k : ℕ) → ys ≡ xs ++ None ∷ [] → slice_index_or ys k None ≡ slice_index_or xs k None
-none-pushed xs ys k is = ap (λ zs. slice_index_or zs k None) is ∙ more xs k
-  where
-    more : (xs : List (Option Founders)) (k : ℕ) → slice_index_or (xs ++ None ∷ []) k None ≡ slice_index_or xs k None
-    more [] zero = refl
-    more [] (suc k) = refl
-    more (x ∷ xs) zero = refl
-    more (x ∷ xs) (suc k) = more xs k

@@ -1,26 +1,15 @@
 -- Looking at pages, and reading and writing the bytes of a frame.
-use Rattle.std.proofs.Common.{◌≡◌, ◌≢◌, ℕ, List, [], Option, None, Some, IsSome, refl, sym, ap, subst, ◌∙◌, arith}
-use Rattle.std.specs.Prelude.{unwrap_or}
+use Rattle.cow_forest.proofs.Words.{◌≡◌, ◌≢◌, ℕ, List, [], Option, None, Some, IsSome, refl, sym, ap, subst, ◌∙◌, arith, unwrap_or}
+use Rattle.cow_forest.proofs.Words.{nat_tests, Tag, with_key, with_key-same, with_key-other, Page, is_sole_page, sole, hold, Backlink, Pool}
+use Rattle.cow_forest.proofs.Words.{taken_frames, is_taken, frame_bytes, links_of, frame_shown, IsExact, all_in_sight, IsPage, AreLinked}
+use Rattle.cow_forest.proofs.Words.{look_at, tag_held, ShowsTag, IsShown, IsShownOnce, Overwrites, IsLook, ShowsFrameOrNone, Forest, tree}
+use Rattle.cow_forest.proofs.Words.{forest_content, page_with_frame, page_showing, HasNode, IsStore}
 use Rattle.std.specs.Cmp.{both_ways}
-use Rattle.std.proofs.lemmas.Bool.Decides.{nat_tests}
-use Rattle.vm_base.specs.declared.names.Tag.{Tag}
-use Rattle.vm_base.specs.Entries.{with_key}
 use Rattle.vm_base.specs.Pages.{replaced}
-use Rattle.vm_base.proofs.EntryLaws.{with_key-same, with_key-other}
-use Rattle.vm_model.specs.Contents.Content.{Page, is_sole_page, sole, hold}
-use Rattle.frame_pool.specs.declared.frame_pool.Backlink.{Backlink}
-use Rattle.frame_pool.specs.Pool.{Pool, taken_frames, is_taken, frame_bytes, links_of}
-use Rattle.cow_arena.specs.Walk.{frame_shown}
-use Rattle.cow_split.specs.Exact.{IsExact, all_in_sight}
-use Rattle.cow_split.specs.Sight.{IsPage}
 use Rattle.cow_split.proofs.RowLaws.{frame-in_use, exact-in_use_alike}
-use Rattle.cow_merge.specs.Ranges.{AreLinked}
-use Rattle.page_store.specs.Pages.{look_at, tag_held, ShowsTag, IsShown, IsShownOnce, Overwrites}
 use Rattle.page_store.specs.declared.page_store.Look.{Look}
 use Rattle.page_store.specs.declared.page_store.Look.TheVariants as look
 use Rattle.page_store.proofs.FlatOwning.{is_some-with_key}
-use Rattle.cow_forest.specs.inside.Looking.{IsLook, ShowsFrameOrNone}
-use Rattle.cow_forest.specs.Store.{Forest, tree, forest_content, page_with_frame, page_showing, HasNode, IsStore}
 use Rattle.cow_forest.proofs.ContentLaws.{HasPage, ShownBy, page-of, page-shown, shown-page, vmo-shows, sole-last, one-node}
 use Rattle.cow_forest.proofs.StoreLaws.{IsChangedAt, store-kept, content-held}
 

@@ -1,28 +1,13 @@
 -- How many rows have a frame: as many as frames are taken.
-use Rattle.std.proofs.Common.{◌≡◌, ℕ, ◌+◌, ◌<◌, ◌/◌, ◌%◌, ◌^◌, true, false, cond, List, [], ◌∷◌, length, Option, None, Some, IsSome, refl, sym, ap, subst, ◌∙◌, inl, inr, arith}
-use Rattle.std.specs.Prelude.{eqb, filter, is_some}
-use Rattle.std.specs.List.{Contains, AllByRecursion, IsDistinct, filter_map, cons_option}
-use Rattle.std.specs.Option.{option_map}
-use Rattle.std.proofs.lemmas.Bool.{cases_Bool, cases_lt, cond-true, cond-false, ne_eqb}
-use Rattle.std.proofs.lemmas.Map.Keys.{IsDistinct-cons}
-use Rattle.balanced_tree.specs.Rows.{Rows, row_at, RisesWithin, IsRising}
-use Rattle.balanced_tree.specs.Pairs.{pair_rank}
+use Rattle.cow_forest.proofs.Words.{◌≡◌, ℕ, ◌+◌, ◌<◌, ◌/◌, ◌%◌, ◌^◌, true, false, cond, List, [], ◌∷◌, length, Option, None, Some, IsSome}
+use Rattle.cow_forest.proofs.Words.{refl, sym, ap, subst, ◌∙◌, inl, inr, arith, eqb, filter, is_some, Contains, AllByRecursion, IsDistinct}
+use Rattle.cow_forest.proofs.Words.{filter_map, cons_option, option_map, cases_Bool, cases_lt, cond-true, cond-false, ne_eqb}
+use Rattle.cow_forest.proofs.Words.{IsDistinct-cons, Rows, row_at, RisesWithin, IsRising, pair_rank, value-seen, value-found, value-past}
+use Rattle.cow_forest.proofs.Words.{some_same, eqb_same, eqb_apart, taken_frames, taken_count, is_taken, taken_count-is, Row, Slot}
+use Rattle.cow_forest.proofs.Words.{row_functions, slot_of, slots_of, frame_in, IsExact, all_in_sight, Forest, tree, row_pairs}
+use Rattle.cow_forest.proofs.Words.{Contains-cons_cases}
 use Rattle.balanced_tree.proofs.ListLaws.{row_at-behind}
-use Rattle.balanced_tree.proofs.PairLaws.{value-seen, value-found, value-past}
-use Rattle.vm_base.proofs.EntryLaws.{some_same}
-use Rattle.vm_base.proofs.SearchLaws.{eqb_same, eqb_apart}
-use Rattle.frame_pool.specs.Pool.{taken_frames, taken_count, is_taken}
-use Rattle.frame_pool.proofs.PoolLaws.{taken_count-is}
-use Rattle.page_list.specs.declared.row.Row.{Row}
-use Rattle.page_list.specs.declared.row.Slot.{Slot}
-use Rattle.page_list.specs.Order.{row_functions, slot_of}
-use Rattle.page_list.specs.Lists.{slots_of}
-use Rattle.page_list.proofs.SlotLaws.{row_pairs}
-use Rattle.slab.proofs.SlabLemmas.{Contains-cons_cases}
-use Rattle.cow_arena.specs.Walk.{frame_in}
-use Rattle.cow_split.specs.Exact.{IsExact, all_in_sight}
 use Rattle.cow_split.proofs.SearchLaws.{contains-none, contains-first, contains-later}
-use Rattle.cow_forest.specs.Store.{Forest, tree}
 use Rattle.cow_forest.specs.Counting.{frame_row_count}
 use Rattle.cow_forest.proofs.CountLaws.{count_below_list}
 

@@ -1,13 +1,7 @@
 -- The pages of a VMO that are held, where a look goes over the pages of its node.
-use Rattle.std.proofs.Common.{◌≡◌, ℕ, ◌<◌, ◌≤◌, Option, None, Some, IsSome, IsSomeAnd, sym, ap, subst, ◌∙◌}
-use Rattle.std.specs.Prelude.{is_some, IfSome, IfNone}
-use Rattle.vm_model.specs.Contents.Content.{Page}
-use Rattle.frame_pool.specs.Pool.{Pool}
-use Rattle.cow_arena.specs.declared.node.Node.{Node}
-use Rattle.cow_arena.specs.Nodes.{nodes_of}
-use Rattle.cow_arena.specs.Walk.{frame_shown}
-use Rattle.cow_forest.specs.inside.Looking.{ShowsNoneIn, ShowsNoneFrom}
-use Rattle.cow_forest.specs.Store.{Forest, tree, forest_content, page_showing, HasNode, IsStore}
+use Rattle.cow_forest.proofs.Words.{◌≡◌, ℕ, ◌<◌, ◌≤◌, Option, None, Some, IsSome, IsSomeAnd, sym, ap, subst, ◌∙◌, is_some, IfSome, IfNone}
+use Rattle.cow_forest.proofs.Words.{Page, Pool, Node, nodes_of, frame_shown, ShowsNoneIn, ShowsNoneFrom, Forest, tree, forest_content}
+use Rattle.cow_forest.proofs.Words.{page_showing, HasNode, IsStore}
 use Rattle.cow_forest.proofs.ContentLaws.{page-of}
 
 -- a page that shows a frame is held

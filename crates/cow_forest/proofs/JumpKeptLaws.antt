@@ -1,40 +1,22 @@
 -- The jumps stay right where a VMO's node gets rows, where a VMO comes, changes its page count or goes, and where a snapshot is made.
-use Rattle.std.proofs.Common.{◌≡◌, ◌≢◌, ◌⊎◌, min, ℕ, ◌+◌, Option, None, Some, IsSome, inl, inr, refl, sym, ap, subst, ◌∙◌, arith, ◌<◌, ◌≤◌}
-use Rattle.std.specs.Prelude.{is_some, if◌then◌else◌, ◌==◌, Bool, true, false}
-use Rattle.std.specs.Option.{option_map}
-use Rattle.std.proofs.lemmas.Bool.{cases_Bool, cases_eq}
-use Rattle.vm_base.specs.declared.names.Koid.{Koid}
-use Rattle.vm_base.specs.Entries.{with_key}
-use Rattle.vm_base.proofs.SearchLaws.{eqb_apart}
-use Rattle.vm_base.proofs.EntryLaws.{some_same, some_is, none_is, with_key-same, with_key-other}
-use Rattle.balanced_tree.specs.Rows.{Rows}
-use Rattle.page_list.specs.declared.row.Row.{Row}
-use Rattle.page_list.specs.Lists.{slots_of}
-use Rattle.frame_pool.specs.Pool.{Pool, is_taken}
-use Rattle.cow_arena.specs.declared.node.Node.{Node}
-use Rattle.cow_arena.specs.declared.node.Pair.{Pair}
-use Rattle.cow_arena.specs.Nodes.{Arena, Nodes, nodes_of, IsVisible}
-use Rattle.cow_arena.specs.Walk.{Tree, Slots, tree_with}
-use Rattle.cow_arena.specs.Forest.{IsForest}
-use Rattle.cow_arena.specs.Changes.{root_node, paired}
-use Rattle.cow_arena.specs.Ways.{KeepsBare}
+use Rattle.cow_forest.proofs.Words.{◌≡◌, ◌≢◌, ◌⊎◌, min, ℕ, ◌+◌, None, Some, IsSome, inl, inr, refl, sym, ap, subst, ◌∙◌, arith, ◌<◌, ◌≤◌}
+use Rattle.cow_forest.proofs.Words.{is_some, if◌then◌else◌, ◌==◌, Bool, true, false, option_map, cases_Bool, cases_eq, Koid, with_key}
+use Rattle.cow_forest.proofs.Words.{eqb_apart, some_same, some_is, none_is, with_key-same, with_key-other, Rows, Row, slots_of, Pool}
+use Rattle.cow_forest.proofs.Words.{is_taken, Node, Pair, Arena, Nodes, nodes_of, IsVisible, Tree, Slots, tree_with, IsForest, root_node}
+use Rattle.cow_forest.proofs.Words.{paired, KeepsBare, tree_of, HasShared, split_slots, split_row, is_taken_in, with_count, KeepsPages, IsPartOf}
+use Rattle.cow_forest.proofs.Words.{jump_in, serial_in, IsCurrentJump, IsJump, AreJumps, AreMovedUp, ArePairRetired, Forest, tree, HasNode}
+use Rattle.cow_forest.proofs.Words.{IsStore, HasZeroed}
 use Rattle.cow_arena.proofs.PairWalkLaws.{paired_tree, leaf-at, hidden-at, other-at}
 use Rattle.cow_arena.proofs.RelinkLaws.{relinked-stays, relinked-was}
-use Rattle.cow_arena.specs.Views.{KeepsRises}
+use Rattle.cow_arena.specs.Ways.{KeepsRises}
 use Rattle.cow_arena.proofs.RisesLaws.{rises-stays, rises-changed, rises-paired, rises-hidden}
 use Rattle.cow_arena.proofs.MovedLaws.{IsChangeOf}
 use Rattle.cow_arena.proofs.WindowWalkLaws.{node-added, leaf-changed}
-use Rattle.cow_split.specs.Trees.{tree_of}
 use Rattle.cow_split.proofs.PartLaws.{bare-part}
-use Rattle.cow_fork.specs.Sharing.{HasShared}
-use Rattle.cow_fork.specs.Snapshots.{split_slots, split_row, is_taken_in}
-use Rattle.cow_merge.specs.Merging.{with_count, HasShrunk}
 use Rattle.cow_jump.specs.declared.jumps.Jump.{Jump}
 use Rattle.cow_jump.specs.declared.jumps.JumpTable.{JumpTable}
+use Rattle.cow_jump.proofs.JumpLaws.{jump-carried}
 use Rattle.cow_jump.proofs.JumpRowLaws.{jumps-alike, jump-bare, jumps-bare, taken-retired, less-retired}
-use Rattle.cow_jump.specs.Jumps.{jump_in, serial_in, IsCurrentJump, IsJump, AreJumps, AreMovedUp, ArePairRetired}
-use Rattle.cow_forest.specs.Store.{Forest, tree, HasNode, IsStore}
-use Rattle.cow_forest.specs.Ranges.{HasZeroedSome}
 use Rattle.cow_forest.proofs.ContentLaws.{node-visible}
 
 -- rows with room for more
@@ -66,7 +48,7 @@ places-bare old new list Is places = record {
 
 -- some pages of a VMO's node were made zero, by which no place but places of its list gets a row
 pub jumps-zeroed : (arena : Arena) (old new : Rows Row) (before after : Pool) (v a b : ℕ) → IsForest (nodes_of arena) arena.lists →
-    (node : Node) → IsVisible (nodes_of arena) v node → HasZeroedSome arena old new before after v a b → (next : ℕ) (table : JumpTable) →
+    (node : Node) → IsVisible (nodes_of arena) v node → HasZeroed arena old new before after v a b → (next : ℕ) (table : JumpTable) →
     AreJumps (tree_of arena old) next table → AreJumps (tree_of arena new) next table
 jumps-zeroed arena old new before after v a b forest node visible zeroed =
     jumps-bare (tree_of arena old) forest (slots_of new) v node visible
@@ -110,18 +92,16 @@ jumps-root f s arena k koid count free nodes forest next table are = record {
     was : (j : ℕ) (node : Node) → j ≢ k → nodes_of arena j ≡ Some node → nodes_of f.arena j ≡ Some node
     was j node apart at = sym (ap (λ (n : Nodes). n j) nodes ∙ with_key-other (nodes_of f.arena) k (root_node (record { 0 = koid }) f.arena.lists count) j apart) ∙ at
 
-    held : (j : ℕ) (o : Option Node) → nodes_of f.arena j ≡ o → IsSome o → IsSome (nodes_of arena j)
-    held j None at some = absurd (cc)
-    held j (Some node) at some = ap is_some (stay j node at)
+    held : (j : ℕ) → IsSome (nodes_of f.arena j) → IsSome (nodes_of arena j)
+    held j some = let it = some_is (nodes_of f.arena j) some in ap is_some (stay j it.0 it.1)
 
     other : (j : ℕ) (jump : Jump) → j ≢ k → IsJump (tree f) j jump → IsJump (tree_of arena f.rows) j jump
-    other j jump apart is = record {
-      there = λ node at some. held jump.to.0 (nodes_of f.arena jump.to.0) refl (is.there node (was j node apart at) some);
-      rises = λ p node at inside below clear.
-          rises-stays (tree f) (nodes_of arena) arena.lists k s.exact.forest forest
-          (subst (λ (n : Nodes). IsChangeOf (nodes_of f.arena) n k) (sym nodes) (node-added (nodes_of f.arena) k (root_node (record { 0 = koid }) f.arena.lists count) free))
-          j p jump.side jump.to.0 (p + jump.shift) apart (is.rises p node (was j node apart at) inside below clear);
-    }
+    other j jump apart = jump-carried (tree f) (tree_of arena f.rows) j j jump (λ node at. (node, was j node apart at, omega arith))
+        (held jump.to.0)
+        (λ p node at inside.
+        rises-stays (tree f) (nodes_of arena) arena.lists k s.exact.forest forest
+        (subst (λ (n : Nodes). IsChangeOf (nodes_of f.arena) n k) (sym nodes) (node-added (nodes_of f.arena) k (root_node (record { 0 = koid }) f.arena.lists count) free))
+        j p jump.side jump.to.0 (p + jump.shift) apart)
 
 -- ---- a snapshot is made
 
@@ -150,38 +130,28 @@ module _ (t : Tree) (f : IsForest t.nodes t.lists) (v : ℕ) (leaf : Node) (visi
       (it.0, it.1, it.2.seen)
 
   held : (k : ℕ) → IsSome (t.nodes k) → IsSome (after.nodes k)
-  held k some = there (t.nodes k) refl some
-    where
-      there : (o : Option Node) → t.nodes k ≡ o → IsSome o → IsSome (after.nodes k)
-      there None at some = absurd (cc)
-      there (Some node) at some = elim (cases_eq k v) [
-        | inl here ↦ subst (λ i. IsSome (after.nodes i)) (sym here)
-            (ap is_some (leaf-at t f v leaf visible h c koid first seen count no_h no_c apart g))
-        | inr other ↦ ap is_some (other-at t f v leaf visible h c koid first seen count no_h no_c apart g k node at other
-            ∙ (relinked-stays t.nodes leaf.parent v h k node at).1)
+  held k some =
+      let it = some_is (t.nodes k) some in
+      elim (cases_eq k v) [
+        | inl here ↦ subst (λ i. IsSome (after.nodes i)) (sym here) (ap is_some (leaf-at t f v leaf visible h c koid first seen count no_h no_c apart g))
+        | inr other ↦ ap is_some (other-at t f v leaf visible h c koid first seen count no_h no_c apart g k it.0 it.1 other
+            ∙ (relinked-stays t.nodes leaf.parent v h k it.0 it.1).1)
       ]
 
   jump-other : (k : ℕ) (jump : Jump) → k ≢ v → k ≢ h → k ≢ c → IsJump t k jump → IsJump after k jump
-  jump-other k jump k_v k_h k_c is = record {
-    there = λ node at some. let it = was k node k_v k_h k_c at in held jump.to.0 (is.there it.0 it.1 (omega (arith, it.2)));
-    rises = λ p node at inside below clear.
-        let it = was k node k_v k_h k_c at in
-        rises-paired t f v leaf visible h c koid first seen count no_h no_c apart g k p jump.side jump.to.0 (p + jump.shift) k_v
-        (is.rises p it.0 it.1 (omega (arith, it.2)) below clear);
-  }
+  jump-other k jump k_v k_h k_c = jump-carried t after k k jump
+      (λ node at. let it = was k node k_v k_h k_c at in (it.0, it.1, omega (arith, it.2))) (held jump.to.0)
+      (λ p node at inside.
+      rises-paired t f v leaf visible h c koid first seen count no_h no_c apart g k p jump.side jump.to.0 (p + jump.shift) k_v)
 
   -- the hidden node has the window of the leaf
-  hidden-seen : (node : Node) → after.nodes h ≡ Some node → node.seen ≡ leaf.seen
-  hidden-seen node at = ap (λ (n : Node). n.seen) (some_same (sym at ∙ hidden-at t f v leaf visible h c koid first seen count no_h no_c apart g))
-
   jump-hidden : (jump : Jump) → IsJump t v jump → IsJump after h jump
-  jump-hidden jump is = record {
-    there = λ node at some. let same = hidden-seen node at in held jump.to.0 (is.there leaf visible.at (omega arith));
-    rises = λ p node at inside below clear.
-        let same = hidden-seen node at in
-        rises-hidden t f v leaf visible h c koid first seen count no_h no_c apart g p jump.side jump.to.0 (p + jump.shift)
-        (is.rises p leaf visible.at (omega arith) below clear);
-  }
+  jump-hidden jump = jump-carried t after v h jump
+      (λ node at.
+      let same = ap (λ (n : Node). n.seen) (some_same (sym at ∙ hidden-at t f v leaf visible h c koid first seen count no_h no_c apart g)) in
+      (leaf, visible.at, omega arith))
+      (held jump.to.0)
+      (λ p node at inside. rises-hidden t f v leaf visible h c koid first seen count no_h no_c apart g p jump.side jump.to.0 (p + jump.shift))
 
   -- a jump that is to be taken leads to no node that is new
   taken-was : (jump : Jump) → jump.serial < next → IsCurrentJump new jump → IsCurrentJump old jump
@@ -256,15 +226,13 @@ jumps-shared f s arena rows v k pair koid first seen count h shared next old new
 -- ---- a VMO changes its page count
 
 module _ (f : Forest) (s : IsStore f) (arena : Arena) (rows : Rows Row) (pool : Pool) (v k count : ℕ) (h : HasNode f v k)
-    (shrunk : HasShrunk f.arena arena f.rows rows f.pool pool k count) where
+    (kept : KeepsPages f.arena arena f.rows rows f.pool pool) (part : IsPartOf (slots_of f.rows) (slots_of rows))
+    (nodes : nodes_of arena ≡ with_key (nodes_of f.arena) k (with_count h.node count)) where
   abbrev mid : Tree
   mid = tree_with (nodes_of f.arena) f.arena.lists (slots_of rows)
 
   visible : IsVisible (nodes_of f.arena) k h.node
   visible = node-visible f s v k h
-
-  nodes : nodes_of arena ≡ with_key (nodes_of f.arena) k (with_count h.node count)
-  nodes = shrunk.nodes h.node h.is.at
 
   change : IsChangeOf (nodes_of f.arena) (nodes_of arena) k
   change = subst (λ (n : Nodes). IsChangeOf (nodes_of f.arena) n k) (sym nodes) (leaf-changed (nodes_of f.arena) k h.node (with_count h.node count) visible)
@@ -282,28 +250,21 @@ module _ (f : Forest) (s : IsStore f) (arena : Arena) (rows : Rows Row) (pool : 
   ]
 
   bare : (j : ℕ) (jump : Jump) → IsJump (tree f) j jump → IsJump mid j jump
-  bare j jump = jump-bare (tree f) s.exact.forest (slots_of rows) k h.node visible (bare-part (slots_of f.rows) (slots_of rows) h.node.list.0 shrunk.part) j jump
+  bare j jump = jump-bare (tree f) s.exact.forest (slots_of rows) k h.node visible (bare-part (slots_of f.rows) (slots_of rows) h.node.list.0 part) j jump
 
   -- of the node itself, at the pages of the window that it has now
   own : (jump : Jump) → IsJump mid k jump → IsJump (tree_of arena rows) k jump
-  own jump mine = record {
-    there = λ node at some.
-        let seen = ap (λ (n : Node). n.seen) (some_same (sym at ∙ now_at)) in
-        still-there jump.to.0 (mine.there h.node h.is.at (omega arith));
-    rises = λ p node at inside below clear.
-        let seen = ap (λ (n : Node). n.seen) (some_same (sym at ∙ now_at)) in
-        rises-changed mid (nodes_of arena) arena.lists k s.exact.forest shrunk.exact.forest change p jump.side jump.to.0 (p + jump.shift)
-        h.node (with_count h.node count) h.is.at now_at refl (rw (eqb_apart (min h.node.seen count) 0 (λ none. absurd (omega arith))) refl) (omega arith)
-        (mine.rises p h.node h.is.at (omega arith) below clear);
-  }
+  own jump = jump-carried mid (tree_of arena rows) k k jump
+      (λ node at. let seen = ap (λ (n : Node). n.seen) (some_same (sym at ∙ now_at)) in (h.node, h.is.at, omega arith)) (still-there jump.to.0)
+      (λ p node at inside.
+      let seen = ap (λ (n : Node). n.seen) (some_same (sym at ∙ now_at)) in
+      rises-changed mid (nodes_of arena) arena.lists k s.exact.forest kept.exact.forest change p jump.side jump.to.0 (p + jump.shift)
+      h.node (with_count h.node count) h.is.at now_at refl (rw (eqb_apart (min h.node.seen count) 0 (λ none. absurd (omega arith))) refl) (omega arith))
 
   other : (j : ℕ) (jump : Jump) → j ≢ k → IsJump mid j jump → IsJump (tree_of arena rows) j jump
-  other j jump apart mine = record {
-    there = λ node at some. still-there jump.to.0 (mine.there node (node-was j node apart at) some);
-    rises = λ p node at inside below clear.
-        rises-stays mid (nodes_of arena) arena.lists k s.exact.forest shrunk.exact.forest change j p jump.side jump.to.0 (p + jump.shift) apart
-        (mine.rises p node (node-was j node apart at) inside below clear);
-  }
+  other j jump apart = jump-carried mid (tree_of arena rows) j j jump (λ node at. (node, node-was j node apart at, omega arith)) (still-there jump.to.0)
+      (λ p node at inside.
+      rises-stays mid (nodes_of arena) arena.lists k s.exact.forest kept.exact.forest change j p jump.side jump.to.0 (p + jump.shift) apart)
 
   pub jumps-resized : (next : ℕ) (table : JumpTable) → AreJumps (tree f) next table → AreJumps (tree_of arena rows) next table
   jumps-resized next table are = record {
@@ -337,14 +298,9 @@ jumps-closed t u next v old new are retired keeps came = record {
         keeps.stays jump.to.0 it.0 it.1 (λ same. numbered jump taken v same retired.leaf) (λ child. numbered jump taken jump.to.0 refl (retired.parent jump.to.0 child))
 
     jump-closed : (k : ℕ) (jump : Jump) → IsCurrentJump new jump → IsJump t k jump → IsJump u k jump
-    jump-closed k jump taken is = record {
-      there = λ now at some.
-          let node = came k now at in
-          let seen = keeps.seen k node.0 now node.1 at in
-          stays jump taken (is.there node.0 node.1 (omega arith));
-      rises = λ p now at inside below clear.
-          let node = came k now at in
-          let seen = keeps.seen k node.0 now node.1 at in
-          keeps.rises k p jump.side jump.to.0 (p + jump.shift) (ap is_some at) (stays jump taken (is.there node.0 node.1 (omega arith)))
-          (is.rises p node.0 node.1 (omega arith) below clear);
-    }
+    jump-closed k jump taken is = jump-carried t u k k jump
+        (λ now at. let node = came k now at in let seen = keeps.seen k node.0 now node.1 at in (node.0, node.1, omega arith)) (stays jump taken)
+        (λ p now at inside.
+        let node = came k now at in
+        let seen = keeps.seen k node.0 now node.1 at in
+        keeps.rises k p jump.side jump.to.0 (p + jump.shift) (ap is_some at) (stays jump taken (is.there node.0 node.1 (omega arith)))) is

@@ -1,30 +1,14 @@
 -- A VMO leaves the forest: its node is closed, and the tables no longer lead to it.
-use Rattle.std.proofs.Common.{◌≡◌, ◌≢◌, ℕ, ◌+◌, ◌-◌, ◌*◌, ◌≤◌, ◌==◌, not, cond, Option, None, Some, refl, sym, ap, subst, ◌∙◌, inl, inr, arith}
-use Rattle.std.specs.Prelude.{is_some, IsSome, IfSome, IfNone}
-use Rattle.std.proofs.lemmas.Bool.{cases_eq, cases_lt, eq-eqb}
-use Rattle.balanced_tree.specs.Rows.{Rows}
-use Rattle.vm_base.specs.Entries.{without_key}
-use Rattle.vm_base.proofs.EntryLaws.{some_same, some_is, without_key-same, without_key-other, without_key-some}
-use Rattle.vm_base.proofs.SearchLaws.{eqb_apart}
-use Rattle.vm_model.specs.Contents.Content.{Page, vmos_of}
-use Rattle.vm_model.specs.Contents.Sharing.{only, without}
-use Rattle.vm_model.proofs.SharingLaws.{page-only_stays, count-without_here, count-without_other}
-use Rattle.frame_pool.specs.Pool.{Pool}
-use Rattle.page_list.specs.declared.row.ListId.{ListId}
-use Rattle.page_list.specs.declared.row.Row.{Row}
-use Rattle.cow_arena.specs.declared.node.Node.{Node}
-use Rattle.cow_arena.specs.declared.node.NodeId.{NodeId}
-use Rattle.cow_arena.specs.Nodes.{Arena, nodes_of, AreFamily, link_to, sibling_in}
+use Rattle.cow_forest.proofs.Words.{◌≡◌, ◌≢◌, ℕ, ◌+◌, ◌-◌, ◌*◌, ◌≤◌, ◌==◌, not, cond, Option, None, Some, refl, sym, ap, subst, ◌∙◌, inl}
+use Rattle.cow_forest.proofs.Words.{inr, arith, is_some, IsSome, IfSome, IfNone, cases_eq, cases_lt, eq-eqb, Rows, without_key, some_same}
+use Rattle.cow_forest.proofs.Words.{some_is, without_key-same, without_key-other, without_key-some, eqb_apart, Page, vmos_of, only, without}
+use Rattle.cow_forest.proofs.Words.{page-only_stays, count-without_here, count-without_other, Pool, ListId, Row, Node, NodeId, Arena}
+use Rattle.cow_forest.proofs.Words.{nodes_of, AreFamily, link_to, sibling_in, frame_shown, IsForest, IsChild, IsPage, HasListOfParent}
+use Rattle.cow_forest.proofs.Words.{visible_count, KeepsPages, HasGone, same_content, vmos_of-same, vmos_of-less, NodeEntries, node_in, IsDisowned, AreMerged}
+use Rattle.cow_forest.proofs.Words.{HasOneOf, Forest, tree, forest_content, count_from, pages_in, frame_from, page_showing, HasNode}
+use Rattle.cow_forest.proofs.Words.{IsNodeOf, IsStore}
 use Rattle.cow_arena.proofs.WalkLaws.{link_same}
 use Rattle.cow_arena.proofs.SpliceForestLaws.{s_h}
-use Rattle.cow_arena.specs.Walk.{frame_shown}
-use Rattle.cow_arena.specs.Forest.{IsForest, IsChild}
-use Rattle.cow_split.specs.Sight.{IsPage}
-use Rattle.cow_merge.specs.Merging.{HasListOfParent, HasClosed}
-use Rattle.vm_model.proofs.ContentLaws.{same_content}
-use Rattle.vm_model.proofs.CountLaws.{vmos_of-same, vmos_of-less}
-use Rattle.cow_forest.specs.Tables.{NodeEntries, node_in, IsDisowned, AreMerged, HasOneOf}
-use Rattle.cow_forest.specs.Store.{Forest, tree, forest_content, count_from, pages_in, frame_from, page_showing, HasNode, IsNodeOf, IsStore}
 use Rattle.cow_forest.proofs.ContentLaws.{node-visible, node-of, one-node, one-vmo, vmo-below, page-of, count-of, frame-past}
 use Rattle.cow_forest.proofs.ResizingLaws.{showing-given}
 
@@ -67,11 +51,11 @@ led-on f led k (Some three) m j now it =
     ap led list ∙ (own.leads ∙ ap link_to (link_same (sym own.beside ∙ it.beside)))
 
 -- and once the VMO is closed, it has one of the two
-pub one-of : (f : Forest) (arena : Arena) (rows : Rows Row) (pool : Pool) (led : ℕ → Option NodeId) (k : ℕ) (merged : Option (NodeId × ListId × ListId)) →
-    IsForest (nodes_of f.arena) f.arena.lists → HasClosed f.arena arena f.rows rows f.pool pool k → AreMergedIn f led k merged →
+pub one-of : (f : Forest) (arena : Arena) (led : ℕ → Option NodeId) (k : ℕ) (merged : Option (NodeId × ListId × ListId)) →
+    IsForest (nodes_of f.arena) f.arena.lists → HasGone (nodes_of f.arena) (nodes_of arena) k → AreMergedIn f led k merged →
     IfSome merged (λ it. HasOneOf (nodes_of arena) it.0.0 it.1.0 it.2.0)
-one-of f arena rows pool led k None forest c m = tt
-one-of f arena rows pool led k (Some three) forest c m =
+one-of f arena led k None forest c m = tt
+one-of f arena led k (Some three) forest c m =
     let it = m.family in
     let now = some_is (nodes_of arena three.0.0) (c.beside three.0.0 it.beside) in
     let family : AreFamily (nodes_of f.arena) k it.h three.0.0 it.child.node it.parent it.sibling =
@@ -107,7 +91,8 @@ one-of f arena rows pool led k (Some three) forest c m =
     }
 
 module _ (f : Forest) (arena : Arena) (rows : Rows Row) (pool : Pool) (nodes owners led : NodeEntries) (v k : ℕ)
-    (s : IsStore f) (h : HasNode f v k) (c : HasClosed f.arena arena f.rows rows f.pool pool k) (merged : Option (NodeId × ListId × ListId))
+    (s : IsStore f) (h : HasNode f v k) (c : HasGone (nodes_of f.arena) (nodes_of arena) k) (kept_pages : KeepsPages f.arena arena f.rows rows f.pool pool)
+    (visible : visible_count arena + 1 ≡ visible_count f.arena) (merged : Option (NodeId × ListId × ListId))
     (m : AreMergedIn f (node_in led) k merged) (d : IsDisowned (nodes_of f.arena) (node_in f.owners) (node_in led) k)
     (kept : (j : ℕ) (node : Node) → nodes_of arena j ≡ Some node → node_in owners node.list.0 ≡ node_in led node.list.0)
     (left : node_in nodes ≡ without_key (node_in f.nodes) v) where
@@ -169,8 +154,8 @@ module _ (f : Forest) (arena : Arena) (rows : Rows Row) (pool : Pool) (nodes own
 
   pub store-left : IsStore (with_less f arena rows pool nodes owners)
   store-left = record {
-    exact = c.exact;
-    linked = c.accounts.linked s.linked;
+    exact = kept_pages.exact;
+    linked = kept_pages.accounts.linked s.linked;
     named = λ w at is.
         let was = without_key-some (node_in f.nodes) v w at (ap (λ m. m w) (sym left) ∙ is) in (node-stays w at.0 (s.named w at was.1) was.0).now;
     nodes = λ w j node is. let it = node-was w j node is in entry-stays w it.apart ∙ node-of f s w j it.was;
@@ -186,9 +171,9 @@ module _ (f : Forest) (arena : Arena) (rows : Rows Row) (pool : Pool) (nodes own
     counts = λ w j node is. let it = node-was w j node is in let bound = s.counts w j it.was.node it.was.is in omega (arith, bound, it.count);
     koids = λ w j node is. let it = node-was w j node is in s.koids w j it.was.node it.was.is;
     first_koid = s.first_koid;
-    lists = subst (λ n. n + 2 ≤ 2 * f.next) (sym c.lists) s.lists;
+    lists = subst (λ n. n + 2 ≤ 2 * f.next) (sym kept_pages.lists) s.lists;
     vmos = vmos-less;
-    visible = let less = c.visible in let all = s.visible in omega arith;
+    visible = let all = s.visible in omega (arith, visible);
   }
 
   -- ---- the pages
@@ -214,7 +199,7 @@ module _ (f : Forest) (arena : Arena) (rows : Rows Row) (pool : Pool) (nodes own
           ∙ (elim (cases_lt q now.now.node.count) [
             | inl less ↦
                 let page : IsPage (tree g) at.0 q = record { node = now.now.node; visible = visible; below = less } in
-                showing-given (tree g) f.pool pool c.exact c.accounts.gives at.0 q (frame_shown (tree f) at.0 q) (c.shows at.0 q page)
+                showing-given (tree g) f.pool pool kept_pages.exact kept_pages.accounts.gives at.0 q (frame_shown (tree f) at.0 q) (kept_pages.shows at.0 q page)
             | inr past ↦
                 ap (page_showing pool) (frame-past g store-left at.0 q now.now.node visible past)
                 ∙ sym (ap (page_showing f.pool) (frame-past f s at.0 q its.node (node-visible f s w at.0 its) (omega (arith, now.count))))
@@ -223,4 +208,4 @@ module _ (f : Forest) (arena : Arena) (rows : Rows Row) (pool : Pool) (nodes own
 
   pub content-left : forest_content (with_less f arena rows pool nodes owners) ≡ without (forest_content f) v
   unfolding only
-  content-left = same_content _ _ c.accounts.gives.frames refl counts-now pages-now
+  content-left = same_content _ _ kept_pages.accounts.gives.frames refl counts-now pages-now

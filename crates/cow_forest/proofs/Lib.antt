@@ -1,3 +1,4 @@
+pub mod Words
 pub mod LookLaws
 pub mod ContentLaws
 pub mod DepthLaws

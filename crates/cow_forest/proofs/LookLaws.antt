@@ -1,33 +1,14 @@
 -- What a page of a visible node shows, and whether it alone shows it, told by the row that holds the page.
-use Rattle.std.proofs.Common.{◌≡◌, ◌↔◌, ℕ, ◌≤◌, Bool, true, Option, None, Some, IfSome, IfNone, refl, sym, ap, ◌∙◌, subst, arith}
-use Rattle.vm_base.proofs.EntryLaws.{some_same}
-use Rattle.vm_base.specs.declared.names.Tag.{Tag}
-use Rattle.balanced_tree.specs.Rows.{Rows}
-use Rattle.page_list.specs.declared.row.Row.{Row}
-use Rattle.page_list.specs.declared.row.Slot.{Slot}
-use Rattle.page_list.specs.declared.row.Slot.TheVariants as slot
-use Rattle.page_list.specs.Lists.{slots_of}
-use Rattle.cow_arena.specs.declared.node.Node.{Node}
-use Rattle.cow_arena.specs.declared.node.NodeId.{NodeId}
-use Rattle.cow_arena.specs.declared.node.Side.{Side}
-use Rattle.cow_arena.specs.Nodes.{Arena, nodes_of, IsVisible}
-use Rattle.cow_arena.specs.Forest.{IsForest}
-use Rattle.cow_arena.specs.Walk.{Tree, walk, frame_shown, frame_found}
-use Rattle.cow_arena.specs.Ways.{Arrives}
+use Rattle.cow_forest.proofs.Words.{◌≡◌, ◌↔◌, ℕ, ◌≤◌, Bool, true, Option, None, Some, IfSome, IfNone, refl, sym, ap, ◌∙◌, subst, arith}
+use Rattle.cow_forest.proofs.Words.{some_same, Tag, Rows, Row, Slot, slots_of, Node, NodeId, Side, Arena, nodes_of, IsVisible, IsForest}
+use Rattle.cow_forest.proofs.Words.{Tree, walk, frame_shown, frame_found, Arrives, Holder, tree_of, holder_of, frame_held, IsPage}
+use Rattle.cow_forest.proofs.Words.{IsLastViewer, IsExact, all_in_sight, look_in, IsLook, ShowsFrameOrNone, tag_in, cut_answer}
+use Rattle.cow_forest.proofs.Words.{leaves_frame}
 use Rattle.cow_arena.proofs.WalkLaws.{walk-own, walk-past}
 use Rattle.cow_arena.proofs.ReachLaws.{reach-hidden, hidden-apart, walk-ends}
 use Rattle.cow_split.specs.declared.answers.Cut.{Cut}
-use Rattle.cow_split.specs.declared.answers.Cut.TheVariants as cut
-use Rattle.cow_split.specs.declared.answers.Holder.{Holder}
-use Rattle.cow_split.specs.declared.answers.Holder.TheVariants as holder
-use Rattle.cow_split.specs.Trees.{tree_of, holder_of, frame_held}
-use Rattle.cow_split.specs.Sight.{IsPage, IsLastViewer}
-use Rattle.cow_split.specs.Exact.{IsExact, all_in_sight}
-use Rattle.cow_split.specs.Cutting.{cut_answer, leaves_frame}
 use Rattle.cow_split.proofs.RowLaws.{only-none, frame-shown, frame-once}
 use Rattle.cow_split.proofs.CutLaws.{cut-last}
-use Rattle.cow_forest.specs.inside.Looking.{look_in, IsLook, ShowsFrameOrNone}
-use Rattle.cow_forest.specs.Owning.{tag_in}
 use Rattle.cow_fork.proofs.LeafLaws.{IsLeaf, leaf-is}
 use Rattle.cow_fork.proofs.HolderLaws.{held-shown, own-row, bare-row}
 
@@ -48,10 +29,10 @@ page-past t exact v node visible p past =
     free (Some row) is = absurd (let below = exact.1.below v p node row visible is in omega arith)
 
 -- an answer that leaves a frame is of a last viewer
-leaves-last : (answer : Cut) → leaves_frame answer ≡ true → (tag : Tag) × (answer ≡ cut.LastViewer tag)
-leaves-last (cut.LastViewer tag) e = (tag, refl)
-leaves-last cut.StillSeen e = absurd (cc)
-leaves-last cut.NothingThere e = absurd (cc)
+leaves-last : (answer : Cut) → leaves_frame answer ≡ true → (tag : Tag) × (answer ≡ Cut.LastViewer tag)
+leaves-last (Cut.LastViewer tag) e = (tag, refl)
+leaves-last Cut.StillSeen e = absurd (cc)
+leaves-last Cut.NothingThere e = absurd (cc)
 
 module _ (arena : Arena) (rows : Rows Row) (v p : ℕ) (exact : (in_use : ℕ → Bool) × IsExact (tree_of arena rows) all_in_sight in_use)
     (page : IsPage (tree_of arena rows) v p) where
@@ -59,14 +40,14 @@ module _ (arena : Arena) (rows : Rows Row) (v p : ℕ) (exact : (in_use : ℕ �
   leaf = leaf-is arena rows v p page.node exact.1.forest page page.visible.at
 
   -- a frame in a row of the node's own list is shown by no other node
-  pub own-look : (tag : Tag) (left right : Bool) → holder.Own (slot.Frame tag left right) ≡ holder_of (walk (tree_of arena rows) v p) →
+  pub own-look : (tag : Tag) (left right : Bool) → Holder.Own (Slot.Frame tag left right) ≡ holder_of (walk (tree_of arena rows) v p) →
       (frame_shown (tree_of arena rows) v p ≡ Some tag.0) × IsLastViewer (tree_of arena rows) v tag.0
   own-look tag left right held = (shown, last)
     where
       shown : frame_shown (tree_of arena rows) v p ≡ Some tag.0
       shown = sym (held-shown (tree_of arena rows) v p _ held)
 
-      found : walk (tree_of arena rows) v p ≡ Some (record { node = v; page = p; side = None; slot = slot.Frame tag left right })
+      found : walk (tree_of arena rows) v p ≡ Some (record { node = v; page = p; side = None; slot = Slot.Frame tag left right })
       found = walk-own (tree_of arena rows) exact.1.forest v p page.node _ page.visible.at (own-row leaf _ held)
 
       -- a walk from another node comes to hidden ones alone
@@ -84,14 +65,14 @@ module _ (arena : Arena) (rows : Rows Row) (v p : ℕ) (exact : (in_use : ℕ �
 
   -- a page with a row of its own
   pub row-look : (node : Node) (row : Slot) → nodes_of arena v ≡ Some node → slots_of rows node.list.0 p ≡ Some row → IsLook (tree_of arena rows) v p (look_in row)
-  row-look node (slot.Frame tag left right) at row =
+  row-look node (Slot.Frame tag left right) at row =
       let it = own-look tag left right (sym (ap holder_of (walk-own (tree_of arena rows) exact.1.forest v p node _ at row))) in
       (it.0, (λ e. it.1, λ last. refl))
-  row-look node slot.Zero at row = ap frame_found (walk-own (tree_of arena rows) exact.1.forest v p node slot.Zero at row)
+  row-look node Slot.Zero at row = ap frame_found (walk-own (tree_of arena rows) exact.1.forest v p node Slot.Zero at row)
 
   -- one in a row above is shown by no other node exactly where a cut would answer so
   pub above-look : (h : NodeId) (q : ℕ) (side : Side) (tag : Tag) (left right : Bool) →
-      holder.Above h q side (slot.Frame tag left right) ≡ holder_of (walk (tree_of arena rows) v p) → (answer : Bool) →
+      Holder.Above h q side (Slot.Frame tag left right) ≡ holder_of (walk (tree_of arena rows) v p) → (answer : Bool) →
       answer ≡ leaves_frame (cut_answer (tree_of arena rows) v p) →
       (frame_shown (tree_of arena rows) v p ≡ Some tag.0) × ((answer ≡ true) ↔ IsLastViewer (tree_of arena rows) v tag.0)
   above-look h q side tag left right held answer is = (shown, (forth, back))
@@ -102,7 +83,7 @@ module _ (arena : Arena) (rows : Rows Row) (v p : ℕ) (exact : (in_use : ℕ �
       free : slots_of rows page.node.list.0 p ≡ None
       free = bare-row leaf _ held (λ row e. cc)
 
-      ways : (other : Tag) → (cut_answer (tree_of arena rows) v p ≡ cut.LastViewer other)
+      ways : (other : Tag) → (cut_answer (tree_of arena rows) v p ≡ Cut.LastViewer other)
           ↔ ((frame_shown (tree_of arena rows) v p ≡ Some other.0) × IsLastViewer (tree_of arena rows) v other.0)
       ways = cut-last (tree_of arena rows) all_in_sight exact.0 exact.1 v p (only-none v) page.node page.visible free
 
@@ -118,8 +99,8 @@ module _ (arena : Arena) (rows : Rows Row) (v p : ℕ) (exact : (in_use : ℕ �
 -- the frame of a row of a node's own is what the page shows
 pub row-frame : (t : Tree) → IsForest t.nodes t.lists → (v p : ℕ) (node : Node) (row : Slot) → t.nodes v ≡ Some node → t.slots node.list.0 p ≡ Some row →
     ShowsFrameOrNone t v p (tag_in row)
-row-frame t forest v p node (slot.Frame tag left right) at row = ap frame_found (walk-own t forest v p node _ at row)
-row-frame t forest v p node slot.Zero at row = ap frame_found (walk-own t forest v p node slot.Zero at row)
+row-frame t forest v p node (Slot.Frame tag left right) at row = ap frame_found (walk-own t forest v p node _ at row)
+row-frame t forest v p node Slot.Zero at row = ap frame_found (walk-own t forest v p node Slot.Zero at row)
 
 -- the frame of the row that holds a page is what the page shows
 pub shows-frame : (t : Tree) (v p : ℕ) (held : Holder) (answer : Option Tag) → frame_held held ≡ frame_shown t v p → IfSome answer (λ tag. frame_held held ≡ Some tag.0) →

@@ -1,22 +1,10 @@
 -- A root that is added for a new VMO makes a VMO of zero pages.
-use Rattle.std.proofs.Common.{◌≡◌, ◌≢◌, ℕ, ◌+◌, ◌≤◌, ◌⊎◌, Option, None, Some, refl, sym, ap, subst, ◌∙◌, inl, inr, arith}
+use Rattle.cow_forest.proofs.Words.{◌≡◌, ◌≢◌, ℕ, ◌+◌, ◌≤◌, ◌⊎◌, Option, None, Some, refl, sym, ap, subst, ◌∙◌, inl, inr, arith, with_key}
+use Rattle.cow_forest.proofs.Words.{some_same, with_key-same, with_key-here, with_key-other, with_key-cases, created, is_taken, Node}
+use Rattle.cow_forest.proofs.Words.{NodeId, Arena, Nodes, nodes_of, link_to, IsForest, root_node, visible_count, Tree, frame_shown, tree_of}
+use Rattle.cow_forest.proofs.Words.{IsExact, all_in_sight, NodeEntries, node_in, Forest, tree, forest_content, page_showing, IsStore}
 use Rattle.vm_base.specs.declared.limits.TheConstants.{VMO_PAGES}
-use Rattle.vm_base.specs.Entries.{with_key}
-use Rattle.vm_base.proofs.EntryLaws.{some_same, with_key-same, with_key-here, with_key-other, with_key-cases}
-use Rattle.vm_model.specs.Contents.Content.{created}
-use Rattle.frame_pool.specs.Pool.{is_taken}
-use Rattle.cow_arena.specs.declared.node.Node.{Node}
-use Rattle.cow_arena.specs.declared.node.NodeId.{NodeId}
-use Rattle.cow_arena.specs.Nodes.{Arena, Nodes, nodes_of, link_to}
-use Rattle.cow_arena.specs.Forest.{IsForest}
-use Rattle.cow_arena.specs.Changes.{root_node}
-use Rattle.cow_arena.specs.Counts.{visible_count}
-use Rattle.cow_arena.specs.Walk.{Tree, frame_shown}
-use Rattle.cow_split.specs.Trees.{tree_of}
-use Rattle.cow_split.specs.Exact.{IsExact, all_in_sight}
 use Rattle.cow_fork.proofs.RootLaws.{rooted, rooted-zero, rooted-shows, exact-rooted}
-use Rattle.cow_forest.specs.Tables.{NodeEntries, node_in}
-use Rattle.cow_forest.specs.Store.{Forest, tree, forest_content, page_showing, IsStore}
 use Rattle.cow_forest.proofs.EnterLaws.{with_vmo, HasNewVmo, store-new, content-new, next-bare}
 
 -- the arena has a root more, and the tables have its node by its koid and by its list

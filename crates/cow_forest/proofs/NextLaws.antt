@@ -1,22 +1,11 @@
 -- A look upwards for the first page from a page of a visible node on that comes to a row.
-use Rattle.std.proofs.Common.{rules, ◌≡◌, ℕ, ◌+◌, ◌-◌, ◌^◌, ◌<◌, ◌≤◌, min, Bool, Option, None, Some, inl, inr, IsSome, refl, sym, ap, subst, ◌∙◌, arith}
-use Rattle.std.specs.Prelude.{IsSomeAnd, IfSome, IfNone}
-use Rattle.std.specs.Option.{unwrap_or}
-use Rattle.std.proofs.lemmas.Bool.{cases_lt}
-use Rattle.balanced_tree.specs.Pairs.{IsNext}
-use Rattle.vm_base.proofs.EntryLaws.{some_same}
-use Rattle.cow_arena.specs.declared.node.Node.{Node}
-use Rattle.cow_arena.specs.declared.node.NodeId.{NodeId}
-use Rattle.cow_arena.specs.Nodes.{IsVisible, side_in}
-use Rattle.cow_arena.specs.Walk.{Tree, walk, frame_shown, frame_found}
+use Rattle.cow_forest.proofs.Words.{rules, ◌≡◌, ℕ, ◌+◌, ◌-◌, ◌^◌, ◌<◌, ◌≤◌, min, Bool, Option, None, Some, inl, inr, IsSome, refl, sym, ap}
+use Rattle.cow_forest.proofs.Words.{subst, ◌∙◌, arith, IsSomeAnd, IfSome, IfNone, unwrap_or, cases_lt, IsNext, some_same, Node, NodeId}
+use Rattle.cow_forest.proofs.Words.{IsVisible, side_in, Tree, walk, frame_shown, frame_found, Slot, nodes_up, IsPage, IsExact, all_in_sight}
+use Rattle.cow_forest.proofs.Words.{ShowsNoneIn, ShowsNoneFrom, IsNextRowBelow, nearer_page}
 use Rattle.cow_arena.proofs.WalkLaws.{walk-past, walk-up}
-use Rattle.page_list.specs.declared.row.Slot.{Slot}
-use Rattle.cow_split.specs.Cost.{nodes_up}
-use Rattle.cow_split.specs.Sight.{IsPage}
-use Rattle.cow_split.specs.Exact.{IsExact, all_in_sight}
 use Rattle.cow_split.proofs.CostLaws.{parent-there}
 use Rattle.cow_merge.proofs.PassingLaws.{frame-from, up-less}
-use Rattle.cow_forest.specs.inside.Looking.{ShowsNoneIn, ShowsNoneFrom, IsNextRowBelow, nearer_page}
 use Rattle.cow_forest.proofs.LookLaws.{page-past}
 
 -- ---- one node

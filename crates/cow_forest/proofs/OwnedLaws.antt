@@ -1,25 +1,13 @@
 -- A page of a VMO is owned where a page of its node is.
-use Rattle.std.proofs.Common.{◌≡◌, ◌⊎◌, ℕ, ◌<◌, ◌≤◌, true, List, [], Option, None, Some, refl, sym, ap, subst, ◌∙◌, inl, inr, arith}
-use Rattle.std.specs.Prelude.{is_some, unwrap_or}
-use Rattle.std.proofs.lemmas.Bool.{cases_Bool, both_ways}
-use Rattle.balanced_tree.specs.Rows.{Rows}
-use Rattle.vm_base.proofs.EntryLaws.{some_same, with_key-same, with_key-other}
-use Rattle.vm_model.specs.Contents.Content.{Page, bytes_of, pages_of, used, shown, sole, hold}
+use Rattle.cow_forest.proofs.Words.{◌≡◌, ◌⊎◌, ℕ, ◌<◌, ◌≤◌, true, List, [], Option, None, Some, refl, sym, ap, subst, ◌∙◌, inl, inr, arith}
+use Rattle.cow_forest.proofs.Words.{is_some, unwrap_or, cases_Bool, both_ways, Rows, some_same, with_key-same, with_key-other, Page}
+use Rattle.cow_forest.proofs.Words.{bytes_of, pages_of, used, shown, sole, hold, sole-zero, bytes_of-none, bytes_of-some, Pool}
+use Rattle.cow_forest.proofs.Words.{taken_frames, is_taken, frame_bytes, takes_apart, Row, link_to, frame_shown, NodeId, all_in_sight}
+use Rattle.cow_forest.proofs.Words.{bytes_shown, IsSole, HasSole, HasFree, node_in, AreLinked, HasOwnRow, HasOwned, Forest, tree, forest_content}
+use Rattle.cow_forest.proofs.Words.{page_with_frame, page_showing, IsStore}
 use Rattle.vm_model.specs.Contents.Owning.{Owns}
-use Rattle.vm_model.proofs.ContentLaws.{sole-zero, bytes_of-none, bytes_of-some}
-use Rattle.frame_pool.specs.Pool.{Pool, taken_frames, is_taken, frame_bytes}
-use Rattle.frame_pool.proofs.PoolLaws.{takes_apart}
-use Rattle.page_list.specs.declared.row.Row.{Row}
-use Rattle.cow_arena.specs.Nodes.{link_to}
-use Rattle.cow_arena.specs.Walk.{frame_shown}
 use Rattle.cow_arena.proofs.WalkLaws.{link_same}
-use Rattle.cow_arena.specs.declared.node.NodeId.{NodeId}
 use Rattle.cow_split.proofs.RowLaws.{frame-in_use}
-use Rattle.cow_split.specs.Exact.{all_in_sight}
-use Rattle.cow_fork.specs.Frames.{bytes_shown, IsSole, HasSole, HasFree}
-use Rattle.cow_forest.specs.Tables.{node_in}
-use Rattle.cow_forest.specs.Owning.{HasOwnRow, HasOwned}
-use Rattle.cow_forest.specs.Store.{Forest, tree, forest_content, page_with_frame, page_showing, IsStore}
 use Rattle.cow_forest.proofs.ContentLaws.{HasPage, page-of, page-at, in_use-taken, used-taken, sole-last}
 use Rattle.cow_forest.proofs.StoreLaws.{with_rows, store-kept, IsChangedAt, content-held, content-same}
 
@@ -60,9 +48,9 @@ module _ (f : Forest) (s : IsStore f) (v p : ℕ) (less : p < pages_of (forest_c
     frame-taken : (w q t : ℕ) → frame_shown (tree f) w q ≡ Some t → is_taken f.pool t ≡ true
     frame-taken w q t shows = frame-in_use (tree f) all_in_sight (is_taken f.pool) s.exact w q t shows
 
-    module _ (rows : Rows Row) (pool : Pool) (tag : ℕ) (o : HasOwned f.arena f.rows rows f.pool pool at.0 p tag) where
+    module _ (rows : Rows Row) (pool : Pool) (tag : ℕ) (o : HasOwned f.arena f.rows rows f.pool pool at.0 p tag) (linked : AreLinked rows pool) where
       pub store-owned : IsStore (with_rows f rows pool)
-      store-owned = store-kept f rows pool s o.exact o.linked
+      store-owned = store-kept f rows pool s o.exact linked
 
       -- frames that are shown keep their bytes
       bytes-owned : (w q t : ℕ) → frame_shown (tree f) w q ≡ Some t → frame_bytes pool t ≡ frame_bytes f.pool t
@@ -79,7 +67,7 @@ module _ (f : Forest) (s : IsStore f) (v p : ℕ) (less : p < pages_of (forest_c
       changed : IsChangedAt f rows pool at.0 p
       changed = record {
         exact = o.exact;
-        linked = o.linked;
+        linked = linked;
         frames = o.frames;
         others = o.others;
         bytes = λ w q t page apart shows. bytes-owned w q t shows;
@@ -106,5 +94,6 @@ module _ (f : Forest) (s : IsStore f) (v p : ℕ) (less : p < pages_of (forest_c
       }
 
       -- the row is that of the VMO's node
-      pub owned-row : (j : ℕ) → 1 ≤ f.rows.spare → node_in f.nodes v ≡ link_to j → HasOwnRow f.arena rows j p tag
-      owned-row j room there = subst (λ n. HasOwnRow f.arena rows n p tag) (link_same (sym is ∙ there)) (o.own room)
+      pub owned-row : (1 ≤ f.rows.spare → HasOwnRow f.arena rows at.0 p tag) → (j : ℕ) → 1 ≤ f.rows.spare → node_in f.nodes v ≡ link_to j →
+          HasOwnRow f.arena rows j p tag
+      owned-row row j room there = subst (λ n. HasOwnRow f.arena rows n p tag) (link_same (sym is ∙ there)) (row room)

@@ -1,15 +1,10 @@
 -- The nodes of a table and the places of its array, after each change.
-use Rattle.std.proofs.Common.{◌≡◌, ◌≢◌, ℕ, zero, suc, ◌%◌, ◌<◌, List, [], length, get_or, set, replicate, Option, None, Some, refl, sym, ap, ◌∙◌, inl, inr, arith, slice_index_or, slice_set, get_or-set_same, get_or-set_other}
-use Rattle.std.specs.Prelude.{IsSome, is_some}
-use Rattle.std.specs.Option.{option_or}
-use Rattle.std.proofs.lemmas.Bool.{cases_eq}
-use Rattle.std.proofs.lemmas.Grind.{common_steps}
-use Rattle.vm_base.specs.Entries.{with_key, without_key}
-use Rattle.vm_base.proofs.EntryLaws.{some_same, with_key-here, with_key-other, without_key-same, without_key-other}
-use Rattle.cow_arena.specs.declared.node.NodeId.{NodeId}
+use Rattle.cow_forest.proofs.Words.{◌≡◌, ◌≢◌, ℕ, zero, suc, ◌%◌, ◌<◌, List, [], length, get_or, set, replicate, Option, None, Some, refl}
+use Rattle.cow_forest.proofs.Words.{sym, ap, ◌∙◌, inl, inr, arith, slice_index_or, slice_set, get_or-set_same, get_or-set_other, IsSome}
+use Rattle.cow_forest.proofs.Words.{is_some, option_or, cases_eq, common_steps, with_key, without_key, some_same, with_key-here}
+use Rattle.cow_forest.proofs.Words.{with_key-other, without_key-same, without_key-other, NodeId, NodeEntries, own_node, unless_own}
+use Rattle.cow_forest.proofs.Words.{displaced_in, node_in, IsPlacedByNumber}
 use Rattle.cow_forest.specs.declared.node_table.TheConstants.{PLACES}
-use Rattle.cow_forest.specs.Tables.{NodeEntries, own_node, unless_own, displaced_in, node_in}
-use Rattle.cow_forest.specs.inside.TableFields.{IsPlacedByNumber}
 
 abbrev Entry : Type 0
 Entry = ℕ × NodeId

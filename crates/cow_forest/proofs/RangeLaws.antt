@@ -1,25 +1,12 @@
 -- Pages of a range that become zero, one after another and from row to row.
-use Rattle.std.proofs.Common.{◌≡◌, ◌≢◌, ◌⊎◌, ℕ, ◌+◌, ◌-◌, ◌<◌, ◌≤◌, Bool, false, cond, ◌&&◌, ◌||◌, ◌==◌, Option, None, Some, IsSome, refl, sym, ap, subst, ◌∙◌, inl, inr, arith}
-use Rattle.std.specs.Prelude.{is_some, nat_le}
-use Rattle.std.proofs.lemmas.Bool.{cases_Bool, cases_eq, cases_lt, and_parts, and_from, or_cases, leb-true, le-leb, false_from_ne_true}
-use Rattle.vm_base.proofs.SearchLaws.{eqb_same, eqb_apart, eqb_is, bit-true, bit-false, count_below_less, count_below_one_more, count_below_change, count_below_hit}
-use Rattle.vm_base.proofs.EntryLaws.{some_same, none_is}
-use Rattle.balanced_tree.specs.Rows.{Rows}
-use Rattle.frame_pool.specs.Pool.{Pool, is_taken}
-use Rattle.page_list.specs.declared.row.Row.{Row}
-use Rattle.page_list.specs.declared.row.Slot.{Slot}
-use Rattle.page_list.specs.Lists.{slots_of}
-use Rattle.cow_arena.specs.declared.node.Node.{Node}
-use Rattle.cow_arena.specs.Nodes.{Arena, nodes_of}
-use Rattle.cow_arena.specs.Walk.{Tree, frame_shown}
-use Rattle.cow_split.specs.Trees.{tree_of}
-use Rattle.cow_split.specs.Sight.{IsPage}
-use Rattle.cow_split.specs.Exact.{IsExact, all_in_sight}
-use Rattle.cow_split.proofs.ExactLaws.{cases_place}
-use Rattle.cow_fork.specs.Zeroing.{HasZeroed}
-use Rattle.cow_fork.proofs.ZeroLaws.{some-from}
-use Rattle.cow_forest.specs.inside.Looking.{IsNextRowBelow, ShowsNoneIn}
-use Rattle.cow_forest.specs.Ranges.{rows_in, shown_from, IsReadyToZero, HasZeroedSome, AreZero, HasNoFrame}
+use Rattle.cow_forest.proofs.Words.{◌≡◌, ◌≢◌, ◌⊎◌, ℕ, ◌+◌, ◌-◌, ◌<◌, ◌≤◌, Bool, false, ◌&&◌, ◌||◌, ◌==◌, Option, None, Some, IsSome}
+use Rattle.cow_forest.proofs.Words.{refl, sym, ap, subst, ◌∙◌, inl, inr, arith, is_some, nat_le, cases_eq, cases_lt, and_parts}
+use Rattle.cow_forest.proofs.Words.{and_from, or_cases, leb-true, le-leb, false_from_ne_true, eqb_same, eqb_apart, eqb_is}
+use Rattle.cow_forest.proofs.Words.{count_below_less, count_below_one_more, count_below_hit}
+use Rattle.cow_forest.proofs.Words.{Rows, Pool, Row, Slot, slots_of, Node, Arena, nodes_of, Tree, frame_shown, tree_of}
+use Rattle.cow_forest.proofs.Words.{IsPage, IsNextRowBelow, ShowsNoneIn, rows_in, shown_from, IsReadyToZero}
+use Rattle.cow_forest.proofs.Words.{HasZeroed, AreZero, HasNoFrame}
+use Rattle.cow_fork.proofs.ZeroLaws.{some-from, zeroed-none}
 use Rattle.cow_forest.proofs.LookLaws.{none-from}
 
 -- ---- the rows of a range
@@ -53,19 +40,6 @@ rows-less old new from end each =
 
 -- ---- the pages that show a frame
 
--- a page that became zero is one less, if it showed a frame
-pub shown-less : (old new : Tree) (v a n p : ℕ) → a ≤ p → p < a + n → ((q : ℕ) → q < a + n → q ≢ p → frame_shown new v q ≡ frame_shown old v q) →
-    frame_shown new v p ≡ None → shown_from new v a n + cond (is_some (frame_shown old v p)) 1 0 ≡ shown_from old v a n
-unfolding shown_from
-shown-less old new v a n p low less same none =
-    let before : ℕ → Bool = λ k. is_some (frame_shown old v (a + k)) in
-    let after : ℕ → Bool = λ k. is_some (frame_shown new v (a + k)) in
-    let place : a + (p - a) ≡ p = omega arith in
-    let was = ap (λ q. cond {A = ℕ} (is_some (frame_shown old v q)) 1 0) place in
-    let is : after (p - a) ≡ false = ap (λ q. is_some (frame_shown new v q)) place ∙ ap is_some none in
-    let change = count_below_change n (p - a) before after (omega arith) (λ j below apart. ap is_some (same (a + j) (omega arith) (λ e. apart (omega arith)))) in
-    omega (arith, change, was, bit-false (after (p - a)) is)
-
 -- a page that shows a frame is counted
 shown-some : (t : Tree) (v first n p : ℕ) → first ≤ p → p < first + n → frame_shown t v p ≢ None → 0 < shown_from t v first n
 unfolding shown_from
@@ -81,59 +55,9 @@ module _ (arena : Arena) where
   pub page-on : (old new : Rows Row) (w q : ℕ) → IsPage (tree_of arena old) w q → IsPage (tree_of arena new) w q
   page-on old new w q page = record { node = page.node; visible = page.visible; below = page.below }
 
-  -- none so far
-  pub zeroed-none : (rows : Rows Row) (pool : Pool) (v first end : ℕ) → IsExact (tree_of arena rows) all_in_sight (is_taken pool) →
-      HasZeroedSome arena rows rows pool pool v first end
-  zeroed-none rows pool v first end exact = record {
-    exact = exact;
-    others = λ w q page apart. refl;
-    part = λ w q t page shows. shows;
-    gives = λ t. inl refl;
-    stood = λ l q row t at frame. record { row = row; at = at; frame = refl };
-    links = refl;
-    frames = refl;
-    places = λ node at l q some. inl some;
-    spare = λ node at a n low high below. omega arith;
-  }
-
-  -- one page, whether it showed a frame or not
-  pub zeroed-one : (old new : Rows Row) (before after : Pool) (v p : ℕ) → IsPage (tree_of arena old) v p →
-      HasZeroed arena old new before after v p → HasZeroedSome arena old new before after v p (p + 1)
-  zeroed-one old new before after v p here z = record {
-    exact = z.exact;
-    others = λ w q page apart. z.others w q page (λ same.
-        let place = same.1 in apart (same.0, omega arith, omega arith));
-    part = λ w q t page shows. elim (cases_place v p w q) [
-      | inl same ↦
-          let none : frame_shown (tree_of arena new) w q ≡ None = rw (same.0, same.1) z.zero in
-          absurd (cc)
-      | inr apart ↦ sym (z.others w q page apart) ∙ shows
-    ];
-    gives = z.gives;
-    stood = z.stood;
-    links = z.links;
-    frames = z.frames;
-    places = λ node at l q row. elim (z.places node at l q row) [
-      | inl was ↦ inl was
-      | inr place ↦ let same = place.1 in inr (place.0, omega arith, omega arith)
-    ];
-    spare = λ node at a n low high below.
-        let page : (q : ℕ) → q < a + n → IsPage (tree_of arena old) v q = λ q less. record {
-          node = here.node;
-          visible = here.visible;
-          below = let same : here.node ≡ node = some_same (sym here.visible.at ∙ at) in subst (λ (n : Node). q < n.count) (sym same) (omega arith);
-        } in
-        let less = shown-less (tree_of arena old) (tree_of arena new) v a n p low (omega arith)
-        (λ q small apart. z.others v q (page q small) (λ same. apart same.1)) z.zero in
-        elim (cases_Bool (is_some (frame_shown (tree_of arena old) v p))) [
-          | inl some ↦ omega (arith, less, z.spare, bit-true (is_some (frame_shown (tree_of arena old) v p)) some)
-          | inr none ↦ omega (arith, less, (z.same (none_is (frame_shown (tree_of arena old) v p) none)).spare, bit-false (is_some (frame_shown (tree_of arena old) v p)) none)
-        ];
-  }
-
   -- more pages, in a range that has both
-  pub zeroed-then : (old mid new : Rows Row) (before between after : Pool) (v a b c d first end : ℕ) → HasZeroedSome arena old mid before between v a b →
-      HasZeroedSome arena mid new between after v c d → first ≤ a → b ≤ end → first ≤ c → d ≤ end → HasZeroedSome arena old new before after v first end
+  pub zeroed-then : (old mid new : Rows Row) (before between after : Pool) (v a b c d first end : ℕ) → HasZeroed arena old mid before between v a b →
+      HasZeroed arena mid new between after v c d → first ≤ a → b ≤ end → first ≤ c → d ≤ end → HasZeroed arena old new before after v first end
   zeroed-then old mid new before between after v a b c d first end one two low high low_too high_too = record {
     exact = two.exact;
     others = λ w q page apart.
@@ -162,10 +86,10 @@ module _ (arena : Arena) where
   }
 
   -- a wider range
-  pub zeroed-wider : (old new : Rows Row) (before after : Pool) (v a b first end : ℕ) → HasZeroedSome arena old new before after v a b → first ≤ a → b ≤ end →
-      HasZeroedSome arena old new before after v first end
+  pub zeroed-wider : (old new : Rows Row) (before after : Pool) (v a b first end : ℕ) → HasZeroed arena old new before after v a b → first ≤ a → b ≤ end →
+      HasZeroed arena old new before after v first end
   zeroed-wider old new before after v a b first end is low high =
-      zeroed-then old new new before after after v a b a b first end is (zeroed-none new after v a b is.exact) low high low high
+      zeroed-then old new new before after after v a b a b first end is (zeroed-none arena new new after v a b is.exact refl refl) low high low high
 
   module _ (old : Rows Row) (before : Pool) (v first end : ℕ) (ready : IsReadyToZero arena old before v first end) where
     -- the pages of the range are pages of the node
@@ -173,7 +97,7 @@ module _ (arena : Arena) where
     ready-page p less = record { node = ready.node; visible = ready.visible; below = omega (arith, less, ready.below) }
 
     -- the rest of the range stays ready
-    pub ready-on : (new : Rows Row) (after : Pool) → HasZeroedSome arena old new before after v first end → IsReadyToZero arena new after v first end
+    pub ready-on : (new : Rows Row) (after : Pool) → HasZeroed arena old new before after v first end → IsReadyToZero arena new after v first end
     ready-on new after is = record {
       exact = is.exact;
       node = ready.node;
@@ -196,7 +120,7 @@ module _ (arena : Arena) where
 pub record IsSweeping (arena : Arena) (old now : Rows Row) (before after : Pool) (v first list here to begun steps from : ℕ) : Type 0 where
   pub order : here ≤ from
   pub near : (from ≤ to) ⊎ (from ≡ here)
-  pub some : HasZeroedSome arena old now before after v first (first + (from - here))
+  pub some : HasZeroed arena old now before after v first (first + (from - here))
   pub passed : HasNoFrame (tree_of arena now) v first list here from
   pub cost : steps + rows_in (slots_of old list) from to ≤ begun + rows_in (slots_of old list) here to
 
@@ -213,7 +137,7 @@ module _ (arena : Arena) (old now : Rows Row) (before after : Pool) (v first end
     | inr start ↦ omega (arith, start, ready.order)
   ]
 
-  pub sweep-some : HasZeroedSome arena old now before after v first end
+  pub sweep-some : HasZeroed arena old now before after v first end
   sweep-some = zeroed-wider arena old now before after v first (first + (from - here)) first end is.some (omega arith) sweep-inside
 
   now-ready : IsReadyToZero arena now after v first end
@@ -233,7 +157,7 @@ module _ (arena : Arena) (old now : Rows Row) (before after : Pool) (v first end
   -- the page that comes to the next row is zero now
   pub sweep-on : (own : (node : Node) → nodes_of arena v ≡ Some node → list ≡ node.list.0 → here ≡ first) (row : ℕ) →
       IsNextRowBelow (slots_of now list) from to (Some row) → (new : Rows Row) (last : Pool) →
-      HasZeroedSome arena now new after last v (row - (here - first)) (row - (here - first) + 1) →
+      HasZeroed arena now new after last v (row - (here - first)) (row - (here - first) + 1) →
       frame_shown (tree_of arena new) v (row - (here - first)) ≡ None → (taken : ℕ) → taken ≡ steps + 1 →
       IsSweeping arena old new before last v first list here to begun taken (row + 1)
   sweep-on own row next new last z none taken taken_is = record {
@@ -282,7 +206,7 @@ zero-run t v p next zero none q low less = elim (cases_eq q p) [ inl here ↦ ap
 
 -- pages that were zero stay so, and those behind them are zero too
 pub zero-on : (arena : Arena) (old new : Rows Row) (before after : Pool) (v first from next a b : ℕ) → IsPage (tree_of arena old) v from →
-    HasZeroedSome arena old new before after v a b → AreZero (tree_of arena old) v first from → AreZero (tree_of arena new) v from next →
+    HasZeroed arena old new before after v a b → AreZero (tree_of arena old) v first from → AreZero (tree_of arena new) v from next →
     AreZero (tree_of arena new) v first next
 zero-on arena old new before after v first from next a b page z zero behind p low high = elim (cases_lt p from) [
   | inr past ↦ behind p past high

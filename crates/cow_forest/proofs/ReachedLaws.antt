@@ -1,25 +1,11 @@
 -- No range of pages reaches more rows than there are.
-use Rattle.std.proofs.Common.{◌≡◌, ◌≢◌, ℕ, zero, suc, ◌+◌, ◌<◌, ◌≤◌, ◌/◌, ◌%◌, ◌^◌, min, Bool, true, false, cond, ◌&&◌, ◌||◌, ◌==◌, List, [], ◌∷◌, length, Option, None, Some, refl, sym, ap, ◌∙◌, inl, inr, arith}
-use Rattle.std.specs.Prelude.{is_some, nat_le, nat_lt}
-use Rattle.std.specs.Option.{option_map}
-use Rattle.std.proofs.lemmas.Bool.{cases_Bool, cases_lt, both_ways, cond-false, ne_eqb, or_cases, false_from_ne_true}
-use Rattle.vm_base.specs.Search.{count_below}
-use Rattle.vm_base.proofs.SearchLaws.{eqb_same, eqb_is, bit-true, bit_le, count_below_same, count_below_change, count_below_none}
-use Rattle.balanced_tree.specs.Rows.{Rows, row_at}
-use Rattle.balanced_tree.specs.Pairs.{pair_rank, value_at}
-use Rattle.balanced_tree.proofs.PairLaws.{value-past, values-none}
-use Rattle.page_list.specs.declared.row.Row.{Row}
-use Rattle.page_list.specs.declared.row.Slot.{Slot}
-use Rattle.page_list.specs.Order.{row_functions, slot_of}
-use Rattle.page_list.specs.Lists.{slots_of, row_count}
-use Rattle.page_list.proofs.SlotLaws.{row_pairs}
-use Rattle.cow_arena.specs.declared.node.Node.{Node}
-use Rattle.cow_arena.specs.declared.node.NodeId.{NodeId}
-use Rattle.cow_arena.specs.Nodes.{Arena, Nodes, nodes_of, link_to}
-use Rattle.cow_arena.specs.Walk.{Slots}
-use Rattle.cow_arena.specs.Forest.{IsForest}
-use Rattle.cow_split.specs.Trees.{tree_of}
-use Rattle.cow_forest.specs.Ranges.{rows_in, rows_over, rows_up, rows_reached}
+use Rattle.cow_forest.proofs.Words.{◌≡◌, ◌≢◌, ℕ, zero, suc, ◌+◌, ◌<◌, ◌≤◌, ◌/◌, ◌%◌, ◌^◌, min, Bool, true, false, cond, ◌&&◌, ◌||◌, ◌==◌}
+use Rattle.cow_forest.proofs.Words.{List, [], ◌∷◌, length, Option, None, Some, refl, sym, ap, ◌∙◌, inl, inr, arith, is_some, nat_le, nat_lt}
+use Rattle.cow_forest.proofs.Words.{option_map, cases_Bool, cases_lt, both_ways, cond-false, ne_eqb, or_cases, false_from_ne_true, eqb_same}
+use Rattle.cow_forest.proofs.Words.{eqb_is, bit-true, bit_le, count_below_same, count_below_change, count_below_none, Rows, row_at}
+use Rattle.cow_forest.proofs.Words.{pair_rank, value_at, value-past, values-none, Row, Slot, row_functions, slot_of, slots_of, row_count}
+use Rattle.cow_forest.proofs.Words.{Node, NodeId, Arena, Nodes, nodes_of, link_to, Slots, IsForest, tree_of, rows_in, rows_over, rows_up}
+use Rattle.cow_forest.proofs.Words.{rows_reached, count_below, row_pairs}
 
 -- the slots of these rows
 abbrev slots_in : List Row → Slots

@@ -1,41 +1,18 @@
 -- A VMO of the forest gets fewer pages or more.
-use Rattle.std.proofs.Common.{◌≡◌, ◌≢◌, ℕ, ◌+◌, ◌*◌, ◌<◌, ◌≤◌, ◌⊎◌, min, true, [], Option, None, Some, refl, sym, ap, subst, ◌∙◌, inl, inr, arith}
-use Rattle.std.specs.Prelude.{is_some, unwrap_or}
-use Rattle.std.proofs.lemmas.Bool.{cases_eq, cases_lt}
-use Rattle.std.proofs.lemmas.Bool.Decides.{nat_tests}
-use Rattle.balanced_tree.specs.Rows.{Rows}
+use Rattle.cow_forest.proofs.Words.{◌≡◌, ◌≢◌, ℕ, ◌+◌, ◌*◌, ◌<◌, ◌≤◌, ◌⊎◌, min, true, [], Option, None, Some, refl, sym, ap, subst, ◌∙◌, inl}
+use Rattle.cow_forest.proofs.Words.{inr, arith, is_some, unwrap_or, cases_eq, cases_lt, nat_tests, Rows, with_key, some_same, with_key-same}
+use Rattle.cow_forest.proofs.Words.{with_key-here, with_key-other, with_key-cases, pages_of, zeroed, resized, page-zeroed_in}
+use Rattle.cow_forest.proofs.Words.{page-zeroed_out, Pool, frame_bytes, is_taken, ListId, Row, Node, NodeId, Arena, Nodes}
+use Rattle.cow_forest.proofs.Words.{nodes_of, IsVisible, Tree, frame_shown, frame_found, IsForest, window_first, with_window}
+use Rattle.cow_forest.proofs.Words.{visible_count, tree_of, IsPage, IsExact, all_in_sight, GivesBack, with_count, KeepsPages, same_content}
+use Rattle.cow_forest.proofs.Words.{vmos_of-same, node_in, Forest, tree, forest_content, count_from, pages_in, frame_from, page_showing}
+use Rattle.cow_forest.proofs.Words.{HasNode, IsNodeOf, IsStore}
 use Rattle.vm_base.specs.declared.limits.TheConstants.{VMO_PAGES}
-use Rattle.vm_base.specs.Entries.{with_key}
-use Rattle.vm_base.proofs.EntryLaws.{some_same, with_key-same, with_key-here, with_key-other, with_key-cases}
-use Rattle.vm_model.specs.Contents.Content.{pages_of}
-use Rattle.vm_model.specs.Contents.Zeroing.{zeroed, resized}
-use Rattle.vm_model.proofs.ZeroingLaws.{page-zeroed_in, page-zeroed_out}
-use Rattle.frame_pool.specs.Pool.{Pool, frame_bytes, is_taken}
-use Rattle.page_list.specs.declared.row.ListId.{ListId}
-use Rattle.page_list.specs.declared.row.Row.{Row}
-use Rattle.page_list.specs.Lists.{slots_of}
-use Rattle.cow_arena.specs.declared.node.Node.{Node}
-use Rattle.cow_arena.specs.declared.node.NodeId.{NodeId}
-use Rattle.cow_arena.specs.Nodes.{Arena, Nodes, nodes_of, IsVisible}
-use Rattle.cow_arena.specs.Walk.{Tree, frame_shown, frame_found}
-use Rattle.cow_arena.specs.Forest.{IsForest}
-use Rattle.cow_arena.specs.Changes.{window_first, with_window}
-use Rattle.cow_arena.specs.Counts.{hidden_count, visible_count}
 use Rattle.cow_arena.proofs.WalkLaws.{link_same}
-use Rattle.cow_split.specs.Trees.{tree_of}
-use Rattle.cow_split.specs.Sight.{IsPage}
-use Rattle.cow_split.specs.Exact.{IsExact, all_in_sight}
 use Rattle.cow_split.proofs.RowLaws.{frame-in_use}
-use Rattle.cow_split.proofs.PartLaws.{part-same}
-use Rattle.cow_merge.specs.Ranges.{GivesBack}
-use Rattle.cow_merge.specs.Merging.{with_count, HasShrunk}
 use Rattle.cow_merge.proofs.CountLaws.{walk-grown, exact-grown}
 use Rattle.cow_merge.proofs.ShrinkLaws.{tree-now}
 use Rattle.cow_merge.proofs.RangeLaws.{accounts-same}
-use Rattle.vm_model.proofs.ContentLaws.{same_content}
-use Rattle.vm_model.proofs.CountLaws.{vmos_of-same}
-use Rattle.cow_forest.specs.Tables.{node_in}
-use Rattle.cow_forest.specs.Store.{Forest, tree, forest_content, count_from, pages_in, frame_from, page_showing, HasNode, IsNodeOf, IsStore}
 use Rattle.cow_forest.proofs.ContentLaws.{node-visible, node-of, one-vmo, page-of, pages-of, count-of, frame-past}
 use Rattle.cow_forest.proofs.StoreLaws.{showing-same}
 
@@ -70,13 +47,19 @@ grown-window nodes lists f k node at count more =
       | inr some ↦ grind (arith, nat_tests)
     ]
 
--- Each page that a node had shows what it showed when it grows, as when it shrinks.
-pub shrunk-grown : (old new : Arena) (rows : Rows Row) (pool : Pool) (k count : ℕ) (node : Node) → IsExact (tree_of old rows) all_in_sight (is_taken pool) →
+-- it has the same nodes as one that shrinks
+pub grown-nodes : (old new : Arena) (k count : ℕ) (node : Node) → IsForest (nodes_of old) old.lists → nodes_of old k ≡ Some node → node.count ≤ count →
+    ((own : Node) → nodes_of old k ≡ Some own → nodes_of new ≡ with_key (nodes_of old) k (record own { count = count })) →
+    nodes_of new ≡ with_key (nodes_of old) k (with_count node count)
+grown-nodes old new k count node forest at more nodes =
+    nodes node at ∙ ap (with_key (nodes_of old) k) (sym (grown-window (nodes_of old) old.lists forest k node at count more))
+
+-- and each page that it had shows what it showed
+pub kept-grown : (old new : Arena) (rows : Rows Row) (pool : Pool) (k count : ℕ) (node : Node) → IsExact (tree_of old rows) all_in_sight (is_taken pool) →
     IsVisible (nodes_of old) k node → node.count ≤ count →
     ((own : Node) → nodes_of old k ≡ Some own → nodes_of new ≡ with_key (nodes_of old) k (record own { count = count })) →
-    new.lists ≡ old.lists → hidden_count new ≡ hidden_count old → visible_count new ≡ visible_count old → IsForest (nodes_of new) new.lists →
-    HasShrunk old new rows rows pool pool k count
-shrunk-grown old new rows pool k count node exact visible more nodes lists hidden shown forest =
+    new.lists ≡ old.lists → IsForest (nodes_of new) new.lists → KeepsPages old new rows rows pool pool
+kept-grown old new rows pool k count node exact visible more nodes lists forest =
     let grown : Node = record node { count = count } in
     let t : Tree = tree_of old rows in
     let is = nodes node visible.at in
@@ -85,18 +68,13 @@ shrunk-grown old new rows pool k count node exact visible more nodes lists hidde
     subst (λ l. IsForest (with_key (nodes_of old) k grown) l) lists (subst (λ f. IsForest f new.lists) is forest) in
     record {
       exact = subst (λ (u : Tree). IsExact u all_in_sight (is_taken pool)) (sym now) (exact-grown t k count node visible more g all_in_sight (is_taken pool) exact);
-      nodes = λ own at. nodes own at ∙ ap (with_key (nodes_of old) k) (sym (grown-window (nodes_of old) old.lists exact.forest k own at count
-          (subst (λ (n : Node). n.count ≤ count) (some_same (sym visible.at ∙ at)) more)));
       lists = lists;
-      hidden = hidden;
-      visible = shown;
       shows = subst (λ (u : Tree). (w q : ℕ) → IsPage u w q → frame_shown u w q ≡ frame_shown t w q) (sym now) (λ w q page.
           elim (with_key-cases (nodes_of old) k grown w page.node page.visible.at) [
             | inl here ↦ ap frame_found (walk-grown t k count node visible more g exact.forest w q node (ap (nodes_of old) here.0 ∙ visible.at))
             | inr apart ↦ ap frame_found (walk-grown t k count node visible more g exact.forest w q page.node apart.1)
           ]);
       accounts = accounts-same rows pool;
-      part = part-same (slots_of rows);
     }
 
 -- ---- the forest
@@ -121,15 +99,13 @@ record NodeWas (f g : Forest) (count j : ℕ) (now : Node) : Type 0 where
   which : (now.count ≡ count) ⊎ (now.count ≡ before.count)
 
 module _ (f : Forest) (arena : Arena) (rows : Rows Row) (pool : Pool) (v k count : ℕ) (s : IsStore f) (h : HasNode f v k)
-    (c : HasShrunk f.arena arena f.rows rows f.pool pool k count) where
+    (c : KeepsPages f.arena arena f.rows rows f.pool pool) (nodes-now : nodes_of arena ≡ with_key (nodes_of f.arena) k (with_count h.node count))
+    (visible : visible_count arena ≡ visible_count f.arena) where
   abbrev g : Forest
   g = with_tree f arena rows pool
 
   abbrev node_now : Node
   node_now = with_count h.node count
-
-  nodes-now : nodes_of arena ≡ with_key (nodes_of f.arena) k node_now
-  nodes-now = c.nodes h.node h.is.at
 
   vmo-here : (w j : ℕ) → HasNode f w j → j ≡ k → w ≡ v
   vmo-here w j its same = one-vmo f s w v k (subst (HasNode f w) same its) h
@@ -227,7 +203,7 @@ module _ (f : Forest) (arena : Arena) (rows : Rows Row) (pool : Pool) (v k count
     first_koid = s.first_koid;
     lists = subst (λ n. n + 2 ≤ 2 * f.next) (sym c.lists) s.lists;
     vmos = s.vmos ∙ sym (vmos_of-same (forest_content f) (forest_content g) refl vmo-stays);
-    visible = c.visible ∙ s.visible;
+    visible = visible ∙ s.visible;
   }
 
   -- ---- the pages

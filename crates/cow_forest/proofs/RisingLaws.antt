@@ -1,27 +1,17 @@
 -- A range of pages that becomes zero on the way upwards, from node to node.
-use Rattle.std.proofs.Common.{◌≡◌, ℕ, zero, suc, ◌+◌, ◌-◌, ◌<◌, ◌≤◌, min, Option, None, Some, IsSome, refl, sym, ap, subst, ◌∙◌, inl, inr, arith}
-use Rattle.std.proofs.lemmas.Bool.{cases_lt}
-use Rattle.balanced_tree.specs.Rows.{Rows}
-use Rattle.vm_base.proofs.EntryLaws.{some_same}
-use Rattle.frame_pool.specs.Pool.{Pool}
-use Rattle.page_list.specs.declared.row.Row.{Row}
-use Rattle.page_list.specs.Lists.{slots_of}
-use Rattle.cow_arena.specs.declared.node.Node.{Node}
-use Rattle.cow_arena.specs.declared.node.NodeId.{NodeId}
-use Rattle.cow_arena.specs.Nodes.{Arena, Nodes, nodes_of, link_to, IsVisible, parent_node_in, side_in}
-use Rattle.cow_arena.specs.Walk.{Tree, walk, frame_shown, frame_found}
-use Rattle.cow_arena.specs.Forest.{IsForest, HasAsChild}
+use Rattle.cow_forest.proofs.Words.{◌≡◌, ℕ, zero, suc, ◌+◌, ◌-◌, ◌<◌, ◌≤◌, min, Option, None, Some, IsSome, refl, sym, ap, subst, ◌∙◌, inl}
+use Rattle.cow_forest.proofs.Words.{inr, arith, cases_lt, Rows, some_same, Pool, Row, slots_of, Node, NodeId, Arena, Nodes, nodes_of}
+use Rattle.cow_forest.proofs.Words.{link_to, IsVisible, parent_node_in, side_in, Tree, walk, frame_shown, frame_found, IsForest, HasAsChild}
+use Rattle.cow_forest.proofs.Words.{tree_of, nodes_up, depth, IsPage, rows_in, rows_over, rows_up, rows_reached, IsReadyToZero}
+use Rattle.cow_forest.proofs.Words.{HasZeroed, AreZero, HasNoFrame}
 use Rattle.cow_arena.proofs.WalkLaws.{walk-own, walk-past, walk-up}
 use Rattle.cow_arena.proofs.ReachLaws.{walk-ends, hidden-apart}
-use Rattle.cow_split.specs.Trees.{tree_of}
-use Rattle.cow_split.specs.Cost.{nodes_up, depth}
-use Rattle.cow_split.specs.Sight.{IsPage}
 use Rattle.cow_split.proofs.RowLaws.{frame-shown}
 use Rattle.cow_split.proofs.CostLaws.{parent-there}
 use Rattle.cow_merge.proofs.PassingLaws.{frame-from, up-less}
-use Rattle.cow_forest.specs.Ranges.{rows_in, rows_over, rows_up, rows_reached, IsReadyToZero, HasZeroedSome, AreZero, HasNoFrame}
+use Rattle.cow_fork.proofs.ZeroLaws.{zeroed-none}
 use Rattle.cow_forest.proofs.LookLaws.{none-from}
-use Rattle.cow_forest.proofs.RangeLaws.{rows-less, page-on, zeroed-none, zeroed-then, ready-page, ready-on}
+use Rattle.cow_forest.proofs.RangeLaws.{rows-less, page-on, zeroed-then, ready-page, ready-on}
 
 -- ---- the cost of one node, and of those above it
 
@@ -37,7 +27,7 @@ nodes-node nodes n k node at = ap (λ (o : Option Node). suc (nodes_up nodes n (
 -- The range has come up to page `here` of this node, and its pages show there what they show, as far as they are below `to`. The
 -- further ones are zero. Before the rows of the node are taken, at most the steps are made that the rows and the nodes below it stand for.
 pub record IsRising (arena : Arena) (old now : Rows Row) (before after : Pool) (v first end begun steps : ℕ) (at : Node) (here to : ℕ) : Type 0 where
-  pub some : HasZeroedSome arena old now before after v first end
+  pub some : HasZeroed arena old now before after v first end
   pub h : ℕ
   pub there : nodes_of arena h ≡ Some at
   pub risen : first ≤ here
@@ -53,11 +43,11 @@ pub record IsRising (arena : Arena) (old now : Rows Row) (before after : Pool) (
   pub cost : steps + rows_up (tree_of arena old) fuel (link_to h) here to + nodes_up (nodes_of arena) fuel (link_to h)
       ≤ begun + rows_reached (tree_of arena old) v first end + depth (nodes_of arena) arena.lists v
 
-module _ (arena : Arena) (old : Rows Row) (before : Pool) (v first end begun : ℕ) (ready : IsReadyToZero arena old before v first end) where
+module _ {arena : Arena} {old : Rows Row} {before : Pool} {v first end begun : ℕ} (ready : IsReadyToZero arena old before v first end) where
   -- it begins at the VMO's node
   pub rise-start : (node : Node) → nodes_of arena v ≡ Some node → IsRising arena old old before before v first end begun begun node first end
   rise-start node at = record {
-    some = zeroed-none arena old before v first end ready.exact;
+    some = zeroed-none arena old old before v first end ready.exact refl refl;
     h = v;
     there = at;
     risen = omega arith;
@@ -72,14 +62,14 @@ module _ (arena : Arena) (old : Rows Row) (before : Pool) (v first end begun : �
     cost = omega arith;
   }
 
-  module _ (now : Rows Row) (after : Pool) (steps : ℕ) (at : Node) (here to : ℕ) (is : IsRising arena old now before after v first end begun steps at here to) where
+  module _ {now : Rows Row} {after : Pool} {steps : ℕ} {at : Node} {here to : ℕ} (is : IsRising arena old now before after v first end begun steps at here to) where
     pub rise-ready : IsReadyToZero arena now after v first end
     rise-ready = ready-on arena old before v first end ready now after is.some
 
     -- the rows of the node are passed: what is still shown comes to none of them
-    module _ (new : Rows Row) (last : Pool) (taken : ℕ) (z : HasZeroedSome arena now new after last v first end)
+    module _ {new : Rows Row} {last : Pool} {taken : ℕ} (z : HasZeroed arena now new after last v first end)
         (passed : HasNoFrame (tree_of arena new) v first at.list.0 here to) (cost : taken ≤ steps + rows_in (slots_of now at.list.0) here to + 1) where
-      all : HasZeroedSome arena old new before last v first end
+      all : HasZeroed arena old new before last v first end
       all = zeroed-then arena old now new before after last v first end first end first end is.some z (omega arith) (omega arith) (omega arith) (omega arith)
 
       page : (d : ℕ) → first + d < end → (rows : Rows Row) → IsPage (tree_of arena rows) v (first + d)
@@ -124,7 +114,7 @@ module _ (arena : Arena) (old : Rows Row) (before : Pool) (v first end begun : �
           let seen = is.forest.by.root is.h at is.there none in
           rise-zero (min to at.seen) refl (omega arith)
 
-      pub rise-some : HasZeroedSome arena old new before last v first end
+      pub rise-some : HasZeroed arena old new before last v first end
       rise-some = all
 
       -- what a node and those above it cost, once its rows are passed
@@ -144,7 +134,7 @@ module _ (arena : Arena) (old : Rows Row) (before : Pool) (v first end begun : �
       rise-cost = let fuel = some-fuel is.fuel is.enough in omega (arith, spent fuel.0 fuel.1)
 
       -- it goes on at the parent
-      module _ (parent : NodeId) (up : Node) (parent_is : at.parent ≡ Some parent) (up_at : nodes_of arena parent.0 ≡ Some up) where
+      module _ {parent : NodeId} {up : Node} (parent_is : at.parent ≡ Some parent) (up_at : nodes_of arena parent.0 ≡ Some up) where
         pub rise-up : (stop : ℕ) → stop ≡ min to at.seen → IsRising arena old new before last v first end begun taken up (here + at.first) (stop + at.first)
         rise-up stop stop_is = record {
           some = all;
@@ -196,11 +186,11 @@ module _ (arena : Arena) (old : Rows Row) (before : Pool) (v first end begun : �
             subst (λ (n : Node). at.first + at.seen ≤ n.count) (some_same (sym below.at ∙ up_at)) below.window
 
     -- the parent is there, and fewer nodes are above it
-    pub rise-there : (parent : NodeId) → at.parent ≡ Some parent → IsSome (nodes_of arena parent.0)
-    rise-there parent parent_is = parent-there (nodes_of arena) arena.lists is.forest is.h parent.0 at is.there parent_is
+    pub rise-there : {parent : NodeId} → at.parent ≡ Some parent → IsSome (nodes_of arena parent.0)
+    rise-there {parent} parent_is = parent-there (nodes_of arena) arena.lists is.forest is.h parent.0 at is.there parent_is
 
-    pub rise-less : (parent : NodeId) (up : Node) → at.parent ≡ Some parent → nodes_of arena parent.0 ≡ Some up →
+    pub rise-less : {parent : NodeId} {up : Node} → at.parent ≡ Some parent → nodes_of arena parent.0 ≡ Some up →
         nodes_up (nodes_of arena) arena.lists up.parent < nodes_up (nodes_of arena) arena.lists at.parent
-    rise-less parent up parent_is up_at =
+    rise-less {parent} {up} parent_is up_at =
         subst (λ o. nodes_up (nodes_of arena) arena.lists up.parent < nodes_up (nodes_of arena) arena.lists o) (sym parent_is)
         (up-less (nodes_of arena) arena.lists is.forest parent.0 up up_at)

@@ -1,33 +1,14 @@
 -- A VMO's node that was shared with a new one makes a snapshot of the VMO.
-use Rattle.std.proofs.Common.{◌≡◌, ◌≢◌, ℕ, ◌+◌, ◌<◌, ◌≤◌, ◌==◌, Option, Some, IsSome, refl, sym, ap, subst, ◌∙◌, inl, inr, arith}
-use Rattle.std.specs.Prelude.{is_some}
-use Rattle.std.proofs.lemmas.Bool.{cases_lt, lt-ltb, le-ltb, cond-true, cond-false}
-use Rattle.vm_base.proofs.SearchLaws.{eqb_same, eqb_apart}
-use Rattle.balanced_tree.specs.Rows.{Rows}
+use Rattle.cow_forest.proofs.Words.{◌≡◌, ◌≢◌, ℕ, ◌+◌, ◌<◌, ◌≤◌, ◌==◌, Option, Some, IsSome, refl, sym, ap, subst, ◌∙◌, inl, inr, arith}
+use Rattle.cow_forest.proofs.Words.{is_some, cases_lt, lt-ltb, le-ltb, cond-true, cond-false, eqb_same, eqb_apart, Rows, with_key}
+use Rattle.cow_forest.proofs.Words.{some_same, with_key-here, with_key-other, page_seen, snapshotted, is_taken, ListId, Row, slots_of, Node}
+use Rattle.cow_forest.proofs.Words.{NodeId, Pair, Arena, Nodes, nodes_of, link_to, paired, snapshot_node, IsForest, Slots, frame_shown}
+use Rattle.cow_forest.proofs.Words.{tree_of, HasShared, split_slots, AreLinked, NodeEntries, node_in, Forest, tree, forest_content}
+use Rattle.cow_forest.proofs.Words.{page_showing, HasNode, IsStore}
 use Rattle.vm_base.specs.declared.limits.TheConstants.{VMO_PAGES}
-use Rattle.vm_base.specs.Entries.{with_key}
-use Rattle.vm_base.proofs.EntryLaws.{some_same, with_key-here, with_key-other}
-use Rattle.vm_model.specs.Contents.Sharing.{page_seen, snapshotted}
-use Rattle.frame_pool.specs.Pool.{is_taken}
-use Rattle.page_list.specs.declared.row.ListId.{ListId}
-use Rattle.page_list.specs.declared.row.Row.{Row}
-use Rattle.page_list.specs.Lists.{slots_of}
-use Rattle.cow_arena.specs.declared.node.Node.{Node}
-use Rattle.cow_arena.specs.declared.node.NodeId.{NodeId}
-use Rattle.cow_arena.specs.declared.node.Pair.{Pair}
-use Rattle.cow_arena.specs.Nodes.{Arena, Nodes, nodes_of, link_to}
-use Rattle.cow_arena.specs.Changes.{paired, snapshot_node}
-use Rattle.cow_arena.specs.Forest.{IsForest}
-use Rattle.cow_arena.specs.Walk.{Slots, frame_shown}
 use Rattle.cow_arena.proofs.AlikeLaws.{some-alike, frames-back}
 use Rattle.cow_arena.proofs.PairWalkLaws.{hidden-at}
-use Rattle.cow_split.specs.Trees.{tree_of}
-use Rattle.cow_fork.specs.Sharing.{HasShared}
-use Rattle.cow_fork.specs.Snapshots.{split_slots}
 use Rattle.cow_fork.proofs.SnapshotLaws.{Origin, from_hidden, from_leaf, from_child, from_other, origin-of, split-frames}
-use Rattle.cow_merge.specs.Ranges.{AreLinked}
-use Rattle.cow_forest.specs.Tables.{NodeEntries, node_in}
-use Rattle.cow_forest.specs.Store.{Forest, tree, forest_content, page_showing, HasNode, IsStore}
 use Rattle.cow_forest.proofs.ContentLaws.{node-visible, page-of}
 use Rattle.cow_forest.proofs.EnterLaws.{with_vmo, HasNewVmo, store-new, content-new}
 

@@ -1,20 +1,8 @@
 -- Other rows and frames under the same nodes: the forest stays a store, and its content changes in one page at most.
-use Rattle.std.proofs.Common.{◌≡◌, ℕ, Option, None, Some, refl, sym, ap, subst, ◌∙◌, inl, inr}
-use Rattle.std.proofs.lemmas.Bool.{cases_lt}
-use Rattle.balanced_tree.specs.Rows.{Rows}
-use Rattle.vm_model.specs.Contents.Content.{Content, hold}
-use Rattle.vm_model.proofs.ContentLaws.{same_page, page-hold_here, page-hold_other, same_content}
-use Rattle.frame_pool.specs.Pool.{Pool, frame_bytes, is_taken}
-use Rattle.page_list.specs.declared.row.Row.{Row}
-use Rattle.cow_arena.specs.declared.node.NodeId.{NodeId}
-use Rattle.cow_arena.specs.Walk.{frame_shown}
-use Rattle.cow_split.specs.Trees.{tree_of}
-use Rattle.cow_split.specs.Sight.{IsPage, ShowsSame, IsNotPage}
-use Rattle.cow_split.specs.Exact.{IsExact, all_in_sight}
-use Rattle.cow_merge.specs.Ranges.{AreLinked}
-use Rattle.vm_model.proofs.CountLaws.{vmos_of-same}
-use Rattle.cow_forest.specs.Tables.{node_in}
-use Rattle.cow_forest.specs.Store.{Forest, tree, forest_content, frame_from, page_with_frame, page_showing, HasNode, IsStore}
+use Rattle.cow_forest.proofs.Words.{◌≡◌, ℕ, Option, None, Some, refl, sym, ap, subst, ◌∙◌, inl, inr, cases_lt, Rows, Content, hold}
+use Rattle.cow_forest.proofs.Words.{same_page, page-hold_here, page-hold_other, same_content, Pool, frame_bytes, is_taken, Row, NodeId}
+use Rattle.cow_forest.proofs.Words.{frame_shown, tree_of, IsPage, ShowsSame, IsNotPage, IsExact, all_in_sight, AreLinked, vmos_of-same}
+use Rattle.cow_forest.proofs.Words.{node_in, Forest, tree, forest_content, frame_from, page_with_frame, page_showing, HasNode, IsStore}
 use Rattle.cow_forest.proofs.ContentLaws.{node-visible, one-vmo, page-of, frame-past}
 
 -- the forest with these rows and frames

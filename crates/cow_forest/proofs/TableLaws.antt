@@ -1,16 +1,9 @@
 -- What the map of a table of nodes says after a call of the library, and what a VMO that leaves takes out of its table.
-use Rattle.std.proofs.Common.{◌≡◌, ◌≢◌, ℕ, ◌==◌, cond, List, [], ◌∷◌, length, Option, None, Some, Result, Ok, Err, ◌⊎◌, inl, inr, refl, sym, ap, ◌∙◌, arith}
-use Rattle.std.specs.Prelude.{IsOk, OnOk, OnErr, IsSome, is_some}
-use Rattle.std.proofs.lemmas.Bool.{cases_eq}
+use Rattle.cow_forest.proofs.Words.{◌≡◌, ◌≢◌, ℕ, ◌==◌, cond, List, [], ◌∷◌, length, Option, None, Some, Result, Ok, Err, ◌⊎◌, inl, inr}
+use Rattle.cow_forest.proofs.Words.{refl, sym, ap, ◌∙◌, arith, IsOk, OnOk, OnErr, IsSome, is_some, cases_eq, common_steps, with_key}
+use Rattle.cow_forest.proofs.Words.{without_key, some_same, with_key-same, with_key-other, without_key-other, NodeId, Node, Nodes, link_to}
+use Rattle.cow_forest.proofs.Words.{sibling_in, IsForest, displaced_in, IsDisowned, AreMerged, HasOneOf}
 use Rattle.std.specs.Map.{lookup}
-use Rattle.std.proofs.lemmas.Grind.{common_steps}
-use Rattle.vm_base.specs.Entries.{with_key, without_key}
-use Rattle.vm_base.proofs.EntryLaws.{some_same, with_key-same, with_key-other, without_key-other}
-use Rattle.cow_arena.specs.declared.node.NodeId.{NodeId}
-use Rattle.cow_arena.specs.declared.node.Node.{Node}
-use Rattle.cow_arena.specs.Nodes.{Nodes, link_to, sibling_in}
-use Rattle.cow_arena.specs.Forest.{IsForest}
-use Rattle.cow_forest.specs.Tables.{displaced_in, IsDisowned, AreMerged, HasOneOf}
 
 -- an entry of the map
 abbrev node_at : List (ℕ × NodeId) → ℕ → Option NodeId

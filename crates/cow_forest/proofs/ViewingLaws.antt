@@ -1,47 +1,24 @@
 -- Who shows a frame: those who see its row, from both sides or its own node, each of them once. So many VMOs view the frame,
 -- and the least of their koids is its least viewer.
-use Rattle.std.proofs.Common.{◌≡◌, ℕ, ◌+◌, ◌<◌, ◌≤◌, Bool, true, false, List, [], ◌∷◌, ◌++◌, length, Option, None, Some, refl, sym, ap, subst, ◌∙◌, inl, inr, arith}
-use Rattle.std.specs.Prelude.{eqb, nat_lt, is_some, IsSome, IsSomeAnd, IfSome, IfNone, MatchOption, if◌then◌else◌}
-use Rattle.std.specs.List.{Contains, IsDistinct}
-use Rattle.std.proofs.lemmas.Bool.{cases_Bool, eqb-true, false_from_ne_true}
-use Rattle.std.proofs.lemmas.Bool.Decides.{nat_tests}
-use Rattle.std.proofs.lemmas.Grind.{common_steps}
-use Rattle.std.proofs.lemmas.List.{append-nil, length-append}
-use Rattle.std.proofs.lemmas.List.Elements.{Contains-append_left, Contains-append_right, Contains-append_cases}
+use Rattle.cow_forest.proofs.Words.{◌≡◌, ℕ, ◌+◌, ◌<◌, ◌≤◌, Bool, true, false, List, [], ◌∷◌, ◌++◌, length, Option, None, Some, refl, sym}
+use Rattle.cow_forest.proofs.Words.{ap, subst, ◌∙◌, inl, inr, arith, eqb, nat_lt, is_some, IsSome, IsSomeAnd, IfSome, IfNone, MatchOption}
+use Rattle.cow_forest.proofs.Words.{if◌then◌else◌, Contains, IsDistinct, cases_Bool, eqb-true, false_from_ne_true, nat_tests, common_steps}
+use Rattle.cow_forest.proofs.Words.{Contains-append_left, Contains-append_right, Contains-append_cases, Koid, some_same, Page, views}
+use Rattle.cow_forest.proofs.Words.{viewers, IsLeastViewer, Backlink, links_of, Slot, Node, NodeId, Side, Nodes, nodes_of, link_to}
+use Rattle.cow_forest.proofs.Words.{other_side, IsVisible, Tree, Found, walk, frame_shown, frame_in, frame_found, Holder, holder_of, Sees}
+use Rattle.cow_forest.proofs.Words.{IsSeenFrom, IsExact, all_in_sight, HasKoid, HasLesser, IsBelowAll, IsLeastKoid, lesser_of, IsShown}
+use Rattle.cow_forest.proofs.Words.{ShowsFrame, AreViewers, IsViewerCount, IsLeastKoidOf, HasLesserOf, HasFrameRow, node_in, Forest, tree}
+use Rattle.cow_forest.proofs.Words.{forest_content, page_showing, HasNode, IsStore, append-nil, length-append, viewers_from}
 use Rattle.std.proofs.lemmas.Map.Steps.{length-le_from_distinct_below}
 use Rattle.std.proofs.lemmas.Map.Views.{Contains-from_any}
-use Rattle.vm_base.specs.declared.names.Koid.{Koid}
-use Rattle.vm_base.proofs.EntryLaws.{some_same}
-use Rattle.vm_model.specs.Contents.Content.{Page, views}
-use Rattle.vm_model.specs.Contents.Sharing.{viewers, IsLeastViewer}
-use Rattle.frame_pool.specs.declared.frame_pool.Backlink.{Backlink}
-use Rattle.frame_pool.specs.Pool.{links_of}
-use Rattle.page_list.specs.declared.row.Slot.{Slot}
-use Rattle.page_list.specs.declared.row.Slot.TheVariants as slot
-use Rattle.cow_arena.specs.declared.node.Node.{Node}
-use Rattle.cow_arena.specs.declared.node.NodeId.{NodeId}
-use Rattle.cow_arena.specs.declared.node.Side.{Side}
-use Rattle.cow_arena.specs.declared.node.Side.TheVariants as side
-use Rattle.cow_arena.specs.Nodes.{Nodes, nodes_of, link_to, other_side, IsVisible}
-use Rattle.cow_arena.specs.Walk.{Tree, Found, walk, frame_shown, frame_in, frame_found}
 use Rattle.cow_arena.proofs.WalkLaws.{link_same, walk-own}
 use Rattle.cow_arena.proofs.ReachLaws.{walk-ends, reach-hidden, hidden-apart}
-use Rattle.cow_split.specs.declared.answers.Holder.TheVariants as holder
-use Rattle.cow_split.specs.Trees.{holder_of}
-use Rattle.cow_split.specs.Search.{viewers_from}
-use Rattle.cow_split.specs.Sight.{Sees, IsSeenFrom}
-use Rattle.cow_split.specs.Exact.{IsExact, all_in_sight}
-use Rattle.cow_split.specs.Viewers.{HasKoid, HasLesser, IsBelowAll, IsLeastKoid, lesser_of}
 use Rattle.cow_split.proofs.FoundLaws.{koid-once}
 use Rattle.cow_split.proofs.HolderLaws.{found-above, held-row}
 use Rattle.cow_split.proofs.RowLaws.{frame-shown}
 use Rattle.cow_split.proofs.SearchLaws.{contains-none, contains-one, contains-first}
 use Rattle.cow_split.proofs.ViewersLaws.{distinct-append, distinct-one, viewer-visible, viewer-sees, viewer-side, viewers-distinct}
 use Rattle.cow_fork.proofs.HolderLaws.{held-shown}
-use Rattle.page_store.specs.Pages.{IsShown}
-use Rattle.cow_forest.specs.inside.Viewing.{ShowsFrame, AreViewers, IsViewerCount, IsLeastKoidOf, HasLesserOf, HasFrameRow}
-use Rattle.cow_forest.specs.Tables.{node_in}
-use Rattle.cow_forest.specs.Store.{Forest, tree, forest_content, page_showing, HasNode, IsStore}
 use Rattle.cow_forest.proofs.ContentLaws.{ShownBy, frame-showing, page-of, one-node, vmo-shows, shown-views, views-shown, vmo-below}
 use Rattle.cow_forest.proofs.FrameLaws.{shown-taken}
 use Rattle.cow_forest.proofs.CountLaws.{AreNumbered, count_below_numbered}
@@ -133,18 +110,22 @@ module _ (t : Tree) (exact : (in_use : ℕ → Bool) × IsExact t all_in_sight i
 
   -- those who are found on both sides
   abbrev pub both_sides : ℕ → ℕ → List ℕ
-  both_sides h q = viewers_from t None side.Left h q ++ viewers_from t None side.Right h q
+  both_sides h q = viewers_from t None Side.Left h q ++ viewers_from t None Side.Right h q
+
+  on-both : (h q : ℕ) (from : Side) (v : ℕ) → Contains (viewers_from t None from h q) v → Contains (both_sides h q) v
+  on-both h q Side.Left v inside = Contains-append_left (viewers_from t None Side.Left h q) (viewers_from t None Side.Right h q) v inside
+  on-both h q Side.Right v inside = Contains-append_right (viewers_from t None Side.Left h q) (viewers_from t None Side.Right h q) v inside
 
   both-distinct : (h q : ℕ) → IsDistinct eqb (both_sides h q)
-  both-distinct h q = distinct-append (viewers_from t None side.Left h q) (viewers_from t None side.Right h q)
-      (viewers-distinct t exact.1.forest None side.Left h q) (viewers-distinct t exact.1.forest None side.Right h q)
+  both-distinct h q = distinct-append (viewers_from t None Side.Left h q) (viewers_from t None Side.Right h q)
+      (viewers-distinct t exact.1.forest None Side.Left h q) (viewers-distinct t exact.1.forest None Side.Right h q)
       (viewer-side t exact.1.forest h q)
 
   -- there are not more than numbers of nodes
   pub both-few : (h q room : ℕ) → ((k : ℕ) → IsSome (t.nodes k) → k < room) →
-      length (viewers_from t None side.Left h q) + length (viewers_from t None side.Right h q) ≤ room
+      length (viewers_from t None Side.Left h q) + length (viewers_from t None Side.Right h q) ≤ room
   both-few h q room below =
-      let parts = length-append (viewers_from t None side.Left h q) (viewers_from t None side.Right h q) in
+      let parts = length-append (viewers_from t None Side.Left h q) (viewers_from t None Side.Right h q) in
       let few = length-le_from_distinct_below (both_sides h q) room (both-distinct h q) (λ v any. inside v (Contains-from_any eqb-true v (both_sides h q) any)) in
       omega arith
     where
@@ -152,9 +133,9 @@ module _ (t : Tree) (exact : (in_use : ℕ → Bool) × IsExact t all_in_sight i
       there from v in_list = let it = viewer-visible t exact.1.forest None from h q v in_list in below v (subst IsSome (sym it.1.at) refl)
 
       inside : (v : ℕ) → Contains (both_sides h q) v → v < room
-      inside v in_both = elim (Contains-append_cases (viewers_from t None side.Left h q) (viewers_from t None side.Right h q) v in_both) [
-        | inl left ↦ there side.Left v left
-        | inr right ↦ there side.Right v right
+      inside v in_both = elim (Contains-append_cases (viewers_from t None Side.Left h q) (viewers_from t None Side.Right h q) v in_both) [
+        | inl left ↦ there Side.Left v left
+        | inr right ↦ there Side.Right v right
       ]
 
   module _ (h q tag : ℕ) (has : HasFrameRow t h q tag) (hidden : has.row.node.koid ≡ None) where
@@ -166,10 +147,7 @@ module _ (t : Tree) (exact : (in_use : ℕ → Bool) × IsExact t all_in_sight i
     sees-above k p None sees =
         let way = (walk-ends t exact.1.forest k p (record { node = h; page = q; side = None; slot = sees.slot }) sees.found).way in
         absurd (hidden-apart t exact.1.forest h k has.row.node sees.page.node has.row.at hidden sees.page.visible (sym way.0))
-    sees-above k p (Some side.Left) sees =
-        Contains-append_left (viewers_from t None side.Left h q) (viewers_from t None side.Right h q) k (side-found side.Left k p sees)
-    sees-above k p (Some side.Right) sees =
-        Contains-append_right (viewers_from t None side.Left h q) (viewers_from t None side.Right h q) k (side-found side.Right k p sees)
+    sees-above k p (Some from) sees = on-both h q from k (side-found from k p sees)
 
     side-shows : (from : Side) (k : ℕ) → Contains (viewers_from t None from h q) k → ShowsFrame t tag k
     side-shows from k inside =
@@ -179,9 +157,9 @@ module _ (t : Tree) (exact : (in_use : ℕ → Bool) × IsExact t all_in_sight i
     pub above-viewers : AreViewers t tag (both_sides h q)
     above-viewers = record {
       each = λ k. (
-        λ inside. elim (Contains-append_cases (viewers_from t None side.Left h q) (viewers_from t None side.Right h q) k inside) [
-          | inl left ↦ side-shows side.Left k left
-          | inr right ↦ side-shows side.Right k right
+        λ inside. elim (Contains-append_cases (viewers_from t None Side.Left h q) (viewers_from t None Side.Right h q) k inside) [
+          | inl left ↦ side-shows Side.Left k left
+          | inr right ↦ side-shows Side.Right k right
         ],
         λ shows. let sees = sees-row h q tag k has shows in sees-above k shows.p sees.0 sees.1,
       );
@@ -196,23 +174,23 @@ module _ (t : Tree) (exact : (in_use : ℕ → Bool) × IsExact t all_in_sight i
         sees-none from seen = contains-none seen.v (subst (λ list. Contains list seen.v) nobody (sees-above seen.v seen.p (Some from) seen.sees))
 
         with_slot : (row : Slot) → t.slots has.row.node.list.0 q ≡ Some row → frame_in row ≡ Some tag → ⊥
-        with_slot slot.Zero at frame = cc
-        with_slot (slot.Frame its left right) at frame =
+        with_slot Slot.Zero at frame = cc
+        with_slot (Slot.Frame its left right) at frame =
             let bits = exact.1.bits h q has.row.node its left right has.row.at hidden at in
             elim (cases_Bool left) [
-              | inl clear_left ↦ sees-none side.Right (bits.right_bit.is_false (let some = bits.is_seen in grind (arith, common_steps)))
-              | inr not_left ↦ sees-none side.Left (bits.left_bit.is_false not_left)
+              | inl clear_left ↦ sees-none Side.Right (bits.right_bit.is_false (let some = bits.is_seen in grind (arith, common_steps)))
+              | inr not_left ↦ sees-none Side.Left (bits.left_bit.is_false not_left)
             ]
 
   -- ---- what is answered
 
   -- so many show the frame of a row of a hidden node
-  pub count-above : (h q left right : ℕ) → IsSomeAnd (t.nodes h) (λ node. node.koid ≡ None) → left ≡ length (viewers_from t None side.Left h q) →
-      right ≡ length (viewers_from t None side.Right h q) → (tag : ℕ) → HasFrameRow t h q tag → IsViewerCount t tag (left + right)
+  pub count-above : (h q left right : ℕ) → IsSomeAnd (t.nodes h) (λ node. node.koid ≡ None) → left ≡ length (viewers_from t None Side.Left h q) →
+      right ≡ length (viewers_from t None Side.Right h q) → (tag : ℕ) → HasFrameRow t h q tag → IsViewerCount t tag (left + right)
   count-above h q left right hidden left_is right_is tag has = record {
     list = both_sides h q;
     viewers = above-viewers h q tag has (subst (λ o. IsSomeAnd o (λ (node : Node). node.koid ≡ None)) has.row.at hidden);
-    count_is = let parts = length-append (viewers_from t None side.Left h q) (viewers_from t None side.Right h q) in omega arith;
+    count_is = let parts = length-append (viewers_from t None Side.Left h q) (viewers_from t None Side.Right h q) in omega arith;
   }
 
   -- and one that of a row of a visible node
@@ -220,7 +198,7 @@ module _ (t : Tree) (exact : (in_use : ℕ → Bool) × IsExact t all_in_sight i
   count-own h q tag has visible = record { list = h ∷ []; viewers = own-viewers h q tag has visible; count_is = refl }
 
   -- the row above that holds a page
-  module _ (k p : ℕ) (h : NodeId) (q : ℕ) (from : Side) (row : Slot) (held : holder.Above h q from row ≡ holder_of (walk t k p)) where
+  module _ (k p : ℕ) (h : NodeId) (q : ℕ) (from : Side) (row : Slot) (held : Holder.Above h q from row ≡ holder_of (walk t k p)) where
     pub held-hidden : IsSomeAnd (t.nodes h.0) (λ node. node.koid ≡ None)
     held-hidden =
         let it : Found = record { node = h.0; page = q; side = Some from; slot = row } in
@@ -232,7 +210,7 @@ module _ (t : Tree) (exact : (in_use : ℕ → Bool) × IsExact t all_in_sight i
     held-frame tag shown = record {
       slot = row;
       row = held-row t exact.1.forest k p h q from row held;
-      frame = held-shown t k p (holder.Above h q from row) held ∙ shown;
+      frame = held-shown t k p (Holder.Above h q from row) held ∙ shown;
     }
 
   -- the koid of a visible node is the least that shows the frame of its row
@@ -251,19 +229,18 @@ module _ (t : Tree) (exact : (in_use : ℕ → Bool) × IsExact t all_in_sight i
           least = λ w other inside its.
               let alone = contains-one h w inside in
               let one = koid-once t.nodes h koid other (record { node = node; at = at; koid_is = named }) (subst (λ n. HasKoid t.nodes n other) (sym alone) its) in
-              let number = ap (λ (name : Koid). name.0) one in
-              omega arith;
+              omega (arith, ap (λ (name : Koid). name.0) one);
         };
       }
 
   -- and the lesser of both sides' least koids that of a hidden node's row
   pub least-above : (h q : ℕ) (node : Node) → t.nodes h ≡ Some node → node.koid ≡ None → (one other answer : Option Koid) →
-      MatchOption one (viewers_from t None side.Left h q ≡ []) (λ koid. IsLeastKoid t.nodes (viewers_from t None side.Left h q) koid) →
-      MatchOption other (viewers_from t None side.Right h q ≡ []) (λ koid. IsLeastKoid t.nodes (viewers_from t None side.Right h q) koid) →
+      MatchOption one (viewers_from t None Side.Left h q ≡ []) (λ koid. IsLeastKoid t.nodes (viewers_from t None Side.Left h q) koid) →
+      MatchOption other (viewers_from t None Side.Right h q ≡ []) (λ koid. IsLeastKoid t.nodes (viewers_from t None Side.Right h q) koid) →
       answer ≡ lesser_of one other → (tag : ℕ) → HasFrameRow t h q tag → MatchOption answer ⊥ (λ koid. IsLeastKoidOf t tag koid)
   least-above h q node at hidden one other answer left right is tag has =
       with_answer answer (subst (λ o. MatchOption o (both_sides h q ≡ []) (λ koid. IsLeastKoid t.nodes (both_sides h q) koid)) (sym is)
-      (least-joined t.nodes (viewers_from t None side.Left h q) (viewers_from t None side.Right h q) one other left right))
+      (least-joined t.nodes (viewers_from t None Side.Left h q) (viewers_from t None Side.Right h q) one other left right))
     where
       its : has.row.node.koid ≡ None
       its = ap (λ (n : Node). n.koid) (some_same (sym has.row.at ∙ at)) ∙ hidden
@@ -296,25 +273,21 @@ module _ (t : Tree) (exact : (in_use : ℕ → Bool) × IsExact t all_in_sight i
     its-hidden : has.row.node.koid ≡ None
     its-hidden = ap (λ (n : Node). n.koid) (some_same (sym has.row.at ∙ at)) ∙ hidden
 
-    on-both : (from : Side) (v : ℕ) → Contains (viewers_from t None from h q) v → Contains (both_sides h q) v
-    on-both side.Left v inside = Contains-append_left (viewers_from t None side.Left h q) (viewers_from t None side.Right h q) v inside
-    on-both side.Right v inside = Contains-append_right (viewers_from t None side.Left h q) (viewers_from t None side.Right h q) v inside
-
     -- it is found on a side
     pub lesser-above : (from : Side) (less : Koid) → HasLesser t.nodes (viewers_from t None from h q) koid less → HasLesserOf t tag koid (Some less)
     lesser-above from less found = record {
       list = both_sides h q;
       viewers = above-viewers h q tag has its-hidden;
-      answer_is = record { v = found.v; inside = on-both from found.v found.inside; has = found.has; below = found.below };
+      answer_is = record { v = found.v; inside = on-both h q from found.v found.inside; has = found.has; below = found.below };
     }
 
     below-both : (from : Side) → IsBelowAll t.nodes (viewers_from t None from h q) koid → IsBelowAll t.nodes (viewers_from t None (other_side from) h q) koid →
         IsBelowAll t.nodes (both_sides h q) koid
-    below-both side.Left here there w other inside its = elim (Contains-append_cases (viewers_from t None side.Left h q) (viewers_from t None side.Right h q) w inside) [
+    below-both Side.Left here there w other inside its = elim (Contains-append_cases (viewers_from t None Side.Left h q) (viewers_from t None Side.Right h q) w inside) [
       | inl left ↦ here w other left its
       | inr right ↦ there w other right its
     ]
-    below-both side.Right here there w other inside its = elim (Contains-append_cases (viewers_from t None side.Left h q) (viewers_from t None side.Right h q) w inside) [
+    below-both Side.Right here there w other inside its = elim (Contains-append_cases (viewers_from t None Side.Left h q) (viewers_from t None Side.Right h q) w inside) [
       | inl left ↦ there w other left its
       | inr right ↦ here w other right its
     ]
@@ -375,21 +348,28 @@ module _ (f : Forest) (s : IsStore f) (tag : ℕ) (list : List ℕ) (are : AreVi
   unfolding viewers
   viewers-listed = count_below_numbered (λ k. number_in (nodes_of f.arena k)) f.next (views (forest_content f) tag) list viewers-numbered
 
+  -- a node of the list is that of a VMO which views the frame
+  viewer-views : (v : ℕ) (koid : Koid) → Contains list v → HasKoid (nodes_of f.arena) v koid → views (forest_content f) tag koid.0 ≡ true
+  viewer-views v koid inside has =
+      let shows = (are.each v).0 inside in
+      let it = vmo-of f s tag v shows in
+      let number : it.0 ≡ koid.0 = sym (number-of f s it.0 v it.1.page.node) ∙ (ap number_in has.at ∙ ap koid_number has.koid_is) in
+      subst (λ w. views (forest_content f) tag w ≡ true) number (shown-views f s it.0 v shows.p tag it.1)
+
+  -- and each VMO that views it has a node there
+  views-viewer : (w : ℕ) → views (forest_content f) tag w ≡ true →
+      (v : ℕ) × (koid : Koid) × Contains list v × HasKoid (nodes_of f.arena) v koid × (koid.0 ≡ w)
+  views-viewer w e =
+      let it = (views-shown f s w tag).0 e in
+      let its = it.2.page.node in
+      let inside = (are.each it.0).1 (record { p = it.1; page = it.2.page.page; frame = it.2.frame }) in
+      (it.0, its.is.koid, inside, record { node = its.node; at = its.is.at; koid_is = its.is.has_koid }, its.is.number)
+
   pub least-viewer : (koid : Koid) → IsLeastKoid (nodes_of f.arena) list koid → IsLeastViewer (forest_content f) tag koid.0
   least-viewer koid least = record {
-    shows =
-        let shows = (are.each least.v).0 least.inside in
-        let it = vmo-of f s tag least.v shows in
-        let number : it.0 ≡ koid.0 = sym (number-of f s it.0 least.v it.1.page.node)
-        ∙ (ap number_in least.has.at ∙ ap koid_number least.has.koid_is) in
-        subst (λ v. views (forest_content f) tag v ≡ true) number (shown-views f s it.0 least.v shows.p tag it.1);
+    shows = viewer-views least.v koid least.inside least.has;
     least = λ w below. false_from_ne_true (views (forest_content f) tag w) (λ e.
-        let it = (views-shown f s w tag).0 e in
-        let its = it.2.page.node in
-        let inside = (are.each it.0).1 (record { p = it.1; page = it.2.page.page; frame = it.2.frame }) in
-        let most = least.least it.0 its.is.koid inside (record { node = its.node; at = its.is.at; koid_is = its.is.has_koid }) in
-        let number = its.is.number in
-        absurd (omega arith));
+        let it = views-viewer w e in absurd (omega (arith, least.least it.0 it.1 it.2 it.3, it.4)));
   }
 
   -- a koid that is less is that of a VMO which views the frame, and without one there is no such VMO
@@ -398,18 +378,9 @@ module _ (f : Forest) (s : IsStore f) (tag : ℕ) (list : List ℕ) (are : AreVi
   lesser-viewer koid None none = (
     tt,
     λ w below. false_from_ne_true (views (forest_content f) tag w) (λ e.
-        let it = (views-shown f s w tag).0 e in
-        let its = it.2.page.node in
-        let inside = (are.each it.0).1 (record { p = it.1; page = it.2.page.page; frame = it.2.frame }) in
-        let most = none it.0 its.is.koid inside (record { node = its.node; at = its.is.at; koid_is = its.is.has_koid }) in
-        let number = its.is.number in
-        absurd (omega arith)),
+        let it = views-viewer w e in absurd (omega (arith, none it.0 it.1 it.2 it.3, it.4))),
   )
-  lesser-viewer koid (Some less) found =
-      let shows = (are.each found.v).0 found.inside in
-      let it = vmo-of f s tag found.v shows in
-      let number : it.0 ≡ less.0 = sym (number-of f s it.0 found.v it.1.page.node) ∙ (ap number_in found.has.at ∙ ap koid_number found.has.koid_is) in
-      ((found.below, subst (λ v. views (forest_content f) tag v ≡ true) number (shown-views f s it.0 found.v shows.p tag it.1)), tt)
+  lesser-viewer koid (Some less) found = ((found.below, viewer-views found.v less found.inside found.has), tt)
 
 module _ (f : Forest) (s : IsStore f) where
   -- a frame that is shown stands in a row, to which its backlink leads: its list is that of a node

@@ -1,29 +1,13 @@
 -- A range of a VMO becomes zero where the pages of its node do.
-use Rattle.std.proofs.Common.{◌≡◌, ◌⊎◌, ℕ, ◌+◌, ◌-◌, ◌<◌, ◌≤◌, Option, None, Some, refl, sym, ap, subst, ◌∙◌, inl, inr, arith}
-use Rattle.std.specs.Prelude.{is_some}
-use Rattle.vm_base.proofs.SearchLaws.{count_below_same}
+use Rattle.cow_forest.proofs.Words.{◌≡◌, ◌⊎◌, ℕ, ◌+◌, ◌-◌, ◌<◌, ◌≤◌, Option, None, Some, refl, sym, ap, subst, ◌∙◌, inl, inr, arith}
+use Rattle.cow_forest.proofs.Words.{is_some, count_below_same, Rows, Page, is_held, pages_of, zeroed, cases_zeroed, page-zeroed_in}
+use Rattle.cow_forest.proofs.Words.{page-zeroed_out, Backlink, Pool, is_taken, frame_bytes, Row, NodeId, nodes_of, link_to, frame_shown}
+use Rattle.cow_forest.proofs.Words.{tree_of, all_in_sight, AreLinked, same_content, node_in, Forest, tree, forest_content, count_from}
+use Rattle.cow_forest.proofs.Words.{page_showing, HasNode, IsStore, shown_from, IsReadyToZero, HasZeroed, AreZero, forest_of, AreStore}
 use Rattle.vm_base.specs.declared.limits.TheConstants.{VMO_PAGES}
-use Rattle.balanced_tree.specs.Rows.{Rows}
-use Rattle.vm_model.specs.Contents.Content.{Page, is_held, pages_of}
-use Rattle.vm_model.specs.Contents.Zeroing.{zeroed}
-use Rattle.vm_model.proofs.ZeroingLaws.{cases_zeroed, page-zeroed_in, page-zeroed_out}
-use Rattle.frame_pool.specs.declared.frame_pool.Backlink.{Backlink}
-use Rattle.frame_pool.specs.Pool.{Pool, is_taken, frame_bytes}
-use Rattle.page_list.specs.declared.row.Row.{Row}
-use Rattle.cow_arena.specs.declared.node.NodeId.{NodeId}
-use Rattle.cow_arena.specs.Nodes.{nodes_of, link_to}
-use Rattle.cow_arena.specs.Walk.{frame_shown}
-use Rattle.cow_split.specs.Trees.{tree_of}
-use Rattle.cow_split.specs.Exact.{all_in_sight}
 use Rattle.cow_split.proofs.RowLaws.{frame-in_use}
-use Rattle.cow_merge.specs.Ranges.{AreLinked}
 use Rattle.page_store.specs.Held.{held_from}
-use Rattle.vm_model.proofs.ContentLaws.{same_content}
-use Rattle.cow_forest.specs.Tables.{node_in}
-use Rattle.cow_forest.specs.Store.{Forest, tree, forest_content, count_from, page_showing, HasNode, IsStore}
-use Rattle.cow_forest.specs.Ranges.{shown_from, IsReadyToZero, HasZeroedSome, AreZero}
 use Rattle.cow_forest.specs.declared.forest.CowForest.TheInside.{Inside}
-use Rattle.cow_forest.specs.inside.Fields.{forest_of, AreStore}
 use Rattle.cow_forest.proofs.JumpKeptLaws.{jumps-zeroed}
 use Rattle.cow_forest.proofs.ContentLaws.{node-visible, one-vmo, page-of, pages-of}
 use Rattle.cow_forest.proofs.ResizingLaws.{bytes-given}
@@ -69,7 +53,7 @@ module _ (f : Forest) (s : IsStore f) (v : ℕ) (at : NodeId) (is : node_in f.no
         omega (arith, same, held-shown first n, room);
   }
 
-  module _ (rows : Rows Row) (pool : Pool) (first end : ℕ) (z : HasZeroedSome f.arena f.rows rows f.pool pool at.0 first end) where
+  module _ (rows : Rows Row) (pool : Pool) (first end : ℕ) (z : HasZeroed f.arena f.rows rows f.pool pool at.0 first end) where
     -- the rows that are left stood where they stand
     linked : AreLinked rows pool
     linked = record {
@@ -114,7 +98,7 @@ module _ (f : Forest) (s : IsStore f) (v : ℕ) (at : NodeId) (is : node_in f.no
 
 -- the fields hold what they must where pages of a range became zero
 pub are-ranged : (a : Inside) (are : AreStore a) (v : ℕ) (at : NodeId) → node_in a.nodes v ≡ Some at → (rows : Rows Row) (pool : Pool) (first end : ℕ) →
-    HasZeroedSome a.arena a.lists rows a.frames pool at.0 first end → AreStore (record a { lists = rows; frames = pool })
+    HasZeroed a.arena a.lists rows a.frames pool at.0 first end → AreStore (record a { lists = rows; frames = pool })
 are-ranged a are v at is rows pool first end z =
     let h = are.store.named v at is in
     record {

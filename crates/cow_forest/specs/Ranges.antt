@@ -1,19 +1,17 @@
--- Making a range of pages of a VMO's node zero: what it changes, and what it costs in steps from row to row.
-use Rattle.std.specs.Prelude.{◌≡◌, ◌⊎◌, ℕ, zero, suc, ◌+◌, ◌-◌, ◌<◌, ◌≤◌, min, nat_le, ◌&&◌, is_some, Option, None, Some, IsSome}
+-- Making a range of pages of a VMO's node zero: what it needs and leaves, and what it costs in steps from row to row.
+use Rattle.std.specs.Prelude.{◌≡◌, ℕ, zero, suc, ◌+◌, ◌-◌, ◌<◌, ◌≤◌, min, nat_le, ◌&&◌, is_some, Option, None, Some}
 use Rattle.balanced_tree.specs.Rows.{Rows}
 use Rattle.vm_base.specs.Search.{count_below}
-use Rattle.frame_pool.specs.Pool.{Pool, taken_frames, is_taken, links_of}
+use Rattle.frame_pool.specs.Pool.{Pool, is_taken}
 use Rattle.page_list.specs.declared.row.Row.{Row}
 use Rattle.page_list.specs.declared.row.Slot.{Slot}
-use Rattle.page_list.specs.Lists.{slots_of}
 use Rattle.cow_arena.specs.declared.node.Node.{Node}
 use Rattle.cow_arena.specs.declared.node.NodeId.{NodeId}
 use Rattle.cow_arena.specs.Nodes.{Arena, nodes_of, IsVisible, link_to}
 use Rattle.cow_arena.specs.Walk.{Slots, Tree, frame_shown, frame_in}
-use Rattle.cow_arena.specs.Ways.{HadRow}
 use Rattle.cow_split.specs.Trees.{tree_of}
-use Rattle.cow_split.specs.Sight.{IsPage, ShowsSame}
 use Rattle.cow_split.specs.Exact.{IsExact, all_in_sight}
+use Rattle.cow_fork.specs.Zeroing.{shown_from}
 
 -- ---- what it costs
 
@@ -39,11 +37,7 @@ rows_up t (suc n) (Some at) from end = rows_over t.slots (rows_up t n) from end 
 abbrev pub rows_reached : Tree → (k from end : ℕ) → ℕ
 rows_reached t k from end = rows_up t t.lists (link_to k) from end
 
--- ---- what it changes
-
--- how many of the n pages of node v from page `first` on show a frame
-unfoldable pub shown_from : Tree → (v first n : ℕ) → ℕ
-shown_from t v first n = count_below n (λ k. is_some (frame_shown t v (first + k)))
+-- ---- what it needs and leaves
 
 -- The pages of the visible node v from `first` to below `end` can be made zero one after another, with the room for rows that
 -- there is.
@@ -54,23 +48,6 @@ pub record IsReadyToZero (arena : Arena) (rows : Rows Row) (pool : Pool) (v firs
   pub order : first ≤ end
   pub below : end ≤ node.count
   pub room : shown_from (tree_of arena rows) v first (end - first) ≤ rows.spare
-
--- Some pages of the visible node v from `first` to below `end` were made zero, and all others show what they showed. Frames that
--- nobody shows any more are given back.
-pub record HasZeroedSome (arena : Arena) (old new : Rows Row) (before after : Pool) (v first end : ℕ) : Type 0 where
-  pub exact : IsExact (tree_of arena new) all_in_sight (is_taken after)
-  pub others : ShowsSame (tree_of arena old) (tree_of arena new) (λ w q. (w ≡ v) × (first ≤ q) × (q < end) → ⊥)
-  pub part : (w q t : ℕ) → IsPage (tree_of arena old) w q → frame_shown (tree_of arena new) w q ≡ Some t → frame_shown (tree_of arena old) w q ≡ Some t
-  pub gives : (t : ℕ) → (taken_frames after t ≡ taken_frames before t) ⊎ (taken_frames after t ≡ None)
-  -- the row of each frame stood where it stands, no backlink changes, and only pages that were made zero got rows
-  pub stood : (l q : ℕ) (row : Slot) (t : ℕ) → slots_of new l q ≡ Some row → frame_in row ≡ Some t → HadRow (slots_of old) l q row
-  pub links : links_of after ≡ links_of before
-  pub frames : after.frames ≡ before.frames
-  pub places : (node : Node) → nodes_of arena v ≡ Some node → (l q : ℕ) → IsSome (slots_of new l q) →
-      IsSome (slots_of old l q) ⊎ ((l ≡ node.list.0) × (first ≤ q) × (q < end))
-  -- each of them took room for one row at most
-  pub spare : (node : Node) → nodes_of arena v ≡ Some node → (a n : ℕ) → a ≤ first → end ≤ a + n → a + n ≤ node.count →
-      old.spare + shown_from (tree_of arena new) v a n ≤ new.spare + shown_from (tree_of arena old) v a n
 
 -- no page of node v from `first` to below `end` shows a frame
 abbrev pub AreZero : Tree → (v first end : ℕ) → Type 0

@@ -16,7 +16,7 @@ ghost use Rattle.page_store.specs.Pages.{look_at};
 ghost use Rattle.page_store.specs.Held.{held_from};
 ghost use Rattle.cow_forest.specs.Tables.{node_in};
 ghost use Rattle.cow_forest.specs.Store.{Forest, tree, forest_content, IsStore};
-ghost use Rattle.cow_forest.specs.Owning.{HasOwnRow};
+ghost use Rattle.cow_fork.specs.Forking.{HasOwnRow};
 ghost use Rattle.cow_forest.specs.Counting.{frame_row_count};
 ghost use Rattle.cow_forest.specs.Ranges.{rows_reached};
 

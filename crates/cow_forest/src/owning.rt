@@ -11,9 +11,10 @@ ghost use Rattle.cow_split.specs.Trees.{tree_of, holder_of};
 ghost use Rattle.cow_split.specs.Sight.{IsPage};
 ghost use Rattle.cow_split.specs.Exact.{IsExact, all_in_sight};
 ghost use Rattle.cow_fork.specs.Frames.{HasSole, HasFree};
+ghost use Rattle.cow_fork.specs.Forking.{HasOwnRow, HasOwned};
 ghost use Rattle.cow_merge.specs.Ranges.{AreLinked};
 ghost use Rattle.cow_jump.specs.Jumps.{AreJumps};
-ghost use Rattle.cow_forest.specs.Owning.{own_frame, HasOwned};
+ghost use Rattle.cow_forest.specs.Owning.{own_frame};
 
 use cow_arena::{CowArena, NodeId};
 use cow_fork::fork_holder;
@@ -40,7 +41,9 @@ pub(crate) fn own_page(
     requires linked { AreLinked lists.old frames.old }
     requires page { IsPage (tree_of arena.now lists.old) leaf.0 page }
     requires room { HasSole (tree_of arena.now lists.old) leaf.0 page ⊎ ((1 ≤ lists.old.spare) × HasFree frames.old) }
-    ensures { HasOwned arena.now lists.old lists.new frames.old frames.new leaf.0 page result.0 }
+    ensures owned { HasOwned arena.now lists.old lists.new frames.old frames.new leaf.0 page result.0 }
+    ensures linked { AreLinked lists.new frames.new }
+    ensures row { 1 ≤ lists.old.spare → HasOwnRow arena.now lists.new leaf.0 page result.0 }
 {
     if let Some(row) = lists.find(arena.look(leaf).list, page) {
         return own_row(arena, lists, frames, leaf, page, row);
@@ -63,7 +66,9 @@ fn own_row(
     requires page { IsPage (tree_of arena.now lists.old) leaf.0 page }
     requires room { HasSole (tree_of arena.now lists.old) leaf.0 page ⊎ ((1 ≤ lists.old.spare) × HasFree frames.old) }
     requires found { holder.Own row ≡ holder_of (walk (tree_of arena.now lists.old) leaf.0 page) }
-    ensures { HasOwned arena.now lists.old lists.new frames.old frames.new leaf.0 page result.0 }
+    ensures owned { HasOwned arena.now lists.old lists.new frames.old frames.new leaf.0 page result.0 }
+    ensures linked { AreLinked lists.new frames.new }
+    ensures row { 1 ≤ lists.old.spare → HasOwnRow arena.now lists.new leaf.0 page result.0 }
 {
     match row {
         Slot::Frame { tag, .. } => tag,
@@ -86,7 +91,9 @@ fn own_zero(
     requires page { IsPage (tree_of arena.now lists.old) leaf.0 page }
     requires room { HasSole (tree_of arena.now lists.old) leaf.0 page ⊎ ((1 ≤ lists.old.spare) × HasFree frames.old) }
     requires found { holder.Own slot.Zero ≡ holder_of (walk (tree_of arena.now lists.old) leaf.0 page) }
-    ensures { HasOwned arena.now lists.old lists.new frames.old frames.new leaf.0 page result.0 }
+    ensures owned { HasOwned arena.now lists.old lists.new frames.old frames.new leaf.0 page result.0 }
+    ensures linked { AreLinked lists.new frames.new }
+    ensures row { 1 ≤ lists.old.spare → HasOwnRow arena.now lists.new leaf.0 page result.0 }
 {
     own_found(arena, lists, frames, leaf, page, Holder::Own(Slot::Zero))
 }
@@ -107,7 +114,9 @@ fn own_above(
     requires page { IsPage (tree_of arena.now lists.old) leaf.0 page }
     requires room { HasSole (tree_of arena.now lists.old) leaf.0 page ⊎ ((1 ≤ lists.old.spare) × HasFree frames.old) }
     requires bare { IsSomeAnd (nodes_of arena.now leaf.0) (λ node. slots_of lists.old node.list.0 page ≡ None) }
-    ensures { HasOwned arena.now lists.old lists.new frames.old frames.new leaf.0 page result.0 }
+    ensures owned { HasOwned arena.now lists.old lists.new frames.old frames.new leaf.0 page result.0 }
+    ensures linked { AreLinked lists.new frames.new }
+    ensures row { 1 ≤ lists.old.spare → HasOwnRow arena.now lists.new leaf.0 page result.0 }
 {
     let found = above_by_jumps(arena, lists, jumps, leaf, page);
     own_found(arena, lists, frames, leaf, page, found)
@@ -129,7 +138,9 @@ fn own_found(
     requires room { HasSole (tree_of arena.now lists.old) leaf.0 page ⊎ ((1 ≤ lists.old.spare) × HasFree frames.old) }
     requires found { found ≡ holder_of (walk (tree_of arena.now lists.old) leaf.0 page) }
     requires bare { own_frame found ≡ None }
-    ensures { HasOwned arena.now lists.old lists.new frames.old frames.new leaf.0 page result.0 }
+    ensures owned { HasOwned arena.now lists.old lists.new frames.old frames.new leaf.0 page result.0 }
+    ensures linked { AreLinked lists.new frames.new }
+    ensures row { 1 ≤ lists.old.spare → HasOwnRow arena.now lists.new leaf.0 page result.0 }
 {
     if lists.spare() == 0 {
         return found.frame().unwrap();

@@ -11,8 +11,9 @@ ghost use Rattle.cow_split.specs.Cost.{depth};
 ghost use Rattle.cow_split.specs.Sight.{IsPage};
 ghost use Rattle.cow_split.specs.Exact.{IsExact, all_in_sight};
 ghost use Rattle.cow_jump.specs.Jumps.{AreJumps};
+ghost use Rattle.cow_fork.specs.Zeroing.{HasZeroed};
 ghost use Rattle.cow_forest.specs.inside.Looking.{IsNextRowBelow, ShowsNoneIn};
-ghost use Rattle.cow_forest.specs.Ranges.{rows_in, rows_reached, IsReadyToZero, HasZeroedSome, AreZero, HasNoFrame};
+ghost use Rattle.cow_forest.specs.Ranges.{rows_in, rows_reached, IsReadyToZero, AreZero, HasNoFrame};
 
 use crate::looking::next_shown_below;
 use cow_arena::{CowArena, NodeId};
@@ -38,7 +39,7 @@ pub(crate) fn zero_pages<L: Ledger>(
 )
     requires ready { IsReadyToZero arena.now lists.old frames.old leaf.0 first end }
     requires jumps { (next : ℕ) × AreJumps (tree_of arena.now lists.old) next jumps.now }
-    ensures some { HasZeroedSome arena.now lists.old lists.new frames.old frames.new leaf.0 first end }
+    ensures some { HasZeroed arena.now lists.old lists.new frames.old frames.new leaf.0 first end }
     ensures zero { AreZero (tree_of arena.now lists.new) leaf.0 first end }
     ensures cost { steps.new ≤ steps.old + rows_reached (tree_of arena.now lists.old) leaf.0 first end
         + depth (nodes_of arena.now) arena.now.lists leaf.0 }
@@ -86,7 +87,7 @@ pub(crate) fn zero_in_turn(
 )
     requires ready { IsReadyToZero arena.now lists.old frames.old leaf.0 pages.from pages.end }
     requires jumps { (next : ℕ) × AreJumps (tree_of arena.now lists.old) next jumps.now }
-    ensures some { HasZeroedSome arena.now lists.old lists.new frames.old frames.new leaf.0 pages.from pages.end }
+    ensures some { HasZeroed arena.now lists.old lists.new frames.old frames.new leaf.0 pages.from pages.end }
     ensures zero { AreZero (tree_of arena.now lists.new) leaf.0 pages.from pages.end }
 {
     let mut run = first_to_zero(arena, lists, jumps, leaf, pages);
@@ -137,7 +138,7 @@ fn zero_next(
     requires room { frame_shown (tree_of arena.now lists.old) leaf.0 pages.from ≢ None → 1 ≤ lists.old.spare }
     requires jumps { (next : ℕ) × AreJumps (tree_of arena.now lists.old) next jumps.now }
     ensures range { (pages.from < result.from) × (result.from ≤ pages.end) × (result.end ≡ pages.end) }
-    ensures some { HasZeroedSome arena.now lists.old lists.new frames.old frames.new leaf.0 pages.from (pages.from + 1) }
+    ensures some { HasZeroed arena.now lists.old lists.new frames.old frames.new leaf.0 pages.from (pages.from + 1) }
     ensures zero { AreZero (tree_of arena.now lists.new) leaf.0 pages.from result.from }
 {
     let behind = pages.from + 1;
@@ -177,7 +178,7 @@ fn zero_rows<L: Ledger>(
     requires order { first ≤ here }
     requires within { (d : ℕ) → here + d < to → first + d < end }
     requires own { (node : Node) → nodes_of arena.now leaf.0 ≡ Some node → list.0 ≡ node.list.0 → here ≡ first }
-    ensures some { HasZeroedSome arena.now lists.old lists.new frames.old frames.new leaf.0 first end }
+    ensures some { HasZeroed arena.now lists.old lists.new frames.old frames.new leaf.0 first end }
     ensures passed { HasNoFrame (tree_of arena.now lists.new) leaf.0 first list.0 here to }
     ensures cost { steps.new ≤ steps.old + rows_in (slots_of lists.old list.0) here to + 1 }
 {
@@ -216,7 +217,7 @@ fn zero_shown(
     requires page { IsPage (tree_of arena.now lists.old) leaf.0 page }
     requires room { frame_shown (tree_of arena.now lists.old) leaf.0 page ≢ None → 1 ≤ lists.old.spare }
     requires jumps { (next : ℕ) × AreJumps (tree_of arena.now lists.old) next jumps.now }
-    ensures some { HasZeroedSome arena.now lists.old lists.new frames.old frames.new leaf.0 page (page + 1) }
+    ensures some { HasZeroed arena.now lists.old lists.new frames.old frames.new leaf.0 page (page + 1) }
     ensures zero { frame_shown (tree_of arena.now lists.new) leaf.0 page ≡ None }
 {
     if holder_by_jumps(arena, lists, jumps, leaf, page)

@@ -1,17 +1,9 @@
 -- The rows of a list, where some are noted as not seen from the right.
-use Rattle.std.proofs.Common.{◌≡◌, ◌≢◌, ℕ, ◌+◌, ◌<◌, ◌≤◌, Bool, true, false, Option, None, Some, inl, inr}
-use Rattle.std.proofs.Common.{refl, sym, ap, subst, ◌∙◌, arith}
+use Rattle.cow_fork.proofs.Words.{◌≡◌, ◌≢◌, ℕ, ◌+◌, ◌<◌, ◌≤◌, Bool, true, false, Option, None, Some, inl, inr, refl, sym, ap, subst, ◌∙◌}
+use Rattle.cow_fork.proofs.Words.{arith, ◌==◌, nat_le, nat_lt, option_map, cases_eq, cases_lt, and_parts, and_from, le-leb, lt-ltb}
+use Rattle.cow_fork.proofs.Words.{leb-true, ltb-true, cond-true, cond-false, false_from_ne_true, with_pair, Tag, eqb_same, eqb_apart, Slot}
+use Rattle.cow_fork.proofs.Words.{Slots, is_taken_in, split_row, split_slots, hidden_row, hidden_slots, ArePlain, HasNoneIn}
 use Rattle.std.proofs.lemmas.Grind.{common_steps}
-use Rattle.std.specs.Prelude.{◌==◌, nat_le, nat_lt}
-use Rattle.std.specs.Option.{option_map}
-use Rattle.std.proofs.lemmas.Bool.{cases_eq, cases_lt, and_parts, and_from, le-leb, lt-ltb, leb-true, ltb-true, cond-true, cond-false, false_from_ne_true}
-use Rattle.balanced_tree.specs.Pairs.{with_pair}
-use Rattle.vm_base.specs.declared.names.Tag.{Tag}
-use Rattle.vm_base.proofs.SearchLaws.{eqb_same, eqb_apart}
-use Rattle.page_list.specs.declared.row.Slot.{Slot}
-use Rattle.page_list.specs.declared.row.Slot.TheVariants as slot
-use Rattle.cow_arena.specs.Walk.{Slots}
-use Rattle.cow_fork.specs.Snapshots.{is_taken_in, split_row, split_slots, hidden_row, hidden_slots, ArePlain, HasNoneIn}
 use Rattle.cow_fork.proofs.SnapshotLaws.{split-other, split-here}
 
 module _ (slots : Slots) (l from end : ℕ) where
@@ -105,23 +97,23 @@ hidden-step slots l from page end low high none = rows-alike _ _ l others own
     ]
 
 -- one row
-pub hidden-frame : (slots new : Slots) (l p : ℕ) (tag : Tag) (left right : Bool) → slots l p ≡ Some (slot.Frame tag left right) →
-    new ≡ with_pair slots l p (Some (slot.Frame tag left true)) → new ≡ hidden_slots slots l p (p + 1)
+pub hidden-frame : (slots new : Slots) (l p : ℕ) (tag : Tag) (left right : Bool) → slots l p ≡ Some (Slot.Frame tag left right) →
+    new ≡ with_pair slots l p (Some (Slot.Frame tag left true)) → new ≡ hidden_slots slots l p (p + 1)
 unfolding with_pair
 hidden-frame slots new l p tag left right e is = is ∙ rows-alike _ _ l others own
   where
-    others : (m q : ℕ) → m ≢ l → with_pair slots l p (Some (slot.Frame tag left true)) m q ≡ hidden_slots slots l p (p + 1) m q
+    others : (m q : ℕ) → m ≢ l → with_pair slots l p (Some (Slot.Frame tag left true)) m q ≡ hidden_slots slots l p (p + 1) m q
     others m q apart = rw (eqb_apart m l apart) (sym (hidden-other slots l p (p + 1) m q apart))
 
-    here : with_pair slots l p (Some (slot.Frame tag left true)) l p ≡ hidden_slots slots l p (p + 1) l p
+    here : with_pair slots l p (Some (Slot.Frame tag left true)) l p ≡ hidden_slots slots l p (p + 1) l p
     here = rw (eqb_same l, eqb_same p) (sym (hidden-in slots l p (p + 1) p (omega arith) (omega arith) ∙ ap (option_map hidden_row) e))
 
-    there : (q : ℕ) → q ≢ p → with_pair slots l p (Some (slot.Frame tag left true)) l q ≡ hidden_slots slots l p (p + 1) l q
+    there : (q : ℕ) → q ≢ p → with_pair slots l p (Some (Slot.Frame tag left true)) l q ≡ hidden_slots slots l p (p + 1) l q
     there q apart = rw (eqb_same l, eqb_apart q p apart) (sym (hidden-out slots l p (p + 1) l q (λ low high. apart (omega (arith, low, high)))))
 
-    own : (q : ℕ) → with_pair slots l p (Some (slot.Frame tag left true)) l q ≡ hidden_slots slots l p (p + 1) l q
+    own : (q : ℕ) → with_pair slots l p (Some (Slot.Frame tag left true)) l q ≡ hidden_slots slots l p (p + 1) l q
     own q = elim (cases_eq q p) [
-      | inl same ↦ subst (λ i. with_pair slots l p (Some (slot.Frame tag left true)) l i ≡ hidden_slots slots l p (p + 1) l i) (sym same) here
+      | inl same ↦ subst (λ i. with_pair slots l p (Some (Slot.Frame tag left true)) l i ≡ hidden_slots slots l p (p + 1) l i) (sym same) here
       | inr apart ↦ there q apart
     ]
 
@@ -158,13 +150,13 @@ hidden-split slots middle new l first seen count plain before behind =
 
     -- what a row is on both ways
     hidden_is : (row : Slot) (q : ℕ) → slots l q ≡ Some row → hidden_row row ≡ split_row false row
-    hidden_is (slot.Frame tag left right) q e = ap (λ b. slot.Frame tag b true) ((plain.plain q tag left right e).0)
-    hidden_is slot.Zero q e = refl
+    hidden_is (Slot.Frame tag left right) q e = ap (λ b. Slot.Frame tag b true) ((plain.plain q tag left right e).0)
+    hidden_is Slot.Zero q e = refl
 
     kept_is : (row : Slot) (q : ℕ) → slots l q ≡ Some row → row ≡ split_row true row
-    kept_is (slot.Frame tag left right) q e =
-        ap (λ b. slot.Frame tag b right) ((plain.plain q tag left right e).0) ∙ ap (λ b. slot.Frame tag false b) ((plain.plain q tag left right e).1)
-    kept_is slot.Zero q e = refl
+    kept_is (Slot.Frame tag left right) q e =
+        ap (λ b. Slot.Frame tag b right) ((plain.plain q tag left right e).0) ∙ ap (λ b. Slot.Frame tag false b) ((plain.plain q tag left right e).1)
+    kept_is Slot.Zero q e = refl
 
     split_is : (q : ℕ) (row : Slot) (b : Bool) → slots l q ≡ Some row → is_taken_in first seen q ≡ b → split_slots slots l first seen l q ≡ Some (split_row b row)
     split_is q row b e taken = split-here slots l first seen q ∙ (ap (option_map (split_row (is_taken_in first seen q))) e ∙ ap (λ i. Some (split_row i row)) taken)

@@ -1,25 +1,11 @@
 -- What a cut leaves of the tree and of the frames, where a page had no row of its own.
-use Rattle.std.proofs.Common.{◌≡◌, ◌⊎◌, ◌↔◌, ℕ, Bool, true, Option, None, Some, IsSome, refl, sym, ap, ◌∙◌, subst, inl, inr}
-use Rattle.std.specs.Prelude.{is_some, IsSomeAnd}
-use Rattle.vm_base.specs.declared.names.Tag.{Tag}
-use Rattle.balanced_tree.specs.Rows.{Rows}
-use Rattle.page_list.specs.declared.row.Row.{Row}
-use Rattle.page_list.specs.Lists.{slots_of}
-use Rattle.frame_pool.specs.Pool.{Pool}
-use Rattle.cow_arena.specs.declared.node.Node.{Node}
-use Rattle.cow_arena.specs.Nodes.{Arena, nodes_of}
-use Rattle.cow_arena.specs.Walk.{Slots, Tree, walk, frame_shown}
-use Rattle.cow_split.specs.declared.answers.Cut.{Cut}
-use Rattle.cow_split.specs.declared.answers.Cut.TheVariants as cut
-use Rattle.cow_split.specs.declared.answers.Holder.{Holder}
-use Rattle.cow_split.specs.Trees.{tree_of, holder_of, frame_held}
-use Rattle.cow_split.specs.Sight.{ShowsSame, IsNotPage}
-use Rattle.cow_split.specs.Exact.{IsExact, all_in_sight, leaving_out, without_frame}
-use Rattle.cow_split.specs.Cutting.{HasCut, cut_slots, frame_left}
+use Rattle.cow_fork.proofs.Words.{◌≡◌, ◌⊎◌, ◌↔◌, ℕ, Bool, true, Option, None, Some, IsSome, refl, sym, ap, ◌∙◌, subst, inl, inr, is_some}
+use Rattle.cow_fork.proofs.Words.{IsSomeAnd, Tag, Rows, Row, slots_of, Pool, Node, Arena, nodes_of, Slots, Tree, walk, frame_shown, Cut}
+use Rattle.cow_fork.proofs.Words.{Holder, tree_of, holder_of, frame_held, ShowsSame, IsNotPage, IsExact, all_in_sight, leaving_out}
+use Rattle.cow_fork.proofs.Words.{without_frame, HasCut, cut_slots, frame_left, IsSole, HasSole, HasFree, LeavesFrame}
 use Rattle.cow_split.proofs.RowLaws.{only-none, frame-in_use}
 use Rattle.cow_split.proofs.HolderLaws.{cut-exactly, cut-found_nothing, cut-last_viewer}
 use Rattle.cow_split.proofs.CutLaws.{cut-own, cut-others}
-use Rattle.cow_fork.specs.Frames.{IsSole, HasSole, HasFree, LeavesFrame}
 use Rattle.cow_fork.proofs.LeafLaws.{IsLeaf, tree-with, leaf-row}
 use Rattle.cow_fork.proofs.HolderLaws.{held-shown}
 
@@ -42,11 +28,11 @@ module _ {arena : Arena} {old mid : Rows Row} {v p : ℕ} {node : Node} {answer 
       IsExact (tree_of arena mid) (leaving_out all_in_sight v p) (without_frame in_use (frame_left answer))
   cut-exact in_use exact = cut-exactly arena old mid v p answer leaf.forest cut-leaf is all_in_sight in_use exact (only-none v)
 
-  cut-none : (answer ≡ cut.NothingThere) ↔ (frame_shown (tree_of arena old) v p ≡ None)
+  cut-none : (answer ≡ Cut.NothingThere) ↔ (frame_shown (tree_of arena old) v p ≡ None)
   cut-none = cut-found_nothing arena old mid v p answer leaf.forest cut-leaf is
 
   cut-sole : (in_use : ℕ → Bool) → IsExact (tree_of arena old) all_in_sight in_use → (tag : Tag) →
-      (answer ≡ cut.LastViewer tag) ↔ IsSole (tree_of arena old) v p tag.0
+      (answer ≡ Cut.LastViewer tag) ↔ IsSole (tree_of arena old) v p tag.0
   cut-sole in_use exact tag =
       let ways = cut-last_viewer arena old mid v p answer leaf.forest cut-leaf is all_in_sight in_use exact (only-none v) tag in
       (λ e. let both = ways.0 e in record { shows = both.0; last = both.1 }, λ sole. ways.1 (sole.shows, sole.last))
@@ -62,8 +48,8 @@ module _ {arena : Arena} {old mid : Rows Row} {v p : ℕ} {node : Node} {answer 
 pub record IsCutOff (t : Tree) (v p : ℕ) (in_use : ℕ → Bool) (found : Holder) (answer : Cut) : Type 0 where
   pub held : frame_held found ≡ frame_shown t v p
   pub used : (tag : ℕ) → frame_shown t v p ≡ Some tag → in_use tag ≡ true
-  pub nothing : (answer ≡ cut.NothingThere) ↔ (frame_shown t v p ≡ None)
-  pub last : (tag : Tag) → (answer ≡ cut.LastViewer tag) ↔ IsSole t v p tag.0
+  pub nothing : (answer ≡ Cut.NothingThere) ↔ (frame_shown t v p ≡ None)
+  pub last : (tag : Tag) → (answer ≡ Cut.LastViewer tag) ↔ IsSole t v p tag.0
 
 pub cut_off : {arena : Arena} {old mid : Rows Row} {v p : ℕ} {node : Node} {answer : Cut} (leaf : IsLeaf arena old v p node)
     (none : slots_of old node.list.0 p ≡ None) (is : HasCut arena old mid v p answer) (in_use : ℕ → Bool) (found : Holder) →
@@ -79,9 +65,9 @@ cut_off {arena} {old} {mid} {v} {p} {node} {answer} leaf none is in_use found ex
 
 -- an answer leaves a frame or none
 pub leaves_cases : (answer : Cut) → LeavesFrame answer ⊎ ((LeavesFrame answer → ⊥) × (frame_left answer ≡ None))
-leaves_cases (cut.LastViewer tag) = inl (record { tag = tag; last = refl })
-leaves_cases cut.StillSeen = inr (λ leaves. let last = leaves.last in absurd (cc), refl)
-leaves_cases cut.NothingThere = inr (λ leaves. let last = leaves.last in absurd (cc), refl)
+leaves_cases (Cut.LastViewer tag) = inl (record { tag = tag; last = refl })
+leaves_cases Cut.StillSeen = inr (λ leaves. let last = leaves.last in absurd (cc), refl)
+leaves_cases Cut.NothingThere = inr (λ leaves. let last = leaves.last in absurd (cc), refl)
 
 module _ {t : Tree} {v p : ℕ} {in_use : ℕ → Bool} {found : Holder} {answer : Cut} (off : IsCutOff t v p in_use found answer) where
   -- what is left is what the page showed alone
@@ -98,12 +84,12 @@ module _ {t : Tree} {v p : ℕ} {in_use : ℕ → Bool} {found : Holder} {answer
   pub held-used : (tag : ℕ) → frame_held found ≡ Some tag → in_use tag ≡ true
   held-used tag e = off.used tag (sym off.held ∙ e)
 
-  pub held-seen : answer ≡ cut.StillSeen → IsSome (frame_held found)
+  pub held-seen : answer ≡ Cut.StillSeen → IsSome (frame_held found)
   held-seen seen = with_frame_held (frame_held found) refl
     where
       with_frame_held : (o : Option ℕ) → frame_held found ≡ o → IsSome (frame_held found)
       with_frame_held None e = let nothing = off.nothing.1 (sym off.held ∙ e) in absurd (cc)
       with_frame_held (Some tag) e = ap is_some e
 
-  pub held-nothing : answer ≡ cut.NothingThere → frame_held found ≡ None
+  pub held-nothing : answer ≡ Cut.NothingThere → frame_held found ≡ None
   held-nothing nothing = off.held ∙ off.nothing.0 nothing

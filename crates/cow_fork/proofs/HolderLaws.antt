@@ -1,28 +1,16 @@
 -- What the holder of a page says of the page's own row, and of what the page shows.
-use Rattle.std.proofs.Common.{◌≡◌, ℕ, Option, None, Some, refl, sym, ap, ◌∙◌, subst}
-use Rattle.vm_base.proofs.EntryLaws.{some_same}
-use Rattle.balanced_tree.specs.Rows.{Rows}
-use Rattle.page_list.specs.declared.row.Row.{Row}
-use Rattle.page_list.specs.declared.row.Slot.{Slot}
-use Rattle.page_list.specs.declared.row.Slot.TheVariants as slot
-use Rattle.page_list.specs.Lists.{slots_of}
-use Rattle.cow_arena.specs.declared.node.Node.{Node}
-use Rattle.cow_arena.specs.declared.node.Side.{Side}
-use Rattle.cow_arena.specs.Nodes.{Arena, nodes_of}
-use Rattle.cow_arena.specs.Walk.{Tree, Found, walk, frame_in, frame_found, frame_shown}
-use Rattle.cow_arena.specs.Ways.{Arrives}
+use Rattle.cow_fork.proofs.Words.{◌≡◌, ℕ, Option, None, Some, refl, sym, ap, ◌∙◌, subst, some_same, Rows, Row, Slot, slots_of, Node, Side}
+use Rattle.cow_fork.proofs.Words.{Arena, nodes_of, Tree, Found, walk, frame_in, frame_found, frame_shown, Arrives, Holder, tree_of}
+use Rattle.cow_fork.proofs.Words.{holder_of, frame_held}
 use Rattle.cow_arena.proofs.WalkLaws.{walk-own}
 use Rattle.cow_arena.proofs.ReachLaws.{walk-ends}
-use Rattle.cow_split.specs.declared.answers.Holder.{Holder}
-use Rattle.cow_split.specs.declared.answers.Holder.TheVariants as holder
-use Rattle.cow_split.specs.Trees.{tree_of, holder_of, frame_held}
 use Rattle.cow_fork.proofs.LeafLaws.{IsLeaf}
 
-held-own : (it : Found) → it.side ≡ None → holder_of (Some it) ≡ holder.Own it.slot
+held-own : (it : Found) → it.side ≡ None → holder_of (Some it) ≡ Holder.Own it.slot
 held-own it e = rw e refl
 
 held-above : (it : Found) (side : Side) → it.side ≡ Some side →
-    holder_of (Some it) ≡ holder.Above (record { 0 = it.node }) it.page side it.slot
+    holder_of (Some it) ≡ Holder.Above (record { 0 = it.node }) it.page side it.slot
 held-above it side e = rw e refl
 
 -- the frame of the holder's row is the one that is shown
@@ -38,13 +26,13 @@ pub held-shown : (t : Tree) (v p : ℕ) (found : Holder) → found ≡ holder_of
 held-shown t v p found is = ap frame_held is ∙ held-found (walk t v p)
 
 -- a slot without a frame says that the page is zero
-pub zero-row : (row : Slot) → frame_in row ≡ None → row ≡ slot.Zero
-zero-row (slot.Frame tag left right) e = absurd (cc)
-zero-row slot.Zero e = refl
+pub zero-row : (row : Slot) → frame_in row ≡ None → row ≡ Slot.Zero
+zero-row (Slot.Frame tag left right) e = absurd (cc)
+zero-row Slot.Zero e = refl
 
 module _ {arena : Arena} {rows : Rows Row} {v p : ℕ} {node : Node} (leaf : IsLeaf arena rows v p node) where
   -- an own row is the node's
-  pub own-row : (row : Slot) → holder.Own row ≡ holder_of (walk (tree_of arena rows) v p) → slots_of rows node.list.0 p ≡ Some row
+  pub own-row : (row : Slot) → Holder.Own row ≡ holder_of (walk (tree_of arena rows) v p) → slots_of rows node.list.0 p ≡ Some row
   own-row row is = with_walk (walk (tree_of arena rows) v p) refl
     where
       with_side : (it : Found) → walk (tree_of arena rows) v p ≡ Some it → (side : Option Side) → it.side ≡ side → slots_of rows node.list.0 p ≡ Some row
@@ -52,16 +40,16 @@ module _ {arena : Arena} {rows : Rows Row} {v p : ℕ} {node : Node} (leaf : IsL
           let ends = walk-ends (tree_of arena rows) leaf.forest v p it found in
           let way : Arrives (tree_of arena rows) v p None it.node it.page = subst (λ s. Arrives (tree_of arena rows) v p s it.node it.page) e ends.way in
           let same : ends.row.node ≡ node = some_same (sym ends.row.at ∙ (ap (nodes_of arena) (sym way.0) ∙ leaf.visible.at)) in
-          let held : ◌≡◌ {A = Holder} (holder.Own row) (holder.Own it.slot) = is ∙ (ap holder_of found ∙ held-own it e) in
+          let held : ◌≡◌ {A = Holder} (Holder.Own row) (Holder.Own it.slot) = is ∙ (ap holder_of found ∙ held-own it e) in
           let slot_is : it.slot ≡ row = cc in
           ap (λ (n : Node). slots_of rows n.list.0 p) (sym same) ∙ (ap (slots_of rows ends.row.node.list.0) way.1 ∙ (ends.row.row ∙ ap Some slot_is))
       with_side it found (Some side) e =
-          let held : ◌≡◌ {A = Holder} (holder.Own row) (holder.Above (record { 0 = it.node }) it.page side it.slot) =
+          let held : ◌≡◌ {A = Holder} (Holder.Own row) (Holder.Above (record { 0 = it.node }) it.page side it.slot) =
           is ∙ (ap holder_of found ∙ held-above it side e) in
           absurd (cc)
 
       with_walk : (o : Option Found) → walk (tree_of arena rows) v p ≡ o → slots_of rows node.list.0 p ≡ Some row
-      with_walk None found = let held : ◌≡◌ {A = Holder} (holder.Own row) holder.Nothing = is ∙ ap holder_of found in absurd (cc)
+      with_walk None found = let held : ◌≡◌ {A = Holder} (Holder.Own row) Holder.Nothing = is ∙ ap holder_of found in absurd (cc)
       with_walk (Some it) found = with_side it found it.side refl
 
   -- and shows what it says
@@ -69,7 +57,7 @@ module _ {arena : Arena} {rows : Rows Row} {v p : ℕ} {node : Node} (leaf : IsL
   own-shown row own = ap frame_found (walk-own (tree_of arena rows) leaf.forest v p node row leaf.visible.at own)
 
   -- the node has no row of its own where the holder is another's, or none
-  pub bare-row : (found : Holder) → found ≡ holder_of (walk (tree_of arena rows) v p) → ((row : Slot) → found ≡ holder.Own row → ⊥) →
+  pub bare-row : (found : Holder) → found ≡ holder_of (walk (tree_of arena rows) v p) → ((row : Slot) → found ≡ Holder.Own row → ⊥) →
       slots_of rows node.list.0 p ≡ None
   bare-row found is not_own = with_row (slots_of rows node.list.0 p) refl
     where
@@ -78,8 +66,8 @@ module _ {arena : Arena} {rows : Rows Row} {v p : ℕ} {node : Node} (leaf : IsL
       with_row (Some row) e = absurd (not_own row (is ∙ ap holder_of (walk-own (tree_of arena rows) leaf.forest v p node row leaf.visible.at e)))
 
   -- an own row without a frame says that the page is zero
-  pub own-zero : (found : Holder) (row : Slot) → found ≡ holder_of (walk (tree_of arena rows) v p) → found ≡ holder.Own row →
-      ((own : Slot) → slots_of rows node.list.0 p ≡ Some own → frame_in own ≡ None) → slots_of rows node.list.0 p ≡ Some slot.Zero
+  pub own-zero : (found : Holder) (row : Slot) → found ≡ holder_of (walk (tree_of arena rows) v p) → found ≡ Holder.Own row →
+      ((own : Slot) → slots_of rows node.list.0 p ≡ Some own → frame_in own ≡ None) → slots_of rows node.list.0 p ≡ Some Slot.Zero
   own-zero found row is held unowned =
       let own = own-row row (sym held ∙ is) in
       own ∙ ap Some (zero-row row (unowned row own))

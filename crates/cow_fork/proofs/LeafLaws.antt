@@ -1,19 +1,8 @@
 -- What a page of a visible node is, and what a row of its own changes.
-use Rattle.std.proofs.Common.{◌≡◌, ℕ, ◌<◌, Option, Some, sym, ap, ◌∙◌, subst, inl, inr}
-use Rattle.vm_base.proofs.EntryLaws.{some_same}
-use Rattle.balanced_tree.specs.Rows.{Rows}
-use Rattle.balanced_tree.specs.Pairs.{with_pair}
-use Rattle.page_list.specs.declared.row.Row.{Row}
-use Rattle.page_list.specs.declared.row.Slot.{Slot}
-use Rattle.page_list.specs.Lists.{slots_of}
-use Rattle.cow_arena.specs.declared.node.Node.{Node}
-use Rattle.cow_arena.specs.Nodes.{Arena, IsVisible, nodes_of}
-use Rattle.cow_arena.specs.Walk.{Slots, Tree}
-use Rattle.cow_arena.specs.Forest.{IsForest}
-use Rattle.cow_arena.specs.Ways.{KeepsBare}
+use Rattle.cow_fork.proofs.Words.{◌≡◌, ℕ, ◌<◌, Option, Some, sym, ap, ◌∙◌, subst, inl, inr, some_same, Rows, with_pair, Row, Slot, slots_of}
+use Rattle.cow_fork.proofs.Words.{Node, Arena, IsVisible, nodes_of, Slots, Tree, IsForest, KeepsBare, tree_of, with_row, IsPage, ShowsSame}
+use Rattle.cow_fork.proofs.Words.{IsNotPage}
 use Rattle.cow_arena.proofs.AlikeLaws.{with_pair-same, with_pair-other}
-use Rattle.cow_split.specs.Trees.{tree_of, with_row}
-use Rattle.cow_split.specs.Sight.{IsPage, ShowsSame, IsNotPage}
 use Rattle.cow_split.proofs.ExactLaws.{cases_place}
 use Rattle.cow_split.proofs.PartLaws.{bare-put}
 use Rattle.cow_split.proofs.RowLaws.{own-shows}

@@ -1,3 +1,4 @@
+pub mod Words
 pub mod PoolLaws
 pub mod LeafLaws
 pub mod HolderLaws

@@ -1,12 +1,7 @@
 -- The frames in use, as frames are taken and given back.
-use Rattle.std.proofs.Common.{◌≡◌, ℕ, Bool, true, false, List, Some, refl, sym, ap, ◌∙◌, subst, inl, inr}
-use Rattle.std.specs.Prelude.{◌&&◌, ◌||◌, not, is_some}
-use Rattle.std.proofs.lemmas.Bool.{cases_eq, eq-eqb}
-use Rattle.vm_base.proofs.SearchLaws.{eqb_apart}
-use Rattle.vm_base.specs.Entries.{without_key}
-use Rattle.vm_base.proofs.EntryLaws.{with_key-here, with_key-other, without_key-same, without_key-other}
-use Rattle.frame_pool.specs.Pool.{Pool, Takes, taken_frames, is_taken}
-use Rattle.cow_split.specs.Exact.{with_frame, without_frame}
+use Rattle.cow_fork.proofs.Words.{◌≡◌, ℕ, Bool, true, false, List, Some, refl, sym, ap, ◌∙◌, subst, inl, inr, ◌&&◌, ◌||◌, not, is_some}
+use Rattle.cow_fork.proofs.Words.{cases_eq, eq-eqb, eqb_apart, without_key, with_key-here, with_key-other, without_key-same}
+use Rattle.cow_fork.proofs.Words.{without_key-other, Pool, Takes, taken_frames, is_taken, with_frame, without_frame}
 
 -- a frame comes or goes
 pub with_frame-same : (in_use : ℕ → Bool) (tag : ℕ) → with_frame in_use (Some tag) tag ≡ true

@@ -1,23 +1,12 @@
 -- A tree without nodes is exact, and one to which a root comes stays so.
-use Rattle.std.proofs.Common.{◌≡◌, ◌≢◌, ℕ, ◌+◌, Bool, false, None, Some, inl, inr}
-use Rattle.std.proofs.Common.{refl, sym, ap, ◌∙◌, arith}
-use Rattle.vm_base.specs.Entries.{with_key}
-use Rattle.vm_base.specs.declared.names.Koid.{Koid}
-use Rattle.vm_base.proofs.EntryLaws.{with_key-same, with_key-other, with_key-cases}
-use Rattle.cow_arena.specs.declared.node.Node.{Node}
-use Rattle.cow_arena.specs.declared.node.Side.{Side}
-use Rattle.cow_arena.specs.declared.node.Side.TheVariants as side
-use Rattle.cow_arena.specs.Walk.{Tree, walk, frame_found, frame_shown}
-use Rattle.cow_arena.specs.Forest.{IsForest}
-use Rattle.cow_arena.specs.Changes.{root_node}
+use Rattle.cow_fork.proofs.Words.{◌≡◌, ◌≢◌, ℕ, ◌+◌, Bool, false, None, Some, inl, inr, refl, sym, ap, ◌∙◌, arith, with_key, Koid}
+use Rattle.cow_fork.proofs.Words.{with_key-same, with_key-other, with_key-cases, Node, Side, Tree, walk, frame_found, frame_shown, IsForest}
+use Rattle.cow_fork.proofs.Words.{root_node, IsPage, IsSeenFrom, IsExact}
 use Rattle.cow_arena.proofs.WalkLaws.{walk-past}
 use Rattle.cow_arena.proofs.MovedLaws.{walk-stays}
 use Rattle.cow_arena.proofs.WindowWalkLaws.{put-listed, node-added}
 use Rattle.cow_arena.proofs.PairWalkLaws.{rows-fresh}
-use Rattle.cow_split.specs.Sight.{IsPage, IsSeenFrom}
-use Rattle.cow_split.specs.Exact.{IsExact}
-use Rattle.cow_split.proofs.ExactLaws.{denies-alike}
-use Rattle.cow_split.proofs.NodeLaws.{seen-moved}
+use Rattle.cow_split.proofs.ExactLaws.{denies-alike, seen-moved}
 
 -- without nodes, rows and frames in use
 pub exact-empty : (t : Tree) (out : ℕ → ℕ → Bool) (in_use : ℕ → Bool) → IsForest t.nodes t.lists → ((k : ℕ) → t.nodes k ≡ None) →
@@ -92,7 +81,7 @@ module _ (t : Tree) (out : ℕ → ℕ → Bool) (in_use : ℕ → Bool) (exact 
   pub exact-rooted : IsExact rooted out in_use
   exact-rooted = record {
     forest = g;
-    listed = (put-listed t rooted.nodes rooted.lists k (root_node koid t.lists count) refl (λ node at. absurd (apart k node at refl))).listed exact.listed;
+    listed = put-listed t rooted.nodes rooted.lists k (root_node koid t.lists count) refl (λ node at. absurd (apart k node at refl)) exact.listed;
     below = λ v p node row visible e. elim (with_key-cases t.nodes k (root_node koid t.lists count) v node visible.at) [
       | inl here ↦ absurd (let none = bare p in let found = ap (λ (n : Node). t.slots n.list.0 p) here.1 ∙ e in cc)
       | inr there ↦ exact.below v p node row (record { at = there.1; koid = visible.koid }) e
@@ -109,8 +98,8 @@ module _ (t : Tree) (out : ℕ → ℕ → Bool) (in_use : ℕ → Bool) (exact 
       | inr there ↦
           let was = exact.bits h q node tag left right there.1 hidden e in
           record {
-            left_bit = denies-alike left _ _ (seen_forth side.Left h q, seen_back side.Left h q) was.left_bit;
-            right_bit = denies-alike right _ _ (seen_forth side.Right h q, seen_back side.Right h q) was.right_bit;
+            left_bit = denies-alike left _ _ (seen_forth Side.Left h q, seen_back Side.Left h q) was.left_bit;
+            right_bit = denies-alike right _ _ (seen_forth Side.Right h q, seen_back Side.Right h q) was.right_bit;
             is_seen = was.is_seen;
           }
     ];

@@ -1,23 +1,11 @@
 -- A snapshot: two nodes come, and the rows of the node's list get their bits.
-use Rattle.std.proofs.Common.{◌≡◌, ◌≢◌, ℕ, ◌+◌, ◌≤◌, Bool, None, Some, sym, ap, subst, ◌∙◌}
-use Rattle.balanced_tree.specs.Rows.{Rows}
-use Rattle.vm_base.specs.declared.names.Koid.{Koid}
-use Rattle.vm_base.proofs.EntryLaws.{some_same}
-use Rattle.page_list.specs.declared.row.Row.{Row}
-use Rattle.page_list.specs.Lists.{slots_of, row_count}
-use Rattle.cow_arena.specs.declared.node.Node.{Node}
+use Rattle.cow_fork.proofs.Words.{◌≡◌, ◌≢◌, ℕ, ◌+◌, ◌≤◌, Bool, None, Some, sym, ap, subst, ◌∙◌, Rows, Koid, some_same, Row, slots_of}
+use Rattle.cow_fork.proofs.Words.{row_count, Node, Arena, Nodes, nodes_of, IsVisible, Tree, frame_shown, IsForest, paired, hidden_count}
+use Rattle.cow_fork.proofs.Words.{visible_count, tree_of, StaysVisible, IsExact, all_in_sight, split_slots}
 use Rattle.cow_arena.specs.declared.node.Pair.{Pair}
-use Rattle.cow_arena.specs.Nodes.{Arena, Nodes, nodes_of, IsVisible}
-use Rattle.cow_arena.specs.Walk.{Tree, frame_shown}
-use Rattle.cow_arena.specs.Forest.{IsForest}
-use Rattle.cow_arena.specs.Changes.{paired}
-use Rattle.cow_arena.specs.Counts.{hidden_count, visible_count}
-use Rattle.cow_split.specs.Trees.{tree_of}
-use Rattle.cow_split.specs.Sight.{StaysVisible}
-use Rattle.cow_split.specs.Exact.{IsExact, all_in_sight}
-use Rattle.cow_fork.specs.Snapshots.{split_slots}
 use Rattle.cow_fork.specs.Sharing.{HasShared}
-use Rattle.cow_fork.proofs.SnapshotLaws.{exact-snapshot, snapshot-stays, snapshot-comes, snapshot-no_more, snapshot-shows, snapshot-child, snapshot-child_past}
+use Rattle.cow_fork.proofs.SnapshotLaws.{exact-snapshot, snapshot-stays, snapshot-comes, snapshot-no_more, snapshot-shows, snapshot-child}
+use Rattle.cow_fork.proofs.SnapshotLaws.{snapshot-child_past}
 
 -- the tree after a snapshot of node v
 abbrev snapshot_tree : Tree → (v : ℕ) → Node → (h c : ℕ) → Koid → (first seen pages : ℕ) → Tree

@@ -1,40 +1,27 @@
 -- A snapshot of a VMO's node: with the split bits of its rows set, the tree stays exact, and both nodes show what is wanted.
-use Rattle.std.proofs.Common.{◌≡◌, ◌≢◌, ◌⊎◌, ◌↔◌, ℕ, ◌+◌, ◌-◌, ◌<◌, ◌≤◌, Bool, true, false, Option, None, Some, IsSome, inl, inr}
-use Rattle.std.proofs.Common.{refl, sym, ap, subst, ◌∙◌, arith}
-use Rattle.std.specs.Prelude.{not, nat_le, nat_lt, is_some}
-use Rattle.std.specs.Option.{option_map}
-use Rattle.std.proofs.lemmas.Bool.{cases_eq, cases_lt, both_ways, and_parts, and_from, le-leb, lt-ltb, leb-true, ltb-true, not-true, not-false, cond-true, cond-false}
-use Rattle.vm_base.specs.declared.names.Koid.{Koid}
-use Rattle.vm_base.specs.declared.names.Tag.{Tag}
-use Rattle.vm_base.proofs.EntryLaws.{some_same, with_key-cases}
-use Rattle.vm_base.proofs.SearchLaws.{eqb_same, eqb_apart}
+use Rattle.cow_fork.proofs.Words.{◌≡◌, ◌≢◌, ◌⊎◌, ◌↔◌, ℕ, ◌+◌, ◌-◌, ◌<◌, ◌≤◌, Bool, true, false, Option, None, Some, IsSome, inl, inr, refl}
+use Rattle.cow_fork.proofs.Words.{sym, ap, subst, ◌∙◌, arith, not, nat_le, nat_lt, is_some, option_map, cases_eq, cases_lt, both_ways}
+use Rattle.cow_fork.proofs.Words.{and_parts, and_from, le-leb, lt-ltb, leb-true, ltb-true, not-true, not-false, cond-true, cond-false, Koid}
+use Rattle.cow_fork.proofs.Words.{Tag, some_same, with_key-cases, eqb_same, eqb_apart, Slot, Node, Side, IsVisible, Slots, Tree, Found}
+use Rattle.cow_fork.proofs.Words.{walk, frame_in, frame_found, frame_shown, IsForest, hidden_over, below_hidden, snapshot_node, paired}
+use Rattle.cow_fork.proofs.Words.{Reaches, SameFrames, IsPage, Sees, IsSeenFrom, StaysVisible, IsExact, AreSplitBits, all_in_sight}
+use Rattle.cow_fork.proofs.Words.{is_taken_in, split_row, split_slots}
 use Rattle.page_list.specs.declared.row.ListId.{ListId}
-use Rattle.page_list.specs.declared.row.Slot.{Slot}
-use Rattle.page_list.specs.declared.row.Slot.TheVariants as slot
-use Rattle.cow_arena.specs.declared.node.Node.{Node}
-use Rattle.cow_arena.specs.declared.node.Side.{Side}
-use Rattle.cow_arena.specs.declared.node.Side.TheVariants as side
-use Rattle.cow_arena.specs.Nodes.{IsVisible}
-use Rattle.cow_arena.specs.Walk.{Slots, Tree, Found, walk, frame_in, frame_found, frame_shown}
-use Rattle.cow_arena.specs.Forest.{IsForest}
-use Rattle.cow_arena.specs.Changes.{hidden_over, below_hidden, snapshot_node, paired}
-use Rattle.cow_arena.specs.Ways.{Reaches, SameFrames}
 use Rattle.cow_arena.proofs.WalkLaws.{walk-own}
 use Rattle.cow_arena.proofs.ReachLaws.{walk-ends, reach-hidden}
 use Rattle.cow_arena.proofs.RelinkLaws.{relinked-stays, relinked-was}
 use Rattle.cow_arena.proofs.AlikeLaws.{some-alike, frames-back, found-alike, frame-alike}
-use Rattle.cow_arena.proofs.PairWalkLaws.{Views, paired_tree, rows-fresh, child-at, leaf-at, other-at, pair-walk-other, pair-reach-other-back, pair-views-leaf, pair-views-child, pair-walk-own, pair-walk-free, pair-frame, pair-reach-cases, pair-walk-past, pair-listed}
-use Rattle.cow_split.specs.Sight.{IsPage, Sees, IsSeenFrom, StaysVisible}
-use Rattle.cow_split.specs.Exact.{IsExact, AreSplitBits, all_in_sight}
-use Rattle.cow_split.proofs.ExactLaws.{denies-alike}
-use Rattle.cow_fork.specs.Snapshots.{is_taken_in, split_row, split_slots}
-use Rattle.cow_split.proofs.NodeLaws.{stays-page, seen-moved}
+use Rattle.cow_arena.proofs.PairWalkLaws.{Views, paired_tree, rows-fresh, child-at, leaf-at, other-at, pair-walk-other}
+use Rattle.cow_arena.proofs.PairWalkLaws.{pair-reach-other-back, pair-views-leaf, pair-views-child, pair-walk-own, pair-walk-free}
+use Rattle.cow_arena.proofs.PairWalkLaws.{pair-frame, pair-reach-cases, pair-walk-past, pair-listed}
+use Rattle.cow_split.proofs.ExactLaws.{denies-alike, seen-moved}
+use Rattle.cow_split.proofs.NodeLaws.{stays-page}
 
 -- ---- the rows
 
 split_frame : (b : Bool) (row : Slot) → frame_in (split_row b row) ≡ frame_in row
-split_frame b (slot.Frame tag left right) = refl
-split_frame b slot.Zero = refl
+split_frame b (Slot.Frame tag left right) = refl
+split_frame b Slot.Zero = refl
 
 module _ (slots : Slots) (l first seen : ℕ) where
   -- other rows stay
@@ -62,27 +49,27 @@ module _ (slots : Slots) (l first seen : ℕ) where
       framed b (Some row) = ap Some (split_frame b row)
 
   -- what the bits of a row are then
-  pub split-bits : (q : ℕ) (tag : Tag) (left right : Bool) → split_slots slots l first seen l q ≡ Some (slot.Frame tag left right) →
+  pub split-bits : (q : ℕ) (tag : Tag) (left right : Bool) → split_slots slots l first seen l q ≡ Some (Slot.Frame tag left right) →
       (row : Slot) × (slots l q ≡ Some row) × (left ≡ false) × (right ≡ not (is_taken_in first seen q))
   split-bits q tag left right e = bits (is_taken_in first seen q) (slots l q) refl (sym (split-here q) ∙ e)
     where
       left_of : Slot → Bool
-      left_of (slot.Frame tag left right) = left
-      left_of slot.Zero = false
+      left_of (Slot.Frame tag left right) = left
+      left_of Slot.Zero = false
 
       right_of : Slot → Bool
-      right_of (slot.Frame tag left right) = right
-      right_of slot.Zero = false
+      right_of (Slot.Frame tag left right) = right
+      right_of Slot.Zero = false
 
       is_frame : Slot → Bool
-      is_frame (slot.Frame tag left right) = true
-      is_frame slot.Zero = false
+      is_frame (Slot.Frame tag left right) = true
+      is_frame Slot.Zero = false
 
-      bits : (b : Bool) (o : Option Slot) → slots l q ≡ o → option_map (split_row b) o ≡ Some (slot.Frame tag left right) →
+      bits : (b : Bool) (o : Option Slot) → slots l q ≡ o → option_map (split_row b) o ≡ Some (Slot.Frame tag left right) →
           (row : Slot) × (slots l q ≡ Some row) × (left ≡ false) × (right ≡ not b)
       bits b None is e = absurd (cc)
-      bits b (Some slot.Zero) is e = absurd (let frame = ap is_frame (some_same e) in cc)
-      bits b (Some (slot.Frame t a c)) is e = (slot.Frame t a c, is, sym (ap left_of (some_same e)), sym (ap right_of (some_same e)))
+      bits b (Some Slot.Zero) is e = absurd (let frame = ap is_frame (some_same e) in cc)
+      bits b (Some (Slot.Frame t a c)) is e = (Slot.Frame t a c, is, sym (ap left_of (some_same e)), sym (ap right_of (some_same e)))
 
 -- a row is seen from a side whatever the rows say of sides
 pub seen-alike : (u : Tree) (slots : Slots) → SameFrames u.slots slots → IsForest u.nodes u.lists → (out : ℕ → ℕ → Bool) (side : Side) (h q : ℕ) →
@@ -93,11 +80,7 @@ seen-alike u slots alike g out side h q seen =
     record {
       v = seen.v;
       p = seen.p;
-      sees = record {
-        page = record { node = page.node; visible = page.visible; below = page.below };
-        slot = found.0;
-        found = found.1;
-      };
+      sees = record { page = record { node = page.node; visible = page.visible; below = page.below }; slot = found.0; found = found.1 };
       in_sight = seen.in_sight;
     }
 
@@ -144,10 +127,10 @@ module _ (t : Tree) (in_use : ℕ → Bool) (exact : IsExact t all_in_sight in_u
   alike : SameFrames t.slots after.slots
   alike = split-frames t.slots leaf.list.0 first seen
 
-  leaf_views : Views middle h k side.Left 0 leaf.count
+  leaf_views : Views middle h k Side.Left 0 leaf.count
   leaf_views = pair-views-leaf t exact.forest k leaf visible h c koid first seen count no_h no_c apart g exact.listed
 
-  child_views : Views middle h c side.Right first seen
+  child_views : Views middle h c Side.Right first seen
   child_views = pair-views-child t exact.forest k leaf visible h c koid first seen count no_h no_c apart g exact.listed
 
   -- the rows that either sees
@@ -232,7 +215,7 @@ module _ (t : Tree) (in_use : ℕ → Bool) (exact : IsExact t all_in_sight in_u
           let count_is = ap (λ (n : Node). n.count) (some_same (sym sees.page.visible.at ∙ (ap t.nodes same ∙ visible.at))) in
           let below = sees.page.below in
           ap (λ i. walk middle i p) same
-          ∙ (free_walk k side.Left 0 leaf.count leaf_views p p (omega arith) (omega arith) e ∙ sym (ap (λ i. walk t i p) same))
+          ∙ (free_walk k Side.Left 0 leaf.count leaf_views p p (omega arith) (omega arith) e ∙ sym (ap (λ i. walk t i p) same))
 
   -- a row of a node that was there is seen from each side where it was
   above_forth : (from : Side) (x q : ℕ) → IsSeenFrom t all_in_sight from x q → IsSeenFrom middle all_in_sight from x q
@@ -274,8 +257,8 @@ module _ (t : Tree) (in_use : ℕ → Bool) (exact : IsExact t all_in_sight in_u
 
       from_origin : Origin t k leaf h c koid first seen count it.v it.sees.page.node → IsSeenFrom t all_in_sight from x q
       from_origin (from_hidden same is) = absurd (no_koid it.sees.page.node (ap (λ (n : Node). n.koid) is) it.sees.page.visible.koid)
-      from_origin (from_leaf same is) = view_back k side.Left 0 leaf.count leaf_views (omega arith) it.p from x q it.sees.slot not_h (walked k same)
-      from_origin (from_child same is) = view_back c side.Right first seen child_views window it.p from x q it.sees.slot not_h (walked c same)
+      from_origin (from_leaf same is) = view_back k Side.Left 0 leaf.count leaf_views (omega arith) it.p from x q it.sees.slot not_h (walked k same)
+      from_origin (from_child same is) = view_back c Side.Right first seen child_views window it.p from x q it.sees.slot not_h (walked c same)
       from_origin (from_other node at other koid_is list_is count_is) = record {
         v = it.v;
         p = it.p;
@@ -298,39 +281,39 @@ module _ (t : Tree) (in_use : ℕ → Bool) (exact : IsExact t all_in_sight in_u
   no_way j p side q w = let above = reach-hidden t exact.forest j p side h q w in let there = above.1 in absurd (cc)
 
   -- who sees one from the right is the snapshot, in its window
-  right_seen : (q : ℕ) → IsSeenFrom middle all_in_sight side.Right h q → (first ≤ q) × (q < first + seen)
+  right_seen : (q : ℕ) → IsSeenFrom middle all_in_sight Side.Right h q → (first ≤ q) × (q < first + seen)
   right_seen q it = from_origin (origin-of t k leaf h c koid first seen count it.v it.sees.page.node it.sees.page.visible.at)
     where
-      way : Reaches middle it.v it.p side.Right h q
+      way : Reaches middle it.v it.p Side.Right h q
       way = (walk-ends middle g it.v it.p _ it.sees.found).way
 
-      way_from : (i : ℕ) → it.v ≡ i → Reaches middle i it.p side.Right h q
-      way_from i same = subst (λ j. Reaches middle j it.p side.Right h q) same way
+      way_from : (i : ℕ) → it.v ≡ i → Reaches middle i it.p Side.Right h q
+      way_from i same = subst (λ j. Reaches middle j it.p Side.Right h q) same way
 
-      no_left : side.Right ≡ side.Left → ⊥
+      no_left : Side.Right ≡ Side.Left → ⊥
       no_left e = absurd (cc)
 
-      from_leaf_way : ((h ≡ h) × (q ≡ it.p) × (side.Right ≡ side.Left)) ⊎ Reaches t k it.p side.Right h q → (first ≤ q) × (q < first + seen)
+      from_leaf_way : ((h ≡ h) × (q ≡ it.p) × (Side.Right ≡ Side.Left)) ⊎ Reaches t k it.p Side.Right h q → (first ≤ q) × (q < first + seen)
       from_leaf_way (inl one) = absurd (no_left one.2)
-      from_leaf_way (inr on) = absurd (no_way k it.p side.Right q on)
+      from_leaf_way (inr on) = absurd (no_way k it.p Side.Right q on)
 
-      from_child_way : it.p < seen → ((h ≡ h) × (q ≡ first + it.p) × (side.Right ≡ side.Right)) ⊎ Reaches t k (first + it.p) side.Right h q → (first ≤ q) × (q < first + seen)
+      from_child_way : it.p < seen → ((h ≡ h) × (q ≡ first + it.p) × (Side.Right ≡ Side.Right)) ⊎ Reaches t k (first + it.p) Side.Right h q → (first ≤ q) × (q < first + seen)
       from_child_way below (inl one) = (omega (arith, one.1), omega (arith, one.1))
-      from_child_way below (inr on) = absurd (no_way k (first + it.p) side.Right q on)
+      from_child_way below (inr on) = absurd (no_way k (first + it.p) Side.Right q on)
 
       from_origin : Origin t k leaf h c koid first seen count it.v it.sees.page.node → (first ≤ q) × (q < first + seen)
       from_origin (from_hidden same is) = absurd (no_koid it.sees.page.node (ap (λ (n : Node). n.koid) is) it.sees.page.visible.koid)
       from_origin (from_leaf same is) = from_leaf_way (pair-reach-cases t exact.forest k leaf visible h c koid first seen count no_h no_c apart g
-          k side.Left 0 leaf.count leaf_views it.p it.p (omega arith) side.Right h q (way_from k same)).1
+          k Side.Left 0 leaf.count leaf_views it.p it.p (omega arith) Side.Right h q (way_from k same)).1
       from_origin (from_child same is) =
           let cases = pair-reach-cases t exact.forest k leaf visible h c koid first seen count no_h no_c apart g
-          c side.Right first seen child_views it.p (first + it.p) refl side.Right h q (way_from c same) in
+          c Side.Right first seen child_views it.p (first + it.p) refl Side.Right h q (way_from c same) in
           from_child_way cases.0 cases.1
-      from_origin (from_other node at other koid_is list_is count_is) = absurd (no_way it.v it.p side.Right q
-          (pair-reach-other-back t exact.forest k leaf visible h c koid first seen count no_h no_c apart g it.v it.p side.Right h q (node, at, other) way))
+      from_origin (from_other node at other koid_is list_is count_is) = absurd (no_way it.v it.p Side.Right q
+          (pair-reach-other-back t exact.forest k leaf visible h c koid first seen count no_h no_c apart g it.v it.p Side.Right h q (node, at, other) way))
 
   -- the leaf sees each from the left
-  left_sees : (q : ℕ) (row : Slot) → t.slots leaf.list.0 q ≡ Some row → IsSeenFrom middle all_in_sight side.Left h q
+  left_sees : (q : ℕ) (row : Slot) → t.slots leaf.list.0 q ≡ Some row → IsSeenFrom middle all_in_sight Side.Left h q
   left_sees q row e =
       let below = exact.below k q leaf row visible e in
       record {
@@ -339,13 +322,13 @@ module _ (t : Tree) (in_use : ℕ → Bool) (exact : IsExact t all_in_sight in_u
         sees = record {
           page = stays-page t middle k q (record { node = leaf; visible = visible; below = below }) (snapshot-stays k leaf visible);
           slot = row;
-          found = own_walk k side.Left 0 leaf.count leaf_views q q (omega arith) row below e;
+          found = own_walk k Side.Left 0 leaf.count leaf_views q q (omega arith) row below e;
         };
         in_sight = refl;
       }
 
   -- and the snapshot those in its window from the right
-  right_sees : (q : ℕ) (row : Slot) → t.slots leaf.list.0 q ≡ Some row → first ≤ q → q < first + seen → IsSeenFrom middle all_in_sight side.Right h q
+  right_sees : (q : ℕ) (row : Slot) → t.slots leaf.list.0 q ≡ Some row → first ≤ q → q < first + seen → IsSeenFrom middle all_in_sight Side.Right h q
   right_sees q row e from to = record {
     v = c;
     p = q - first;
@@ -356,7 +339,7 @@ module _ (t : Tree) (in_use : ℕ → Bool) (exact : IsExact t all_in_sight in_u
         below = omega arith;
       };
       slot = row;
-      found = own_walk c side.Right first seen child_views (q - first) q (omega arith) row (omega arith) e;
+      found = own_walk c Side.Right first seen child_views (q - first) q (omega arith) row (omega arith) e;
     };
     in_sight = refl;
   }
@@ -381,15 +364,15 @@ module _ (t : Tree) (in_use : ℕ → Bool) (exact : IsExact t all_in_sight in_u
   own_bits : (q : ℕ) (left right : Bool) (row : Slot) → t.slots leaf.list.0 q ≡ Some row → left ≡ false → right ≡ not (is_taken_in first seen q) →
       AreSplitBits after all_in_sight h q left right
   own_bits q left right row e left_is right_is = record {
-    left_bit = record { is_true = λ on. absurd (cc); is_false = λ off. bits_forth side.Left h q (left_sees q row e) };
+    left_bit = record { is_true = λ on. absurd (cc); is_false = λ off. bits_forth Side.Left h q (left_sees q row e) };
     right_bit = record {
       is_true = λ on it.
-          let range = right_seen q (bits_back side.Right h q it) in
+          let range = right_seen q (bits_back Side.Right h q it) in
           let none = not-true (is_taken_in first seen q) (sym right_is ∙ on) in
           both_ways (is_taken_in first seen q) none (and_from (nat_le first q) (nat_lt q (first + seen)) (le-leb first q range.0) (lt-ltb q (first + seen) range.1));
       is_false = λ off.
           let range = and_parts (nat_le first q) (nat_lt q (first + seen)) (not-false (is_taken_in first seen q) (sym right_is ∙ off)) in
-          bits_forth side.Right h q (right_sees q row e (leb-true first q range.0) (ltb-true q (first + seen) range.1));
+          bits_forth Side.Right h q (right_sees q row e (leb-true first q range.0) (ltb-true q (first + seen) range.1));
     };
     is_seen = rw left_is refl;
   }
@@ -442,13 +425,13 @@ module _ (t : Tree) (in_use : ℕ → Bool) (exact : IsExact t all_in_sight in_u
           let bound = exact.below v p node row (record { at = at; koid = subst IsSome koid_is shown.koid }) (sym (other_rows v p node now at other list_is) ∙ e) in
           omega arith
 
-      plain : (v p : ℕ) (now : Node) (tag : Tag) (left right : Bool) → IsVisible after.nodes v now → after.slots now.list.0 p ≡ Some (slot.Frame tag left right) →
+      plain : (v p : ℕ) (now : Node) (tag : Tag) (left right : Bool) → IsVisible after.nodes v now → after.slots now.list.0 p ≡ Some (Slot.Frame tag left right) →
           Origin t k leaf h c koid first seen count v now → (left ≡ false) × (right ≡ false)
       plain v p now tag left right shown e (from_hidden same is) = absurd (no_koid now (ap (λ (n : Node). n.koid) is) shown.koid)
       plain v p now tag left right shown e (from_leaf same is) =
-          absurd (fresh now.list.0 p (slot.Frame tag left right) (let list = ap (λ (n : Node). n.list.0) is in omega arith) e)
+          absurd (fresh now.list.0 p (Slot.Frame tag left right) (let list = ap (λ (n : Node). n.list.0) is in omega arith) e)
       plain v p now tag left right shown e (from_child same is) =
-          absurd (fresh now.list.0 p (slot.Frame tag left right) (let list = ap (λ (n : Node). n.list.0) is in omega arith) e)
+          absurd (fresh now.list.0 p (Slot.Frame tag left right) (let list = ap (λ (n : Node). n.list.0) is in omega arith) e)
       plain v p now tag left right shown e (from_other node at other koid_is list_is count_is) =
           exact.plain v p node tag left right (record { at = at; koid = subst IsSome koid_is shown.koid }) (sym (other_rows v p node now at other list_is) ∙ e)
 
@@ -456,7 +439,7 @@ module _ (t : Tree) (in_use : ℕ → Bool) (exact : IsExact t all_in_sight in_u
       no_visible n a shown hidden = absurd (cc)
 
       bits : (x q : ℕ) (now : Node) (tag : Tag) (left right : Bool) → after.nodes x ≡ Some now → now.koid ≡ None →
-          after.slots now.list.0 q ≡ Some (slot.Frame tag left right) → Origin t k leaf h c koid first seen count x now → AreSplitBits after all_in_sight x q left right
+          after.slots now.list.0 q ≡ Some (Slot.Frame tag left right) → Origin t k leaf h c koid first seen count x now → AreSplitBits after all_in_sight x q left right
       bits x q now tag left right at hidden e (from_hidden same is) =
           let own = split-bits t.slots leaf.list.0 first seen q tag left right (sym (ap (λ (n : Node). after.slots n.list.0 q) is) ∙ e) in
           subst (λ i. AreSplitBits after all_in_sight i q left right) (sym same) (own_bits q left right own.0 own.1 own.2 own.3)
@@ -467,8 +450,8 @@ module _ (t : Tree) (in_use : ℕ → Bool) (exact : IsExact t all_in_sight in_u
           let was = exact.bits x q node tag left right was_at (sym koid_is ∙ hidden) (sym (other_rows x q node now was_at other list_is) ∙ e) in
           let not_h = λ (same : x ≡ h). no_node node (sym (ap t.nodes same) ∙ was_at) in
           record {
-            left_bit = denies-alike left _ _ (seen_same side.Left x q not_h) was.left_bit;
-            right_bit = denies-alike right _ _ (seen_same side.Right x q not_h) was.right_bit;
+            left_bit = denies-alike left _ _ (seen_same Side.Left x q not_h) was.left_bit;
+            right_bit = denies-alike right _ _ (seen_same Side.Right x q not_h) was.right_bit;
             is_seen = was.is_seen;
           }
 
@@ -483,7 +466,7 @@ module _ (t : Tree) (in_use : ℕ → Bool) (exact : IsExact t all_in_sight in_u
         let count_is = ap (λ (n : Node). n.count) one in
         let page_below = page.below in
         ap (λ i. frame_shown middle i p) same
-        ∙ (pair-frame t exact.forest k leaf visible h c koid first seen count no_h no_c apart g k side.Left 0 leaf.count leaf_views p p (omega arith) (omega arith)
+        ∙ (pair-frame t exact.forest k leaf visible h c koid first seen count no_h no_c apart g k Side.Left 0 leaf.count leaf_views p p (omega arith) (omega arith)
         ∙ sym (ap (λ i. frame_shown t i p) same))
   ]
 
@@ -491,8 +474,8 @@ module _ (t : Tree) (in_use : ℕ → Bool) (exact : IsExact t all_in_sight in_u
   pub snapshot-child : (p : ℕ) → p < seen → frame_shown after c p ≡ frame_shown t k (first + p)
   snapshot-child p below =
       frame-alike middle after.slots alike g c p
-      ∙ pair-frame t exact.forest k leaf visible h c koid first seen count no_h no_c apart g c side.Right first seen child_views p (first + p) refl below
+      ∙ pair-frame t exact.forest k leaf visible h c koid first seen count no_h no_c apart g c Side.Right first seen child_views p (first + p) refl below
 
   -- its other pages are zero
   pub snapshot-child_past : (p : ℕ) → seen ≤ p → frame_shown after c p ≡ None
-  snapshot-child_past p past = frame-alike middle after.slots alike g c p ∙ ap frame_found (past_walk c side.Right first seen child_views p past)
+  snapshot-child_past p past = frame-alike middle after.slots alike g c p ∙ ap frame_found (past_walk c Side.Right first seen child_views p past)

@@ -3,4 +3,3 @@ pub mod Forking
 pub mod Zeroing
 pub mod Snapshots
 pub mod Sharing
-pub mod inside

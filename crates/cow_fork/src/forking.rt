@@ -1,6 +1,6 @@
 //! Giving a page a frame of its own.
 
-ghost use Rattle.std.specs.Prelude.{◌≡◌, ◌⊎◌, ◌≤◌, ℕ, true, false, None, Some, IsSome};
+ghost use Rattle.std.specs.Prelude.{◌≡◌, ◌≢◌, ◌⊎◌, ◌≤◌, ℕ, true, false, None, Some, IsSome};
 ghost use Rattle.page_list.specs.declared.row.Slot.{Slot};
 ghost use Rattle.page_list.specs.declared.row.Slot.TheVariants as slot;
 ghost use Rattle.page_list.specs.Lists.{slots_of};
@@ -10,12 +10,13 @@ ghost use Rattle.vm_base.specs.Pages.{zeros};
 ghost use Rattle.cow_arena.specs.declared.node.Node.{Node};
 ghost use Rattle.cow_arena.specs.Nodes.{nodes_of};
 ghost use Rattle.cow_arena.specs.Walk.{walk, frame_in};
+ghost use Rattle.cow_arena.specs.Ways.{HadRow};
 ghost use Rattle.cow_split.specs.Trees.{tree_of, holder_of, frame_held};
 ghost use Rattle.cow_split.specs.Sight.{IsPage};
 ghost use Rattle.cow_split.specs.Exact.{IsExact, all_in_sight};
 ghost use Rattle.cow_split.specs.declared.answers.Cut.TheVariants as cut;
 ghost use Rattle.cow_fork.specs.Frames.{bytes_shown, HasSole, HasFree, LeavesFrame};
-ghost use Rattle.cow_fork.specs.Forking.{HasForked};
+ghost use Rattle.cow_fork.specs.Forking.{HasOwnRow, HasOwned};
 
 use cow_arena::{CowArena, NodeId};
 use cow_split::{Cut, Holder, cut_holder, holder};
@@ -41,7 +42,12 @@ pub fn fork(
         slots_of lists.old node.list.0 page ≡ Some row → frame_in row ≡ None }
     requires room { 1 ≤ lists.old.spare }
     requires free { HasFree frames.old ⊎ HasSole (tree_of arena.now lists.old) leaf.0 page }
-    ensures { HasForked arena.now lists.old lists.new frames.old frames.new leaf.0 page result.0 }
+    ensures owned { HasOwned arena.now lists.old lists.new frames.old frames.new leaf.0 page result.0 }
+    ensures row { HasOwnRow arena.now lists.new leaf.0 page result.0 }
+    // each row with another frame had this frame there before, and no backlink changes
+    ensures stood { (l q : ℕ) (row : Slot) (t : ℕ) → slots_of lists.new l q ≡ Some row → frame_in row ≡ Some t →
+        t ≢ result.0 → HadRow (slots_of lists.old) l q row }
+    ensures links { links_of frames.new ≡ links_of frames.old }
 {
     let found = holder(arena, lists, leaf, page);
     fork_holder(arena, lists, frames, leaf, page, found)
@@ -63,7 +69,12 @@ pub fn fork_holder(
         slots_of lists.old node.list.0 page ≡ Some row → frame_in row ≡ None }
     requires room { 1 ≤ lists.old.spare }
     requires free { HasFree frames.old ⊎ HasSole (tree_of arena.now lists.old) leaf.0 page }
-    ensures { HasForked arena.now lists.old lists.new frames.old frames.new leaf.0 page result.0 }
+    ensures owned { HasOwned arena.now lists.old lists.new frames.old frames.new leaf.0 page result.0 }
+    ensures row { HasOwnRow arena.now lists.new leaf.0 page result.0 }
+    // each row with another frame had this frame there before, and no backlink changes
+    ensures stood { (l q : ℕ) (row : Slot) (t : ℕ) → slots_of lists.new l q ≡ Some row → frame_in row ≡ Some t →
+        t ≢ result.0 → HadRow (slots_of lists.old) l q row }
+    ensures links { links_of frames.new ≡ links_of frames.old }
 {
     let list = arena.look(leaf).list;
     if let Holder::Own(_) = found {

@@ -1,22 +1,24 @@
 //! Making a page zero.
 
-ghost use Rattle.std.specs.Prelude.{◌≡◌, ◌≢◌, ◌≤◌, ℕ, Bool, true, None, Some, is_some, option_copied};
+ghost use Rattle.std.specs.Prelude.{◌≡◌, ◌≢◌, ◌+◌, ◌≤◌, ℕ, true, false, None, Some, is_some, option_copied};
 ghost use Rattle.vm_base.specs.declared.names.Tag.{Tag};
 ghost use Rattle.vm_base.specs.Entries.{without_key};
-ghost use Rattle.page_list.specs.Lists.{slots_of};
+ghost use Rattle.balanced_tree.specs.Pairs.{with_pair};
+ghost use Rattle.page_list.specs.declared.row.Slot.TheVariants as slot;
+ghost use Rattle.page_list.specs.Lists.{slots_of, row_count};
 ghost use Rattle.frame_pool.specs.Pool.{taken_frames, is_taken, links_of};
 ghost use Rattle.cow_arena.specs.declared.node.Node.{Node};
 ghost use Rattle.cow_arena.specs.Nodes.{nodes_of};
 ghost use Rattle.cow_arena.specs.Walk.{frame_shown};
+ghost use Rattle.cow_arena.specs.Ways.{IsPartOf};
 ghost use Rattle.cow_arena.specs.Forest.{IsForest};
 ghost use Rattle.cow_split.specs.Trees.{tree_of, frame_held};
-ghost use Rattle.cow_split.specs.Sight.{IsPage};
+ghost use Rattle.cow_split.specs.Sight.{IsPage, ShowsSame, IsNotPage};
 ghost use Rattle.cow_split.specs.Exact.{IsExact, all_in_sight, leaving_out};
 ghost use Rattle.cow_split.specs.declared.answers.Cut.TheVariants as cut;
 ghost use Rattle.cow_jump.specs.Jumps.{AreJumps, MayJump};
-ghost use Rattle.cow_fork.specs.Frames.{LeavesFrame};
-ghost use Rattle.cow_fork.specs.Zeroing.{HasKeptZero, HasZeroed};
-ghost use Rattle.cow_fork.specs.inside.ZeroSteps.{HasLetGo, HasHidden};
+ghost use Rattle.cow_fork.specs.Frames.{GivesSole, LeavesFrame};
+ghost use Rattle.cow_fork.specs.Zeroing.{HasZeroed, IsNeeded};
 
 use cow_arena::{CowArena, NodeId};
 use cow_jump::{JumpTable, above_with};
@@ -40,7 +42,13 @@ pub fn mark_zero(
     requires exact { IsExact (tree_of arena.now lists.old) all_in_sight (is_taken frames.old) }
     requires page { IsPage (tree_of arena.now lists.old) leaf.0 page }
     requires room { 1 ≤ lists.old.spare }
-    ensures { HasZeroed arena.now lists.old lists.new frames.old frames.new leaf.0 page }
+    ensures zeroed { HasZeroed arena.now lists.old lists.new frames.old frames.new leaf.0 page (page + 1) }
+    ensures zero { frame_shown (tree_of arena.now lists.new) leaf.0 page ≡ None }
+    ensures given { GivesSole (tree_of arena.now lists.old) leaf.0 page frames.old frames.new }
+    ensures spare { lists.old.spare ≤ lists.new.spare + 1 }
+    ensures same { frame_shown (tree_of arena.now lists.old) leaf.0 page ≡ None →
+        (slots_of lists.new ≡ slots_of lists.old) × (row_count lists.new ≡ row_count lists.old) × (lists.new.spare ≡ lists.old.spare) }
+    ensures needed { frame_shown (tree_of arena.now lists.old) leaf.0 page ≢ None → IsNeeded arena.now lists.new leaf.0 page }
 {
     zero_with(arena, lists, frames, None, leaf, page);
 }
@@ -59,7 +67,13 @@ pub fn zero_by_jumps(
     requires page { IsPage (tree_of arena.now lists.old) leaf.0 page }
     requires room { frame_shown (tree_of arena.now lists.old) leaf.0 page ≢ None → 1 ≤ lists.old.spare }
     requires jumps { (next : ℕ) × AreJumps (tree_of arena.now lists.old) next jumps.now }
-    ensures zeroed { HasZeroed arena.now lists.old lists.new frames.old frames.new leaf.0 page }
+    ensures zeroed { HasZeroed arena.now lists.old lists.new frames.old frames.new leaf.0 page (page + 1) }
+    ensures zero { frame_shown (tree_of arena.now lists.new) leaf.0 page ≡ None }
+    ensures given { GivesSole (tree_of arena.now lists.old) leaf.0 page frames.old frames.new }
+    ensures spare { lists.old.spare ≤ lists.new.spare + 1 }
+    ensures same { frame_shown (tree_of arena.now lists.old) leaf.0 page ≡ None →
+        (slots_of lists.new ≡ slots_of lists.old) × (row_count lists.new ≡ row_count lists.old) × (lists.new.spare ≡ lists.old.spare) }
+    ensures needed { frame_shown (tree_of arena.now lists.old) leaf.0 page ≢ None → IsNeeded arena.now lists.new leaf.0 page }
     ensures held { result ≡ is_some (frame_shown (tree_of arena.now lists.old) leaf.0 page) }
 {
     zero_with(arena, lists, frames, Some(jumps), leaf, page)
@@ -78,43 +92,59 @@ fn zero_with(
     requires page { IsPage (tree_of arena.now lists.old) leaf.0 page }
     requires room { frame_shown (tree_of arena.now lists.old) leaf.0 page ≢ None → 1 ≤ lists.old.spare }
     requires jumps { MayJump (tree_of arena.now lists.old) (option_copied jumps) }
-    ensures zeroed { HasZeroed arena.now lists.old lists.new frames.old frames.new leaf.0 page }
+    ensures zeroed { HasZeroed arena.now lists.old lists.new frames.old frames.new leaf.0 page (page + 1) }
+    ensures zero { frame_shown (tree_of arena.now lists.new) leaf.0 page ≡ None }
+    ensures given { GivesSole (tree_of arena.now lists.old) leaf.0 page frames.old frames.new }
+    ensures spare { lists.old.spare ≤ lists.new.spare + 1 }
+    ensures same { frame_shown (tree_of arena.now lists.old) leaf.0 page ≡ None →
+        (slots_of lists.new ≡ slots_of lists.old) × (row_count lists.new ≡ row_count lists.old) × (lists.new.spare ≡ lists.old.spare) }
+    ensures needed { frame_shown (tree_of arena.now lists.old) leaf.0 page ≢ None → IsNeeded arena.now lists.new leaf.0 page }
     ensures held { result ≡ is_some (frame_shown (tree_of arena.now lists.old) leaf.0 page) }
 {
-    let Some(answer) = let_go(arena, lists, jumps, leaf, page) else {
+    if !let_go(arena, lists, frames, jumps, leaf, page) {
         return false;
-    };
-    give_left(frames, answer);
+    }
     hide_above(arena, lists, jumps, leaf, page);
     true
 }
 
 /// Takes a page of a VMO's node out of sight, if it shows a frame: its own row goes, or it is cut off from the row above.
-/// Answers who sees the frame then. If the page is zero, no row changes. It takes no room.
+/// A frame that no other VMO shows is given back. Returns whether the page showed a frame. If it is zero, no row changes.
+/// It takes no room.
 fn let_go(
     arena: &CowArena,
     lists: &mut PageLists,
+    frames: &mut FramePool,
     jumps: Option<&JumpTable>,
     leaf: NodeId,
     page: PageNo,
-) -> Option<Cut>
-    requires forest { IsForest (nodes_of arena.now) arena.now.lists }
+) -> bool
+    requires exact { IsExact (tree_of arena.now lists.old) all_in_sight (is_taken frames.old) }
     requires page { IsPage (tree_of arena.now lists.old) leaf.0 page }
     requires jumps { MayJump (tree_of arena.now lists.old) (option_copied jumps) }
-    ensures gone { (answer : Cut) → result ≡ Some answer → (in_use : ℕ → Bool) →
-        IsExact (tree_of arena.now lists.old) all_in_sight in_use →
-        HasLetGo arena.now lists.old lists.new in_use leaf.0 page answer }
-    ensures none { result ≡ None → HasKeptZero arena.now lists.old lists.new leaf.0 page }
+    ensures held { result ≡ is_some (frame_shown (tree_of arena.now lists.old) leaf.0 page) }
+    ensures exact { result ≡ true → IsExact (tree_of arena.now lists.new) (leaving_out all_in_sight leaf.0 page) (is_taken frames.new) }
+    ensures bare { result ≡ true → (node : Node) → nodes_of arena.now leaf.0 ≡ Some node → slots_of lists.new node.list.0 page ≡ None }
+    ensures others { result ≡ true → ShowsSame (tree_of arena.now lists.old) (tree_of arena.now lists.new) (IsNotPage leaf.0 page) }
+    ensures part { result ≡ true → IsPartOf (slots_of lists.old) (slots_of lists.new) }
+    ensures given { result ≡ true → GivesSole (tree_of arena.now lists.old) leaf.0 page frames.old frames.new }
+    ensures spare { result ≡ true → lists.old.spare ≤ lists.new.spare }
+    ensures same { result ≡ false →
+        (slots_of lists.new ≡ slots_of lists.old) × (row_count lists.new ≡ row_count lists.old) × (lists.new.spare ≡ lists.old.spare) }
+    ensures pool { result ≡ false → frames.new ≡ frames.old }
 {
     let list = arena.look(leaf).list;
     let Some(row) = lists.take(list, page) else {
-        return cut_shown(arena, lists, jumps, leaf, page);
+        return cut_shown(arena, lists, frames, jumps, leaf, page);
     };
     match row {
-        Slot::Frame { tag, .. } => Some(Cut::LastViewer(tag)),
+        Slot::Frame { tag, .. } => {
+            frames.give_back(tag);
+            true
+        }
         Slot::Zero => {
             lists.insert(list, page, Slot::Zero);
-            None
+            false
         }
     }
 }
@@ -123,24 +153,31 @@ fn let_go(
 fn cut_shown(
     arena: &CowArena,
     lists: &mut PageLists,
+    frames: &mut FramePool,
     jumps: Option<&JumpTable>,
     leaf: NodeId,
     page: PageNo,
-) -> Option<Cut>
-    requires forest { IsForest (nodes_of arena.now) arena.now.lists }
+) -> bool
+    requires exact { IsExact (tree_of arena.now lists.old) all_in_sight (is_taken frames.old) }
     requires page { IsPage (tree_of arena.now lists.old) leaf.0 page }
     requires bare { (node : Node) → nodes_of arena.now leaf.0 ≡ Some node → slots_of lists.old node.list.0 page ≡ None }
     requires jumps { MayJump (tree_of arena.now lists.old) (option_copied jumps) }
-    ensures gone { (answer : Cut) → result ≡ Some answer → (in_use : ℕ → Bool) →
-        IsExact (tree_of arena.now lists.old) all_in_sight in_use →
-        HasLetGo arena.now lists.old lists.new in_use leaf.0 page answer }
-    ensures none { result ≡ None → HasKeptZero arena.now lists.old lists.new leaf.0 page }
+    ensures held { result ≡ is_some (frame_shown (tree_of arena.now lists.old) leaf.0 page) }
+    ensures exact { result ≡ true → IsExact (tree_of arena.now lists.new) (leaving_out all_in_sight leaf.0 page) (is_taken frames.new) }
+    ensures bare { result ≡ true → (node : Node) → nodes_of arena.now leaf.0 ≡ Some node → slots_of lists.new node.list.0 page ≡ None }
+    ensures others { result ≡ true → ShowsSame (tree_of arena.now lists.old) (tree_of arena.now lists.new) (IsNotPage leaf.0 page) }
+    ensures part { result ≡ true → IsPartOf (slots_of lists.old) (slots_of lists.new) }
+    ensures given { result ≡ true → GivesSole (tree_of arena.now lists.old) leaf.0 page frames.old frames.new }
+    ensures spare { result ≡ true → lists.old.spare ≤ lists.new.spare }
+    ensures same { result ≡ false → (lists.new ≡ lists.old) × (frames.new ≡ frames.old) }
 {
     let found = above_with(arena, lists, jumps, leaf, page);
     if !has_frame(found) {
-        return None;
+        return false;
     }
-    Some(cut_holder(arena, lists, leaf, page, found))
+    let answer = cut_holder(arena, lists, leaf, page, found);
+    give_left(frames, answer);
+    true
 }
 
 /// Returns whether a page shows a frame.
@@ -178,8 +215,9 @@ fn hide_above(
     requires bare { (node : Node) → nodes_of arena.now leaf.0 ≡ Some node → slots_of lists.old node.list.0 page ≡ None }
     requires room { 1 ≤ lists.old.spare }
     requires jumps { MayJump (tree_of arena.now lists.old) (option_copied jumps) }
-    ensures { (in_use : ℕ → Bool) → IsExact (tree_of arena.now lists.old) (leaving_out all_in_sight leaf.0 page) in_use →
-        HasHidden arena.now lists.old lists.new in_use leaf.0 page }
+    ensures same { frame_shown (tree_of arena.now lists.old) leaf.0 page ≡ None → lists.new ≡ lists.old }
+    ensures marked { frame_shown (tree_of arena.now lists.old) leaf.0 page ≢ None → (node : Node) → nodes_of arena.now leaf.0 ≡ Some node →
+        (slots_of lists.new ≡ with_pair (slots_of lists.old) node.list.0 page (Some slot.Zero)) × (lists.new.spare + 1 ≡ lists.old.spare) }
 {
     let above = above_with(arena, lists, jumps, leaf, page);
     if has_frame(above) {

@@ -1,31 +1,19 @@
 -- Laws of jumps: a step is one, two in a row are one, and a walk that takes them comes to the rows to which its steps lead.
-use Rattle.std.proofs.Common.{◌≡◌, ◌≢◌, inl, inr, ℕ, ◌+◌, ◌-◌, ◌*◌, ◌^◌, ◌%◌, ◌<◌, ◌≤◌, Option, None, Some, IsSome, IsSomeAnd, refl, sym, ap, subst, ◌∙◌, arith, ◌/◌, w64}
-use Rattle.std.specs.Prelude.{zero, suc, List, [], ◌∷◌, ◌++◌, slice_index_or, is_some, bit_or, IfSome}
-use Rattle.std.specs.Int.{bit_at, rotate_right}
-use Rattle.std.proofs.lemmas.Bool.{cases_eq, cases_lt}
-use Rattle.std.proofs.Math.Nat.{div-add-mod, mod-lt}
+use Rattle.cow_jump.proofs.Words.{◌≡◌, ◌≢◌, inl, inr, ℕ, ◌+◌, ◌-◌, ◌*◌, ◌^◌, ◌%◌, ◌<◌, ◌≤◌, Option, None, Some, IsSome, IsSomeAnd, refl}
+use Rattle.cow_jump.proofs.Words.{sym, ap, subst, ◌∙◌, arith, ◌/◌, w64, zero, suc, List, [], ◌∷◌, ◌++◌, slice_index_or, is_some, bit_or}
+use Rattle.cow_jump.proofs.Words.{IfSome, bit_at, rotate_right, bit_at_or, bit_at_cat_low, bit_at_cat_high, side_of, Tree, walk, Reaches}
+use Rattle.cow_jump.proofs.Words.{Arrives, Rises, IsMostOfLookUp, depth, jump_in, serial_in, IsCurrentJump, IsJump, AreJumps, IsNewJump}
+use Rattle.cow_jump.proofs.Words.{IsServedByJump, IsGiven, cases_eq, cases_lt, div-add-mod, mod-lt, Node, IsForest, Jump, JumpTable}
 use Rattle.std.proofs.lemmas.Nat.{pow_pos}
-use Rattle.std.proofs.lemmas.Nat.Bits.{bit_at_or, bit_at_cat_low, bit_at_cat_high}
 use Rattle.vm_base.proofs.EntryLaws.{some_same}
 use Rattle.page_list.specs.declared.row.Slot.{Slot}
-use Rattle.cow_arena.specs.declared.node.Node.{Node}
 use Rattle.cow_arena.specs.declared.node.NodeId.{NodeId}
 use Rattle.cow_arena.specs.declared.node.Side.{Side}
-use Rattle.cow_arena.specs.Nodes.{side_of}
-use Rattle.cow_arena.specs.Walk.{Tree, walk}
-use Rattle.cow_arena.specs.Forest.{IsForest}
-use Rattle.cow_arena.specs.Ways.{Reaches, Arrives, Rises}
 use Rattle.cow_arena.proofs.ReachLaws.{reach-each, reach-hidden, walk-arrives}
-use Rattle.cow_arena.proofs.RisesLaws.{rises-parent, rises-reach, rises-on, above-hidden}
-use Rattle.cow_split.specs.Cost.{IsMostOfLookUp, depth}
+use Rattle.cow_arena.proofs.RisesLaws.{rises-parent, rises-reach, rises-on, reach-then, above-hidden}
 use Rattle.cow_split.proofs.CostLaws.{depth-up, depth-some}
 use Rattle.cow_split.proofs.ClimbLaws.{IsClimbing, climb-start, climb-past}
-use Rattle.cow_split.proofs.OthersLaws.{reach-joined}
-use Rattle.cow_jump.specs.declared.jumps.Jump.{Jump}
 use Rattle.cow_jump.specs.declared.jumps.Place.{Place}
-use Rattle.cow_jump.specs.declared.jumps.JumpTable.{JumpTable}
-use Rattle.cow_jump.specs.Jumps.{jump_in, serial_in, IsCurrentJump, IsJump, AreJumps}
-use Rattle.cow_jump.specs.inside.Table.{IsNewJump, IsServedByJump, IsGiven}
 
 -- what is not clear of two words is not clear of either
 either-clear : (a b i : ℕ) → bit_at (bit_or a b) i ≡ 0 → (bit_at a i ≡ 0) × (bit_at b i ≡ 0)
@@ -71,6 +59,16 @@ turned-clear pages shift by is p clear =
     (ap (λ s. bit_at (bit_or (pages / 2 ^ s) (pages * 2 ^ ((64 - s) % 64) % 2 ^ 64)) (p % 64)) (sym small) ∙ clear)
 
 -- ---- jumps
+
+-- Node i has the jump of node k: it sees no more pages than k did, and from each the jump leads to where it led, to a node that is there.
+pub jump-carried : (t u : Tree) (k i : ℕ) (jump : Jump) →
+    ((now : Node) → u.nodes i ≡ Some now → (node : Node) × (t.nodes k ≡ Some node) × (now.seen ≤ node.seen)) → (IsSome (t.nodes jump.to.0) → IsSome (u.nodes jump.to.0)) →
+    ((p : ℕ) (now : Node) → u.nodes i ≡ Some now → p < now.seen → Rises t k p jump.side jump.to.0 (p + jump.shift) →
+    Rises u i p jump.side jump.to.0 (p + jump.shift)) → IsJump t k jump → IsJump u i jump
+jump-carried t u k i jump was stays rises is = record {
+  there = λ now at some. let it = was now at in stays (is.there it.0 it.1 (omega (arith, it.2)));
+  rises = λ p now at inside below clear. let it = was now at in rises p now at inside (is.rises p it.0 it.1 (omega (arith, it.2)) below clear);
+}
 
 module _ (t : Tree) where
   -- the step to the parent
@@ -165,7 +163,7 @@ module _ (t : Tree) (f : IsForest t.nodes t.lists) where
   way-joined : (k p : ℕ) (from : Option Side) (h q : ℕ) (side : Side) (g r : ℕ) → Arrives t k p from h q → Reaches t h q side g r → Reaches t k p side g r
   way-joined k p None h q side g r way on =
       subst (λ i. Reaches t i p side g r) (sym way.0) (subst (λ x. Reaches t h x side g r) (sym way.1) on)
-  way-joined k p (Some s) h q side g r way on = reach-joined t k p s h q side g r way on
+  way-joined k p (Some s) h q side g r way on = reach-then t k p s h q side g r way on
 
   -- one look-up more, and a node less at least
   look_cost : (rows most steps now up down total : ℕ) → IsMostOfLookUp rows most → 2 ^ (now - steps) ≤ (rows + 1) ^ 2 → up + 1 ≤ down →
@@ -296,25 +294,13 @@ empty-jumps t next table some none numbers = record {
   serials = λ k. let is = numbers k in omega arith;
 }
 
--- ---- a walk by jumps
-
 -- ---- the list of jumps
 
--- a place more, without a jump
-pub jump-pushed : (xs ys : List (Option Jump)) (k : ℕ) → ys ≡ xs ++ None ∷ [] → slice_index_or ys k None ≡ slice_index_or xs k None
-jump-pushed xs ys k is = ap (λ zs. slice_index_or zs k None) is ∙ more xs k
+-- a place more, with what a place without anything reads as
+pub place-pushed : {A : Type 0} (none : A) (xs ys : List A) (k : ℕ) → ys ≡ xs ++ none ∷ [] → slice_index_or ys k none ≡ slice_index_or xs k none
+place-pushed {A} none xs ys k is = ap (λ zs. slice_index_or zs k none) is ∙ more xs k
   where
-    more : (xs : List (Option Jump)) (k : ℕ) → slice_index_or (xs ++ None ∷ []) k None ≡ slice_index_or xs k None
-    more [] zero = refl
-    more [] (suc k) = refl
-    more (x ∷ xs) zero = refl
-    more (x ∷ xs) (suc k) = more xs k
-
--- a place more, without a serial number
-pub serial-pushed : (xs ys : List ℕ) (k : ℕ) → ys ≡ xs ++ 0 ∷ [] → slice_index_or ys k 0 ≡ slice_index_or xs k 0
-serial-pushed xs ys k is = ap (λ zs. slice_index_or zs k 0) is ∙ more xs k
-  where
-    more : (xs : List ℕ) (k : ℕ) → slice_index_or (xs ++ 0 ∷ []) k 0 ≡ slice_index_or xs k 0
+    more : (xs : List A) (k : ℕ) → slice_index_or (xs ++ none ∷ []) k none ≡ slice_index_or xs k none
     more [] zero = refl
     more [] (suc k) = refl
     more (x ∷ xs) zero = refl

@@ -1,15 +1,10 @@
 -- The jumps stay right where rows go, and where a VMO's node gets rows.
-use Rattle.std.proofs.Common.{◌≡◌, ◌+◌, ℕ, Option, None, Some, sym, subst, ◌∙◌, arith, inl, inr, ◌<◌}
-use Rattle.cow_arena.specs.declared.node.Node.{Node}
-use Rattle.cow_arena.specs.Nodes.{Nodes, IsVisible}
-use Rattle.cow_arena.specs.Walk.{Tree, Slots}
-use Rattle.cow_arena.specs.Forest.{IsForest}
-use Rattle.cow_arena.specs.Ways.{KeepsBare, IsPartOf}
+use Rattle.cow_jump.proofs.Words.{◌≡◌, ◌+◌, ℕ, Option, None, Some, sym, subst, ◌∙◌, arith, inl, inr, ◌<◌, Nodes, IsVisible, Tree, Slots}
+use Rattle.cow_jump.proofs.Words.{KeepsBare, IsPartOf, serial_in, IsCurrentJump, IsJump, AreJumps, MayJump, ArePairRetired, Node, IsForest}
+use Rattle.cow_jump.proofs.Words.{Jump, JumpTable}
 use Rattle.cow_arena.proofs.RisesLaws.{rises-bare}
 use Rattle.cow_split.proofs.PartLaws.{bare-part}
-use Rattle.cow_jump.specs.declared.jumps.Jump.{Jump}
-use Rattle.cow_jump.specs.declared.jumps.JumpTable.{JumpTable}
-use Rattle.cow_jump.specs.Jumps.{serial_in, IsCurrentJump, IsJump, AreJumps, MayJump, ArePairRetired}
+use Rattle.cow_jump.proofs.JumpLaws.{jump-carried}
 
 -- the same tree has the same jumps
 pub jumps-alike : (t u : Tree) (next : ℕ) (table : JumpTable) → t ≡ u → AreJumps t next table → AreJumps u next table
@@ -17,11 +12,8 @@ jumps-alike t u next table same are = subst (λ (x : Tree). AreJumps x next tabl
 
 pub jump-bare : (t : Tree) (f : IsForest t.nodes t.lists) (slots : Slots) (v : ℕ) (leaf : Node) (visible : IsVisible t.nodes v leaf) →
     KeepsBare t.slots slots leaf.list.0 → (k : ℕ) (jump : Jump) → IsJump t k jump → IsJump (record { nodes = t.nodes; slots = slots; lists = t.lists }) k jump
-jump-bare t f slots v leaf visible keeps k jump is = record {
-  there = is.there;
-  rises = λ p node at inside below clear.
-      rises-bare t f slots v leaf visible keeps k p jump.side jump.to.0 (p + jump.shift) (is.rises p node at inside below clear);
-}
+jump-bare t f slots v leaf visible keeps k jump = jump-carried t _ k k jump (λ node at. (node, at, omega arith)) (λ some. some)
+    (λ p node at inside. rises-bare t f slots v leaf visible keeps k p jump.side jump.to.0 (p + jump.shift))
 
 pub jumps-bare : (t : Tree) (f : IsForest t.nodes t.lists) (slots : Slots) (v : ℕ) (leaf : Node) (visible : IsVisible t.nodes v leaf) →
     KeepsBare t.slots slots leaf.list.0 → (next : ℕ) (table : JumpTable) → AreJumps t next table →

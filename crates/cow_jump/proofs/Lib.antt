@@ -1,2 +1,3 @@
+pub mod Words
 pub mod JumpLaws
 pub mod JumpRowLaws

@@ -1,40 +1,17 @@
 -- The way down from the sibling: whoever it comes to, and what is cut off on the way.
-use Rattle.std.proofs.Common.{◌≡◌, ◌≢◌, ℕ, ◌+◌, ◌-◌, ◌<◌, ◌≤◌, ◌^◌, false, Option, None, Some, inl, inr, IsSomeAnd}
-use Rattle.std.proofs.Common.{refl, sym, ap, subst, ◌∙◌, arith}
-use Rattle.std.specs.Prelude.{is_some}
-use Rattle.std.proofs.lemmas.Bool.{cases_eq, cases_lt}
-use Rattle.balanced_tree.specs.Rows.{Rows}
-use Rattle.balanced_tree.specs.Pairs.{IsNext}
-use Rattle.vm_base.specs.declared.names.Koid.{Koid}
-use Rattle.vm_base.proofs.EntryLaws.{some_same}
-use Rattle.page_list.specs.declared.row.Row.{Row}
-use Rattle.page_list.specs.declared.row.Slot.{Slot}
-use Rattle.page_list.specs.Lists.{slots_of}
-use Rattle.frame_pool.specs.Pool.{Pool, is_taken}
-use Rattle.cow_arena.specs.declared.node.Node.{Node}
-use Rattle.cow_arena.specs.declared.node.NodeId.{NodeId}
-use Rattle.cow_arena.specs.declared.node.Side.{Side}
-use Rattle.cow_arena.specs.declared.node.Side.TheVariants as side
-use Rattle.cow_arena.specs.Nodes.{Arena, nodes_of, link_to, other_side, side_of, side_in, child_on}
-use Rattle.cow_arena.specs.Forest.{IsForest, HasPair}
-use Rattle.cow_arena.specs.Walk.{Tree, walk, frame_shown}
-use Rattle.cow_arena.specs.Ways.{HasRow, Climbs, Reaches, Arrives}
+use Rattle.cow_merge.proofs.Words.{◌≡◌, ◌≢◌, ℕ, ◌+◌, ◌-◌, ◌<◌, ◌≤◌, ◌^◌, Bool, false, Option, None, Some, inl, inr, IsSomeAnd, refl, sym}
+use Rattle.cow_merge.proofs.Words.{ap, subst, ◌∙◌, arith, is_some, cases_eq, cases_lt, Rows, IsNext, Koid, some_same, Row, Slot, slots_of}
+use Rattle.cow_merge.proofs.Words.{Pool, is_taken, Node, NodeId, Side, Arena, nodes_of, link_to, other_side, side_of, side_in, child_on}
+use Rattle.cow_merge.proofs.Words.{IsForest, HasPair, Tree, walk, frame_shown, HasRow, Climbs, Reaches, Arrives, IsPartOf, Holder, tree_of}
+use Rattle.cow_merge.proofs.Words.{holder_of, IsPage, IsExact, Way, IsFamilyOf, no_pages, CameTo, IsPassing, IsOnlyWay, HasCutOff}
+use Rattle.cow_merge.proofs.Words.{ComesNotTo, IsExactFor, Moves, IsWayWithin, IsEntered, ComesBeside, IsBeside, SeesRowOf, ShowsOnlyOf}
 use Rattle.cow_arena.proofs.ReachLaws.{reach-apart, reach-deeper, reach-once, reach-hidden, side-is, arrives-on}
-use Rattle.cow_split.specs.declared.answers.Holder.{Holder}
-use Rattle.cow_split.specs.declared.answers.Holder.TheVariants as holder
-use Rattle.cow_split.specs.Trees.{tree_of, holder_of}
-use Rattle.cow_split.specs.Sight.{IsPage}
 use Rattle.cow_split.proofs.CutLaws.{cut-nothing}
 use Rattle.cow_split.proofs.HolderLaws.{held-row, held-way, own-cut, nothing-cut}
-use Rattle.cow_split.proofs.RowLaws.{left_out-in_sight}
 use Rattle.cow_split.proofs.PartLaws.{part-none}
-use Rattle.cow_merge.specs.declared.witness.Way.{Way}
-use Rattle.cow_merge.specs.inside.Lifting.{IsFamilyOf}
-use Rattle.cow_merge.specs.Ranges.{no_pages, CameTo, IsSpared, IsPassing, IsOnlyWay, IsCutOr, ComesNotTo, HasLeftPageOut, IsExactFor, KeepsList, KeepsOthers, HasLost, HasKept}
-use Rattle.cow_merge.specs.inside.Witness.{IsWayWithin, IsEntered, ComesBeside, IsBeside, SeesRowOf, ShowsOnlyOf}
 use Rattle.cow_arena.proofs.SpliceWalkLaws.{family-parent}
 use Rattle.cow_merge.proofs.LiftedLaws.{family-other}
-use Rattle.cow_merge.proofs.RangeLaws.{arrives-part, kept-same, bare-kept, bare-lost, bare-more, lost-kept}
+use Rattle.cow_merge.proofs.RangeLaws.{arrives-part, cut-spared, cut-was, cut-here, cut-lost, bare-cut}
 use Rattle.cow_merge.proofs.PassingLaws.{spared-stays, came-on}
 
 -- ---- the way down
@@ -125,32 +102,6 @@ module _ {arena : Arena} {mid : Rows Row} (new : Rows Row) {between : Pool} (aft
     ]
   ]
 
-  beside-out : HasLeftPageOut arena mid new between after v own → IsBeside arena new after v first spared h above base to s way (page + 1)
-  beside-out step =
-      let out = was.bare.has.out in
-      record {
-        bare = bare-more was.bare step (omega (arith, low));
-        parent = was.parent;
-        at = was.at;
-        place = was.place;
-        came = λ q tag start below sight shown.
-            let parts = left_out-in_sight out v own v q sight in
-            let apart : q ≢ own = λ same. parts.0 (refl, same) in
-            let there : IsPage (tree_of arena mid) v q = record { node = was.bare.has.node; visible = was.bare.has.visible; below = below } in
-            let showed = sym (step.shows out was.bare.has.exact was.bare.has.only v q there sight) ∙ shown in
-            elim (was.came q tag start below parts.1 showed) [
-              | inl held ↦ inl (spared-stays arena mid new v was.bare.has.node was.bare.has.visible out (is_taken between) was.bare.has.exact step.part
-                  spared q tag was.parent (was.bare.bare q start) showed shown held)
-              | inr it ↦ inr (record {
-                came = came-on it.came step.part (λ less. part-none (slots_of mid) (slots_of new) step.part above.list.0 it.came.page (it.came.free less));
-                beside = λ p is start less.
-                    arrives-part (tree_of arena mid) (slots_of new) step.part was.place.e (was.place.node.first + p) was.place.from h (q + base) (it.beside p is start less);
-                free = λ p is start less.
-                    part-none (slots_of mid) (slots_of new) step.part was.place.node.list.0 p (still-free q tag apart it p is start less);
-              })
-            ];
-      }
-
   -- a page that sees a row of the parent does not come to a page of it that has none
   not-seen : (q : ℕ) → q ≡ own → CameTo (tree_of arena mid) v q no_pages h above.list.0 base to to → SeesRowOf (tree_of arena mid) v own h → ⊥
   not-seen q is came sees = by_side came.side (subst (λ x. Arrives t v x came.side h came.page) is came.way)
@@ -163,9 +114,7 @@ module _ {arena : Arena} {mid : Rows Row} (new : Rows Row) {between : Pool} (aft
 
       by_side : (side : Option Side) → Arrives t v own side h came.page → ⊥
       by_side None way =
-          let deeper = reach-deeper t f v own sees.side h sees.page sees.way in
-          let same = ap f.rank way.0 in
-          absurd (omega arith)
+          absurd (omega (arith, reach-deeper t f v own sees.side h sees.page sees.way, ap f.rank way.0))
       by_side (Some u) way =
           let apart = (reach-apart t f v own u h came.page own sees.side sees.page way sees.way).0 in
           let page : came.page ≡ sees.page = omega arith in
@@ -174,36 +123,34 @@ module _ {arena : Arena} {mid : Rows Row} (new : Rows Row) {between : Pool} (aft
           ap (t.slots above.list.0) page ∙ (ap (λ (n : Node). t.slots n.list.0 sees.page) (sym node) ∙ sees.row.row) in
           absurd (let none = came.free came.below in cc)
 
-  beside-left : HasKept mid new between after × ShowsOnlyOf (tree_of arena mid) v own h → IsBeside arena new after v first spared h above base to s way (page + 1)
-  beside-left left =
-      let kept = left.0 in
-      record {
-        bare = bare-kept was.bare kept;
-        parent = was.parent;
-        at = was.at;
-        place = was.place;
-        came = λ q tag start below sight shown.
-            let showed : frame_shown (tree_of arena mid) v q ≡ Some tag
-            = ap (λ s. frame_shown (record (tree_of arena mid) { slots = s }) v q) (sym kept.rows) ∙ shown in
-            elim (was.came q tag start below sight showed) [
-              | inl held ↦ inl (subst (λ s. IsSpared (nodes_of arena) s spared was.bare.has.node q) (sym kept.rows) held)
-              | inr it ↦ inr (subst
-                  (λ r. ComesBeside (record (tree_of arena mid) { slots = r }) v q h above.list.0 base to was.place.e was.place.node was.place.from way (page + 1)) (sym kept.rows)
-                  (elim (cases_eq q own) [
-                    | inl same ↦ absurd (not-seen q same it.came (left.1 tag (ap (frame_shown (tree_of arena mid) v) (sym same) ∙ showed)))
-                    | inr apart ↦ record { came = it.came; beside = it.beside; free = still-free q tag apart it }
-                  ]))
-            ];
-      }
+  module _ (step : HasCutOff arena mid new between after v own (ShowsOnlyOf (tree_of arena mid) v own h) was.bare.has.out) where
+    pub beside-lost : Moves arena mid new between after v first IsPartOf
+    beside-lost = cut-lost step (omega (arith, low)) was.bare.has.only was.bare.within
 
-  pub beside-cut : IsCutOr arena mid new between after v own (ShowsOnlyOf (tree_of arena mid) v own h) → IsBeside arena new after v first spared h above base to s way (page + 1)
-  beside-cut cut = elim cut [ inl out ↦ beside-out out | inr left ↦ beside-left left ]
-
-  pub beside-lost : IsCutOr arena mid new between after v own (ShowsOnlyOf (tree_of arena mid) v own h) → HasLost arena mid new between after v first
-  beside-lost cut = elim cut [
-    | inl out ↦ bare-lost was.bare out (omega (arith, low))
-    | inr left ↦ lost-kept left.0
-  ]
+    pub beside-cut : IsBeside arena new after v first spared h above base to s way (page + 1)
+    beside-cut = record {
+      bare = bare-cut was.bare step (omega (arith, low));
+      parent = was.parent;
+      at = was.at;
+      place = was.place;
+      came = λ q tag start below sight shown.
+          let there : IsPage (tree_of arena mid) v q = record { node = was.bare.has.node; visible = was.bare.has.visible; below = below } in
+          let showed = sym (step.shows v q there sight) ∙ shown in
+          elim (was.came q tag start below (cut-was step v q sight) showed) [
+            | inl held ↦ inl (spared-stays arena mid new v was.bare.has.node was.bare.has.visible was.bare.has.out (is_taken between) was.bare.has.exact step.part
+                spared q tag was.parent (was.bare.bare q start) showed shown held)
+            | inr it ↦
+                let apart : q ≢ own = λ same.
+                not-seen q same it.came (cut-here step q sight same tag (ap (frame_shown (tree_of arena mid) v) (sym same) ∙ showed)) in
+                inr (record {
+                  came = came-on it.came step.part (λ less. part-none (slots_of mid) (slots_of new) step.part above.list.0 it.came.page (it.came.free less));
+                  beside = λ p is start less.
+                      arrives-part (tree_of arena mid) (slots_of new) step.part was.place.e (was.place.node.first + p) was.place.from h (q + base) (it.beside p is start less);
+                  free = λ p is start less.
+                      part-none (slots_of mid) (slots_of new) step.part was.place.node.list.0 p (still-free q tag apart it p is start less);
+                })
+          ];
+    }
 
 -- no row is left on this node
 pub beside-end : {arena : Arena} {new : Rows Row} {after : Pool} {v first : ℕ} {spared : Option NodeId} {h : ℕ} {above : Node} {base to : ℕ}
@@ -230,24 +177,24 @@ beside-end {arena} {new} {after} {v} {first} {spared} {h} {above} {base} {to} {s
 module _ {arena : Arena} {old : Rows Row} {pool : Pool} {v : ℕ} (p h : ℕ) (has : IsExactFor arena old pool v) (bare : slots_of old has.node.list.0 p ≡ None)
     (found : Holder) (is : found ≡ holder_of (walk (tree_of arena old) v p)) where
   no-frame : (it : Holder) → it ≡ holder_of (walk (tree_of arena old) v p) →
-      ((node : NodeId) (page : ℕ) (side : Side) (slot : Slot) → it ≡ holder.Above node page side slot → ⊥) → (tag : ℕ) →
+      ((node : NodeId) (page : ℕ) (side : Side) (slot : Slot) → it ≡ Holder.Above node page side slot → ⊥) → (tag : ℕ) →
       frame_shown (tree_of arena old) v p ≡ Some tag → ⊥
-  no-frame (holder.Above node page side slot) e none tag shown = none node page side slot refl
-  no-frame (holder.Own row) e none tag shown =
+  no-frame (Holder.Above node page side slot) e none tag shown = none node page side slot refl
+  no-frame (Holder.Own row) e none tag shown =
       let after = own-cut (tree_of arena old) v p row e in
       let nothing = (cut-nothing (tree_of arena old) has.exact.forest v p has.node has.visible bare).0 (sym after.1) in
       absurd (cc)
-  no-frame holder.Nothing e none tag shown =
+  no-frame Holder.Nothing e none tag shown =
       let after = nothing-cut (tree_of arena old) v p e in
       let nothing = (cut-nothing (tree_of arena old) has.exact.forest v p has.node has.visible bare).0 (sym after.1) in
       absurd (cc)
 
   -- no row is seen
-  pub page-nothing : ((node : NodeId) (page : ℕ) (side : Side) (slot : Slot) → found ≡ holder.Above node page side slot → ⊥) →
-      IsCutOr arena old old pool pool v p (ShowsOnlyOf (tree_of arena old) v p h)
-  page-nothing none = inr (kept-same, λ tag shown. absurd (no-frame found is none tag shown))
+  pub page-nothing : ((node : NodeId) (page : ℕ) (side : Side) (slot : Slot) → found ≡ Holder.Above node page side slot → ⊥) →
+      (out : ℕ → ℕ → Bool) → IsExact (tree_of arena old) out (is_taken pool) → HasCutOff arena old old pool pool v p (ShowsOnlyOf (tree_of arena old) v p h) out
+  page-nothing none out exact = cut-spared exact (λ tag shown. absurd (no-frame found is none tag shown))
 
-  module _ {node : NodeId} {page : ℕ} {side : Side} {slot : Slot} (above_is : found ≡ holder.Above node page side slot) where
+  module _ {node : NodeId} {page : ℕ} {side : Side} {slot : Slot} (above_is : found ≡ Holder.Above node page side slot) where
     pub page-way : Reaches (tree_of arena old) v p side node.0 page
     page-way = held-way (tree_of arena old) has.exact.forest v p node page side slot (sym above_is ∙ is)
 
@@ -264,25 +211,30 @@ module _ {arena : Arena} {old : Rows Row} {pool : Pool} {v : ℕ} (p h : ℕ) (h
         subst (λ (n : Node). n.koid ≡ None) (some_same (sym it.1 ∙ at)) it.2
 
     -- the parent's row is seen
-    pub page-parent : node.0 ≡ h → IsCutOr arena old old pool pool v p (ShowsOnlyOf (tree_of arena old) v p h)
-    page-parent same = inr (
-      kept-same,
-      λ tag shown. record {
-        side = side;
-        page = page;
-        slot = slot;
-        way = subst (λ i. Reaches (tree_of arena old) v p side i page) same page-way;
-        row = subst (λ i. HasRow (tree_of arena old) i page slot) same page-row;
-      },
-    )
+    pub page-parent : node.0 ≡ h → (out : ℕ → ℕ → Bool) → IsExact (tree_of arena old) out (is_taken pool) →
+        HasCutOff arena old old pool pool v p (ShowsOnlyOf (tree_of arena old) v p h) out
+    page-parent same out exact = cut-spared exact (λ tag shown. record {
+      side = side;
+      page = page;
+      slot = slot;
+      way = subst (λ i. Reaches (tree_of arena old) v p side i page) same page-way;
+      row = subst (λ i. HasRow (tree_of arena old) i page slot) same page-row;
+    })
 
     -- a row further up is
-    pub page-other : (new : Rows Row) (after : Pool) → IsCutOr arena old new pool after v p (ComesNotTo (tree_of arena old) v p node.0 page) →
-        IsCutOr arena old new pool after v p (ShowsOnlyOf (tree_of arena old) v p h)
-    page-other new after passed = elim passed [ inl out ↦ inl out | inr kept ↦ absurd (kept.1 (Some side) page-way) ]
+    pub page-other : (new : Rows Row) (after : Pool) (out : ℕ → ℕ → Bool) → HasCutOff arena old new pool after v p (ComesNotTo (tree_of arena old) v p node.0 page) out →
+        HasCutOff arena old new pool after v p (ShowsOnlyOf (tree_of arena old) v p h) out
+    page-other new after out passed = record {
+      now = passed.now;
+      leaves = elim passed.leaves [ inl more ↦ inl more | inr kept ↦ absurd (kept.1 (Some side) page-way) ];
+      exact = passed.exact;
+      shows = passed.shows;
+      part = passed.part;
+      accounts = passed.accounts;
+    }
 
-    pub page-keeps : (new : Rows Row) → node.0 ≢ h → ((at : Node) → nodes_of arena node.0 ≡ Some at → KeepsOthers old new at.list.0) → (above : Node) →
-        nodes_of arena h ≡ Some above → KeepsList old new above.list.0
+    pub page-keeps : (new : Rows Row) → node.0 ≢ h → ((at : Node) → nodes_of arena node.0 ≡ Some at → (l : ℕ) → l ≢ at.list.0 → slots_of new l ≡ slots_of old l) →
+        (above : Node) → nodes_of arena h ≡ Some above → slots_of new above.list.0 ≡ slots_of old above.list.0
     page-keeps new apart others above at =
         others page-row.node page-row.at above.list.0
         (λ same. apart (sym (has.exact.forest.by.own h node.0 above page-row.node at page-row.at same)))
@@ -361,8 +313,8 @@ module _ (arena : Arena) (f : IsForest (nodes_of arena) arena.lists) (h : ℕ)
   pair-of = f.by.pairs h above at no-koid
 
   pub both-there : (s : Side) → child_on above s ≡ None → ⊥
-  both-there side.Left none = let pair = pair-of.left_is in absurd (cc)
-  both-there side.Right none = let pair = pair-of.right_is in absurd (cc)
+  both-there Side.Left none = let pair = pair-of.left_is in absurd (cc)
+  both-there Side.Right none = let pair = pair-of.right_is in absurd (cc)
 
 pub no-koid_of : (o : Option Koid) → is_some o ≡ false → o ≡ None
 no-koid_of None e = refl

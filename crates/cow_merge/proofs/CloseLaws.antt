@@ -1,42 +1,25 @@
 -- A VMO's node goes, whose pages are all out of sight: alone, or with its parent, whose rows were lifted into the sibling.
-use Rattle.std.proofs.Common.{◌≡◌, ◌≢◌, ◌⊎◌, ℕ, ◌+◌, ◌<◌, Bool, Option, None, Some, inl, inr, IsSome, IsSomeAnd}
-use Rattle.std.proofs.Common.{refl, sym, ap, subst, ◌∙◌, arith}
-use Rattle.std.specs.Prelude.{is_none, is_some}
-use Rattle.std.specs.Option.{option_map}
-use Rattle.std.proofs.lemmas.Bool.{cases_eq}
-use Rattle.balanced_tree.specs.Rows.{Rows}
-use Rattle.vm_base.specs.Entries.{without_key}
-use Rattle.vm_base.proofs.EntryLaws.{some_same, some_is, without_key-same}
-use Rattle.page_list.specs.declared.row.Row.{Row}
-use Rattle.page_list.specs.Lists.{slots_of}
-use Rattle.frame_pool.specs.Pool.{Pool, is_taken}
-use Rattle.cow_arena.specs.declared.node.Node.{Node}
-use Rattle.cow_arena.specs.declared.node.NodeId.{NodeId}
-use Rattle.cow_arena.specs.Nodes.{Arena, Nodes, nodes_of, IsVisible, AreFamily, link_to, other_side, side_of, sibling_in}
-use Rattle.cow_arena.specs.Walk.{Slots, Tree, tree_with, frame_shown}
-use Rattle.cow_arena.specs.Forest.{IsForest, IsChild}
-use Rattle.cow_arena.specs.Changes.{spliced, spliced_over}
-use Rattle.cow_arena.specs.Renamed.{exchanged, renamed_node, renamed, IsExchange}
-use Rattle.cow_arena.specs.Counts.{visible_count}
+use Rattle.cow_merge.proofs.Words.{◌≡◌, ◌≢◌, ◌⊎◌, ℕ, ◌<◌, Bool, Option, None, Some, inl, inr, IsSome, IsSomeAnd, refl, sym, ap, subst}
+use Rattle.cow_merge.proofs.Words.{◌∙◌, arith, is_none, is_some, option_map, cases_eq, Rows, without_key, some_same, some_is}
+use Rattle.cow_merge.proofs.Words.{without_key-same, Row, slots_of, Pool, is_taken, Node, NodeId, Arena, Nodes, nodes_of, IsVisible}
+use Rattle.cow_merge.proofs.Words.{AreFamily, link_to, other_side, side_of, sibling_in, Slots, Tree, tree_with, frame_shown, IsForest}
+use Rattle.cow_merge.proofs.Words.{IsChild, spliced, spliced_over, exchanged, renamed_node, renamed, IsExchange, tree_of}
+use Rattle.cow_merge.proofs.Words.{IsPage, ShowsSame, IsExact, IsOnlyOf, all_in_sight, leaving_range, IsAllOut, IsLeftOut, Moves, Accounts}
+use Rattle.cow_merge.proofs.Words.{IsNotFrom, IsFamilyOf, IsHandingOver, WasThere, HasListOfParent, WasUnder, KeepsPages, HasGone, StaysVisible}
 use Rattle.cow_arena.proofs.WalkLaws.{link_same}
 use Rattle.cow_arena.proofs.ReachLaws.{child-there}
 use Rattle.cow_arena.proofs.SpliceForestLaws.{spliced_by}
 use Rattle.cow_arena.proofs.RenamedLaws.{renamed-at, renamed-each, frame-renamed}
 use Rattle.cow_arena.proofs.RenamedOverLaws.{over-exchange, over-renamed_at, over-lists, tree-over}
 use Rattle.cow_split.proofs.RenamedExactLaws.{page-renamed, exact-renamed}
-use Rattle.cow_split.specs.Trees.{tree_of}
-use Rattle.cow_split.specs.Sight.{IsPage, ShowsSame}
-use Rattle.cow_split.specs.Exact.{IsExact, IsOnlyOf, all_in_sight}
-use Rattle.cow_merge.specs.Ranges.{leaving_range, IsAllOut, IsLeftOut, Moves, Accounts, IsNotFrom}
-use Rattle.cow_merge.specs.inside.Lifting.{IsFamilyOf}
-use Rattle.cow_merge.specs.inside.HandingOver.{HasHandedOver}
-use Rattle.cow_merge.specs.Merging.{WasThere, HasListOfParent, HasClosed}
-use Rattle.cow_split.specs.Sight.{StaysVisible}
 use Rattle.cow_merge.proofs.CountLaws.{outside-other}
-use Rattle.cow_merge.proofs.SpliceLaws.{IsWithout, without-page, without-showed, without-stays, without-no_more, family-apart, spliced-kept, spliced-gone, spliced-parent_gone, spliced-without, exact-spliced, removed_root-without, exact-removed_root}
+use Rattle.cow_merge.proofs.SpliceLaws.{IsWithout, without-page, without-showed, without-stays, without-no_more, family-apart, spliced-kept}
+use Rattle.cow_merge.proofs.SpliceLaws.{spliced-gone, spliced-parent_gone, spliced-without, exact-spliced, removed_root-without}
+use Rattle.cow_merge.proofs.SpliceLaws.{exact-removed_root}
 use Rattle.cow_merge.proofs.PassingLaws.{inside-range}
 use Rattle.cow_merge.proofs.ShrinkLaws.{tree-now}
 use Rattle.cow_merge.proofs.LiftedLaws.{lifted-exact}
+use Rattle.cow_merge.proofs.ParentLaws.{parents-removed, parents-spliced, parents-over}
 use Rattle.cow_split.proofs.CutLaws.{page-over}
 
 -- ---- all pages are out of sight
@@ -116,24 +99,22 @@ gone-renamed name old new in_use v exchange was = record {
 closed-by : (arena new : Arena) (rows late : Rows Row) (before after : Pool) (v : ℕ) (u : Tree) → tree_of new late ≡ u →
     IsGoneFrom (tree_of arena rows) u (is_taken after) v →
     ((k : ℕ) (was now : Node) → nodes_of arena k ≡ Some was → u.nodes k ≡ Some now → (now.list ≡ was.list) ⊎ HasListOfParent (nodes_of arena) v k now) →
-    new.lists ≡ arena.lists → visible_count new + 1 ≡ visible_count arena → Accounts rows late before after →
-    HasClosed arena new rows late before after v
-closed-by arena new rows late before after v u is was own_lists lists shown accounts =
-    let it = subst (λ (x : Tree). IsGoneFrom (tree_of arena rows) x (is_taken after) v) (sym is) was in
-    record {
-      exact = it.exact;
-      gone = it.gone;
-      stays = it.stays;
-      no_more = it.no_more;
-      came = it.came;
-      own_lists = λ k was now at there. own_lists k was now at (ap (λ (x : Tree). x.nodes k) (sym is) ∙ there);
-      parent_gone = it.parent_gone;
-      beside = it.beside;
-      lists = lists;
-      visible = omega (arith, shown);
-      shows = it.shows;
-      accounts = accounts;
-    }
+    ((k h : ℕ) (now : Node) → nodes_of new k ≡ Some now → now.parent ≡ link_to h → WasUnder (nodes_of arena) k h now) → new.lists ≡ arena.lists →
+    Accounts rows late before after → KeepsPages arena new rows late before after × HasGone (nodes_of arena) (nodes_of new) v
+closed-by arena new rows late before after v u is was own_lists parents lists accounts =
+    let it = subst (λ (x : Tree). IsGoneFrom (tree_of arena rows) x (is_taken after) v) (sym is) was in (
+      record { exact = it.exact; lists = lists; shows = it.shows; accounts = accounts },
+      record {
+        gone = it.gone;
+        stays = it.stays;
+        no_more = it.no_more;
+        came = it.came;
+        own_lists = λ k was now at there. own_lists k was now at (ap (λ (x : Tree). x.nodes k) (sym is) ∙ there);
+        parent_gone = it.parent_gone;
+        beside = it.beside;
+        parents = parents;
+      },
+    )
 
 -- each node that is left has its list
 kept-list : (t : Tree) (nodes : Nodes) (v : ℕ) → IsWithout t (record t { nodes = nodes }) v → (k : ℕ) (was now : Node) → t.nodes k ≡ Some was →
@@ -144,9 +125,9 @@ kept-list t nodes v without k was now at there =
 
 -- the node has no parent
 pub closed-root : (arena new : Arena) (rows late : Rows Row) (before after : Pool) (v : ℕ) (node : Node) → IsVisible (nodes_of arena) v node →
-    node.parent ≡ None → IsLeftOut arena late after v node 0 → Moves arena rows late before after v 0 → nodes_of new ≡ without_key (nodes_of arena) v → new.lists ≡ arena.lists →
-    visible_count new + 1 ≡ visible_count arena → IsForest (nodes_of new) new.lists → HasClosed arena new rows late before after v
-closed-root arena new rows late before after v node visible root left moves is lists shown forest =
+    node.parent ≡ None → IsLeftOut arena late after v node 0 → {Keeps : Slots → Slots → Type 0} → Moves arena rows late before after v 0 Keeps → nodes_of new ≡ without_key (nodes_of arena) v → new.lists ≡ arena.lists →
+    IsForest (nodes_of new) new.lists → KeepsPages arena new rows late before after × HasGone (nodes_of arena) (nodes_of new) v
+closed-root arena new rows late before after v node visible root left {Keeps} moves is lists forest =
     let t : Tree = tree_of arena late in
     let f = left.exact.forest in
     let g : IsForest (without_key (nodes_of arena) v) arena.lists =
@@ -160,7 +141,7 @@ closed-root arena new rows late before after v node visible root left moves is l
     (exact-removed_root t f v node visible g (leaving_range all_in_sight v 0 node.count) (is_taken after)
     (λ p. left.bare p (omega arith)) left.exact (out-only v node) (out-all arena (slots_of late) v node visible))
     (λ w q page apart. moves.shows w q (page-over t (slots_of rows) w q page) (λ same. absurd (apart same))))
-    (kept-list t (without_key (nodes_of arena) v) v without) lists shown moves.accounts
+    (kept-list t (without_key (nodes_of arena) v) v without) (parents-removed (nodes_of arena) (nodes_of new) v is) lists moves.accounts
 
 -- The node and its parent go: all its pages are out of sight in the tree with these slots, in which neither has rows.
 module _ (arena : Arena) (rows : Rows Row) (slots : Slots) (in_use : ℕ → Bool) (v h s : ℕ) (node parent sibling : Node)
@@ -201,33 +182,33 @@ module _ (arena : Arena) (rows : Rows Row) (slots : Slots) (in_use : ℕ → Boo
 -- the sibling keeps its list
 pub closed-spliced : (arena new : Arena) (rows late : Rows Row) (before after : Pool) (v h s : ℕ) (node parent sibling : Node)
     (visible : IsVisible (nodes_of arena) v node) (family : AreFamily (nodes_of arena) v h s node parent sibling)
-    (left : IsLeftOut arena late after v node 0) → Moves arena rows late before after v 0 → ((p : ℕ) → slots_of late parent.list.0 p ≡ None) →
-    nodes_of new ≡ spliced (nodes_of arena) v h s parent sibling → new.lists ≡ arena.lists → visible_count new + 1 ≡ visible_count arena →
-    HasClosed arena new rows late before after v
-closed-spliced arena new rows late before after v h s node parent sibling visible family left moves empty is lists shown =
+    (left : IsLeftOut arena late after v node 0) {Keeps : Slots → Slots → Type 0} → Moves arena rows late before after v 0 Keeps → ((p : ℕ) → slots_of late parent.list.0 p ≡ None) →
+    nodes_of new ≡ spliced (nodes_of arena) v h s parent sibling → new.lists ≡ arena.lists →
+    KeepsPages arena new rows late before after × HasGone (nodes_of arena) (nodes_of new) v
+closed-spliced arena new rows late before after v h s node parent sibling visible family left {Keeps} moves empty is lists =
     let bare : (p : ℕ) → slots_of late node.list.0 p ≡ None = λ p. left.bare p (omega arith) in
     closed-by arena new rows late before after v (record (tree_of arena late) { nodes = spliced (nodes_of arena) v h s parent sibling })
     (tree-now arena new late (spliced (nodes_of arena) v h s parent sibling) is lists)
     (gone-spliced arena rows (slots_of late) (is_taken after) v h s node parent sibling visible family left.exact bare empty moves.shows)
     (kept-list (tree_of arena late) (spliced (nodes_of arena) v h s parent sibling) v
     (spliced-whole arena rows (slots_of late) (is_taken after) v h s node parent sibling visible family left.exact bare empty moves.shows))
-    lists shown moves.accounts
+    (parents-spliced (nodes_of arena) arena.lists left.exact.forest v h s node parent sibling family (nodes_of new) is) lists moves.accounts
 
 -- the sibling has the list of the parent
-pub closed-over : (arena new : Arena) (rows late : Rows Row) (before after : Pool) (v h s : ℕ) (it : HasHandedOver arena rows late before after v h s) →
+pub closed-over : (arena new : Arena) (rows late : Rows Row) (before after : Pool) (v h s : ℕ) (it : IsHandingOver arena rows late before after v h s None) →
     nodes_of new ≡ spliced_over (nodes_of arena) v h s it.of.parent it.of.sibling → new.lists ≡ arena.lists →
-    visible_count new + 1 ≡ visible_count arena → HasClosed arena new rows late before after v
-closed-over arena new rows late before after v h s it is lists shown =
+    KeepsPages arena new rows late before after × HasGone (nodes_of arena) (nodes_of new) v
+closed-over arena new rows late before after v h s it is lists =
     let f = it.lifted.exact.forest in
     let name = exchanged it.of.parent.list.0 it.of.sibling.list.0 in
     closed-by arena new rows late before after v
     (renamed name (tree_with (spliced (nodes_of arena) v h s it.of.parent it.of.sibling) arena.lists it.slots))
     (tree-now arena new late (spliced_over (nodes_of arena) v h s it.of.parent it.of.sibling) is lists
-    ∙ tree-over (nodes_of arena) arena.lists f.rank f.by v h s it.of.node it.of.parent it.of.sibling it.of.family it.slots (slots_of late) it.rows)
+    ∙ tree-over (nodes_of arena) arena.lists f.rank f.by v h s it.of.node it.of.parent it.of.sibling it.of.family it.slots (slots_of late) (λ l p. it.passed l p tt))
     (gone-renamed name (tree_of arena rows) (tree_with (spliced (nodes_of arena) v h s it.of.parent it.of.sibling) arena.lists it.slots) (is_taken after) v
     (over-exchange (nodes_of arena) arena.lists f.rank f.by v h s it.of.node it.of.parent it.of.sibling it.of.family)
     (gone-spliced arena rows it.slots (is_taken after) v h s it.of.node it.of.parent it.of.sibling it.of.visible it.of.family
-    (lifted-exact arena it.slots after v h s it.of it.lifted it.empty) it.lifted.bare it.empty it.shows))
+    (lifted-exact arena it.slots after v h s it.of it.lifted (λ p. it.empty p tt)) it.lifted.bare (λ p. it.empty p tt) it.shows))
     (λ k was now at there. elim (over-lists (nodes_of arena) arena.lists f.rank f.by v h s it.of.node it.of.parent it.of.sibling it.of.family k was now at
     (over-renamed_at (nodes_of arena) arena.lists f.rank f.by v h s it.of.node it.of.parent it.of.sibling it.of.family k ∙ there)) [
       | inl same ↦ inl same
@@ -240,7 +221,7 @@ closed-over arena new rows late before after v h s it is lists shown =
         list = own.1;
       })
     ])
-    lists shown it.accounts
+    (parents-over (nodes_of arena) arena.lists f v h s it.of.node it.of.parent it.of.sibling it.of.family (nodes_of new) is) lists it.accounts
 
 -- ---- what the code asks on the way
 
@@ -274,12 +255,6 @@ family-of arena f {v} {node} visible {hidden} {child} parent_is sibling_is =
       node = node;
       parent = below.above;
       sibling = there.node;
-      family = record {
-        at = visible.at;
-        parent_is = parent_is;
-        parent_at = below.at;
-        sibling_is = sym sibling_is;
-        sibling_at = there.at;
-      };
+      family = record { at = visible.at; parent_is = parent_is; parent_at = below.at; sibling_is = sym sibling_is; sibling_at = there.at };
       visible = visible;
     }

@@ -1,24 +1,13 @@
 -- A VMO's node gets another count: the tree stays exact, and each page that is left shows what it showed.
-use Rattle.std.proofs.Common.{◌≡◌, ◌≢◌, ◌↔◌, ◌⊎◌, ℕ, ◌<◌, ◌≤◌, ◌==◌, min, Bool, true, false, Option, None, Some, inl, inr}
-use Rattle.std.proofs.Common.{refl, sym, ap, subst, ◌∙◌, arith}
-use Rattle.std.specs.Prelude.{IsSome, ◌&&◌, ◌||◌, nat_le, nat_lt}
-use Rattle.std.proofs.lemmas.Bool.{cases_eq, cases_lt, both_ways, and_from, or_parts, eq-eqb, ne_eqb, le-leb, lt-ltb, lt-leb}
-use Rattle.vm_base.specs.Entries.{with_key}
-use Rattle.vm_base.proofs.EntryLaws.{some_same, with_key-same, with_key-other, with_key-cases}
-use Rattle.vm_base.proofs.SearchLaws.{eqb_apart}
-use Rattle.page_list.specs.declared.row.Slot.{Slot}
-use Rattle.cow_arena.specs.declared.node.Node.{Node}
-use Rattle.cow_arena.specs.declared.node.Side.{Side}
-use Rattle.cow_arena.specs.Nodes.{IsVisible}
-use Rattle.cow_arena.specs.Walk.{Tree, walk, frame_found, frame_shown}
-use Rattle.cow_arena.specs.Forest.{IsForest, HasListedRows}
+use Rattle.cow_merge.proofs.Words.{◌≡◌, ◌≢◌, ◌↔◌, ◌⊎◌, ℕ, ◌<◌, ◌≤◌, ◌==◌, min, Bool, true, false, Option, None, Some, inl, inr, refl, sym}
+use Rattle.cow_merge.proofs.Words.{ap, subst, ◌∙◌, arith, IsSome, ◌&&◌, ◌||◌, nat_le, nat_lt, cases_eq, cases_lt, both_ways, and_from}
+use Rattle.cow_merge.proofs.Words.{or_parts, eq-eqb, ne_eqb, le-leb, lt-ltb, lt-leb, with_key, some_same, with_key-same, with_key-other}
+use Rattle.cow_merge.proofs.Words.{with_key-cases, eqb_apart, Slot, Node, Side, IsVisible, Tree, walk, frame_found, frame_shown, IsForest}
+use Rattle.cow_merge.proofs.Words.{HasListedRows, IsPage, IsSeenFrom, CameFrom, IsExact, all_in_sight, leaving_range, with_count}
 use Rattle.cow_arena.proofs.WalkLaws.{walk-past}
 use Rattle.cow_arena.proofs.WindowWalkLaws.{put-listed, walk-leaf-changed, walk-leaf-changed-other}
-use Rattle.cow_split.specs.Sight.{IsPage, IsSeenFrom, CameFrom}
-use Rattle.cow_split.specs.Exact.{IsExact, all_in_sight}
-use Rattle.cow_merge.specs.Ranges.{leaving_range}
-use Rattle.cow_merge.specs.Merging.{with_count}
-use Rattle.cow_split.proofs.NodeLaws.{seen-moved, exact-moved}
+use Rattle.cow_split.proofs.ExactLaws.{seen-moved}
+use Rattle.cow_split.proofs.NodeLaws.{exact-moved}
 
 -- ---- pages of a range
 
@@ -64,7 +53,7 @@ module _ (t : Tree) (v : ℕ) (leaf new : Node) (visible : IsVisible t.nodes v l
   ]
 
   changed_listed : HasListedRows t → HasListedRows after
-  changed_listed = (put-listed t after.nodes t.lists v new refl (λ node at. list ∙ ap (λ (n : Node). n.list) (some_same (sym visible.at ∙ at)))).listed
+  changed_listed = put-listed t after.nodes t.lists v new refl (λ node at. list ∙ ap (λ (n : Node). n.list) (some_same (sym visible.at ∙ at)))
 
   -- pages of other nodes are pages as before
   changed_page : (w p : ℕ) → IsPage t w p → (w ≡ v → p < new.count) → IsPage after w p
@@ -83,11 +72,7 @@ module _ (t : Tree) (v : ℕ) (leaf new : Node) (visible : IsVisible t.nodes v l
 
   changed_was : (w p : ℕ) → IsPage after w p → (w ≡ v → p < leaf.count) → IsPage t w p
   changed_was w p page inside = elim (cases_eq w v) [
-    | inl same ↦ record {
-      node = leaf;
-      visible = record { at = ap t.nodes same ∙ visible.at; koid = visible.koid };
-      below = inside same;
-    }
+    | inl same ↦ record { node = leaf; visible = record { at = ap t.nodes same ∙ visible.at; koid = visible.koid }; below = inside same }
     | inr apart ↦ record {
       node = page.node;
       visible = record { at = sym (with_key-other t.nodes v new w apart) ∙ page.visible.at; koid = page.visible.koid };
@@ -97,15 +82,11 @@ module _ (t : Tree) (v : ℕ) (leaf new : Node) (visible : IsVisible t.nodes v l
 
   changed_bound : (p : ℕ) → IsPage after v p → p < new.count
   changed_bound p page =
-      let count = ap (λ (n : Node). n.count) (some_same (sym (with_key-same t.nodes v new) ∙ page.visible.at)) in
-      let below = page.below in
-      omega arith
+      omega (arith, ap (λ (n : Node). n.count) (some_same (sym (with_key-same t.nodes v new) ∙ page.visible.at)), page.below)
 
   page_bound : (p : ℕ) → IsPage t v p → p < leaf.count
   page_bound p page =
-      let count = ap (λ (n : Node). n.count) (some_same (sym visible.at ∙ page.visible.at)) in
-      let below = page.below in
-      omega arith
+      omega (arith, ap (λ (n : Node). n.count) (some_same (sym visible.at ∙ page.visible.at)), page.below)
 
   module _ (out out_now : ℕ → ℕ → Bool) (in_use : ℕ → Bool) (exact : IsExact t out in_use) (parent : new.parent ≡ leaf.parent) (g : IsForest after.nodes t.lists) where
     other_walk : (w p : ℕ) (node : Node) → t.nodes w ≡ Some node → w ≢ v → walk after w p ≡ walk t w p
@@ -149,11 +130,7 @@ module _ (t : Tree) (v : ℕ) (leaf new : Node) (visible : IsVisible t.nodes v l
         ]
         | inr apart ↦
             let page = changed_was w p sees.page (λ same. absurd (apart same)) in
-            record {
-              page = page;
-              same = sym (other_walk w p page.node page.visible.at apart);
-              in_sight = same_out w p apart ∙ in_sight;
-            }
+            record { page = page; same = sym (other_walk w p page.node page.visible.at apart); in_sight = same_out w p apart ∙ in_sight }
       ]),
     )
 

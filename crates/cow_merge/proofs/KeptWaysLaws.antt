@@ -1,34 +1,18 @@
 -- The ways upwards stay where a VMO's node goes, alone or with its parent.
-use Rattle.std.proofs.Common.{◌≡◌, ◌≢◌, ℕ, ◌≤◌, None, Some, IsSome, inl, inr, sym, ap, subst, ◌∙◌, arith}
-use Rattle.std.specs.Prelude.{is_some}
-use Rattle.std.proofs.lemmas.Bool.{cases_eq}
-use Rattle.balanced_tree.specs.Rows.{Rows}
-use Rattle.vm_base.specs.Entries.{without_key}
-use Rattle.vm_base.proofs.EntryLaws.{some_same, some_is, without_key-same, without_key-other, without_key-some}
-use Rattle.page_list.specs.declared.row.Row.{Row}
-use Rattle.page_list.specs.Lists.{slots_of}
-use Rattle.frame_pool.specs.Pool.{Pool}
-use Rattle.cow_arena.specs.declared.node.Node.{Node}
-use Rattle.cow_arena.specs.Nodes.{Arena, Nodes, nodes_of, IsVisible, AreFamily}
-use Rattle.cow_arena.specs.Walk.{Tree, Slots, tree_with}
-use Rattle.cow_arena.specs.Forest.{IsForest, IsChild}
-use Rattle.cow_arena.specs.Changes.{lifted, spliced, spliced_over}
-use Rattle.cow_arena.specs.Renamed.{exchanged, renamed, renamed_nodes}
-use Rattle.cow_arena.specs.Views.{KeepsRises}
-use Rattle.cow_arena.specs.Ways.{IsPartOf, KeepsBelow}
+use Rattle.cow_merge.proofs.Words.{◌≡◌, ◌≢◌, ℕ, ◌≤◌, None, Some, IsSome, inl, inr, sym, ap, subst, ◌∙◌, arith, is_some, cases_eq, Rows}
+use Rattle.cow_merge.proofs.Words.{without_key, some_same, some_is, without_key-same, without_key-other, without_key-some, Row, slots_of}
+use Rattle.cow_merge.proofs.Words.{Pool, Node, Arena, Nodes, nodes_of, IsVisible, AreFamily, Tree, Slots, tree_with, IsForest, IsChild}
+use Rattle.cow_merge.proofs.Words.{lifted, spliced, spliced_over, exchanged, renamed, renamed_nodes, IsPartOf, KeepsBelow, tree_of}
+use Rattle.cow_merge.proofs.Words.{IsFamilyOf, IsHandingOver}
+use Rattle.cow_arena.specs.Ways.{KeepsRises}
 use Rattle.cow_arena.proofs.RenamedLaws.{renamed-at, renamed-was}
 use Rattle.cow_arena.proofs.RenamedOverLaws.{tree-over, over-exchange}
 use Rattle.cow_arena.proofs.RisesLaws.{rises-bare, rises-stays}
-use Rattle.cow_arena.proofs.RisesSplicedLaws.{rises-spliced, rises-renamed, below-then, below-fewer}
+use Rattle.cow_arena.proofs.RisesSplicedLaws.{rises-spliced, rises-renamed}
 use Rattle.cow_arena.proofs.SpliceForestLaws.{spliced_by}
 use Rattle.cow_arena.proofs.SpliceWalkLaws.{sibling_at, splice-same}
-use Rattle.cow_split.specs.Trees.{tree_of}
-use Rattle.cow_split.proofs.PartLaws.{bare-part, part-none}
-use Rattle.cow_merge.specs.inside.Lifting.{IsFamilyOf}
-use Rattle.cow_merge.specs.inside.HandingOver.{HasHandedOver}
+use Rattle.cow_split.proofs.PartLaws.{bare-part}
 use Rattle.cow_merge.proofs.SpliceLaws.{spliced-kept, spliced-gone, spliced-parent_gone}
-use Rattle.cow_merge.proofs.UncoverLaws.{two-lists}
-use Rattle.cow_merge.specs.Ranges.{HasLost}
 
 -- a node that is there is none that is not
 there-apart : (nodes : Nodes) (j k : ℕ) → nodes k ≡ None → IsSome (nodes j) → j ≢ k
@@ -126,9 +110,7 @@ keeps-renamed name twice t u v keeps = record {
   stays = λ k node at apart childless. some-renamed k (keeps.stays k node at apart childless);
   seen = λ k node now at there.
       let was = renamed-was name u.nodes k now there in
-      let same = ap (λ (n : Node). n.seen) was.2 in
-      let less = keeps.seen k node was.0 at was.1 in
-      omega arith;
+      omega (arith, ap (λ (n : Node). n.seen) was.2, keeps.seen k node was.0 at was.1);
   rises = λ k p side h q some there rises. rises-renamed name twice u k p side h q (keeps.rises k p side h q (some-was k some) (some-was h there) rises);
 }
   where
@@ -140,17 +122,12 @@ keeps-renamed name twice t u v keeps = record {
         let it = some_is (renamed_nodes name u.nodes k) some in
         ap is_some (renamed-was name u.nodes k it.0 it.1).1
 
-pub keeps-over_rows : (arena new : Arena) (old rows late : Rows Row) (before between after : Pool) (f : IsForest (nodes_of arena) arena.lists) (v h s : ℕ) →
-    HasLost arena old rows before between v 0 → (it : HasHandedOver arena rows late between after v h s) →
-    nodes_of new ≡ spliced_over (nodes_of arena) v h s it.of.parent it.of.sibling → new.lists ≡ arena.lists → IsForest (nodes_of new) new.lists →
-    KeepsRises (tree_of arena old) (tree_of new late) v
-keeps-over_rows arena new old rows late before between after f v h s lost it nodes lists forest =
+pub keeps-over_rows : (arena new : Arena) (old late : Rows Row) (before after : Pool) (f : IsForest (nodes_of arena) arena.lists) (v h s : ℕ)
+    (it : IsHandingOver arena old late before after v h s None) → nodes_of new ≡ spliced_over (nodes_of arena) v h s it.of.parent it.of.sibling →
+    new.lists ≡ arena.lists → IsForest (nodes_of new) new.lists → KeepsRises (tree_of arena old) (tree_of new late) v
+keeps-over_rows arena new old late before after f v h s it nodes lists forest =
     let of = it.of in
     let name = exchanged of.parent.list.0 of.sibling.list.0 in
-    let first : KeepsBelow (slots_of old) (slots_of rows) of.parent of.sibling =
-    below-fewer (slots_of old) (slots_of rows) of.parent of.sibling (part-none (slots_of old) (slots_of rows) lost.part) in
-    let keeps = below-then (slots_of old) (slots_of rows) it.slots of.parent of.sibling
-    (two-lists arena v h s f of of.parent of.sibling of.family.parent_at of.family.sibling_at) first it.below in
     let g : IsForest (spliced (nodes_of arena) v h s of.parent of.sibling) arena.lists = record {
       rank = f.rank;
       by = spliced_by (nodes_of arena) arena.lists f.rank f.by v h s of.node of.parent of.sibling of.family of.visible.koid;
@@ -158,7 +135,7 @@ keeps-over_rows arena new old rows late before between after f v h s lost it nod
     let last = tree_with (spliced (nodes_of arena) v h s of.parent of.sibling) arena.lists it.slots in
     let same : tree_of new late ≡ renamed name last =
     (λ i. tree_with (nodes i) (lists i) (slots_of late))
-    ∙ tree-over (nodes_of arena) arena.lists f.rank f.by v h s of.node of.parent of.sibling of.family it.slots (slots_of late) it.rows in
+    ∙ tree-over (nodes_of arena) arena.lists f.rank f.by v h s of.node of.parent of.sibling of.family it.slots (slots_of late) (λ l p. it.passed l p tt) in
     subst (λ (u : Tree). KeepsRises (tree_of arena old) u v) (sym same)
     (keeps-renamed name (over-exchange (nodes_of arena) arena.lists f.rank f.by v h s of.node of.parent of.sibling of.family).twice (tree_of arena old) last v
-    (keeps-spliced (tree_of arena old) f v h s of.node of.parent of.sibling of.family of.visible it.slots keeps it.empty g))
+    (keeps-spliced (tree_of arena old) f v h s of.node of.parent of.sibling of.family of.visible it.slots it.below (λ p. it.empty p tt) g))

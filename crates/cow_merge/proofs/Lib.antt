@@ -1,3 +1,4 @@
+pub mod Words
 pub mod SpliceLaws
 pub mod CountLaws
 pub mod RangeLaws

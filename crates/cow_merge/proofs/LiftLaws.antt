@@ -1,35 +1,21 @@
 -- A row of a hidden node goes, or moves into the list of a child, where the other child is out of sight.
-use Rattle.std.proofs.Common.{◌≡◌, ◌≢◌, ℕ, ◌+◌, ◌<◌, Bool, true, false, not, ◌&&◌, Option, None, Some, IsSome}
-use Rattle.std.proofs.Common.{refl, sym, ap, subst, ◌∙◌, inl, inr, arith}
-use Rattle.std.specs.Prelude.{◌==◌, ◌||◌, cond, is_some}
-use Rattle.std.proofs.lemmas.Bool.{cases_Bool, and_left, and_right, and_parts, eq-eqb}
-use Rattle.balanced_tree.specs.Pairs.{with_pair}
-use Rattle.vm_base.specs.Entries.{passes}
-use Rattle.vm_base.specs.declared.names.Tag.{Tag}
-use Rattle.vm_base.proofs.EntryLaws.{some_same}
-use Rattle.vm_base.proofs.SearchLaws.{eqb_is}
-use Rattle.page_list.specs.declared.row.Slot.{Slot}
-use Rattle.page_list.specs.declared.row.Slot.TheVariants as slot
-use Rattle.cow_arena.specs.declared.node.Node.{Node}
-use Rattle.cow_arena.specs.declared.node.Side.{Side}
-use Rattle.cow_arena.specs.declared.node.Side.TheVariants as side
-use Rattle.cow_arena.specs.Nodes.{IsVisible, AreFamily, link_to, leads_to, other_side, side_of, child_on, side_in}
-use Rattle.cow_arena.specs.Walk.{Slots, Tree, Found, walk, frame_in, frame_found, frame_shown}
-use Rattle.cow_arena.specs.Forest.{IsForest}
-use Rattle.cow_arena.specs.Ways.{Climbs, Reaches, Arrives, SameElsewhere}
+use Rattle.cow_merge.proofs.Words.{◌≡◌, ◌≢◌, ℕ, ◌+◌, ◌<◌, Bool, true, false, not, ◌&&◌, Option, None, Some, IsSome, refl, sym, ap, subst}
+use Rattle.cow_merge.proofs.Words.{◌∙◌, inl, inr, arith, ◌==◌, ◌||◌, cond, is_some, cases_Bool, and_left, and_right, and_parts, eq-eqb}
+use Rattle.cow_merge.proofs.Words.{with_pair, passes, Tag, some_same, eqb_is, Slot, Node, Side, IsVisible, AreFamily, link_to, leads_to}
+use Rattle.cow_merge.proofs.Words.{other_side, side_of, child_on, side_in, Slots, Tree, Found, walk, frame_in, frame_found, frame_shown}
+use Rattle.cow_merge.proofs.Words.{IsForest, Climbs, Reaches, Arrives, SameElsewhere, with_row, reached_from, IsPage, Sees, IsSeenFrom}
+use Rattle.cow_merge.proofs.Words.{ShowsSame, Denies, AreSplitBits, IsExact, IsOnlyOf, with_frame, without_frame, IsInSight, IsMoved}
+use Rattle.cow_merge.proofs.Words.{IsAside}
 use Rattle.cow_arena.proofs.WalkLaws.{link_same}
-use Rattle.cow_arena.proofs.ReachLaws.{reach-cases, reach-last, reach-after, reach-hidden, reach-deeper, climbs-same, child-there, side-of-child, found-of-reach, walk-ends, walk-arrives, hidden-apart, arrives-or-not}
-use Rattle.cow_arena.proofs.AlikeLaws.{with_pair-same, with_pair-other, with_pair-elsewhere, elsewhere-back, walk-but, walk-elsewhere, arrives-but}
+use Rattle.cow_arena.proofs.ReachLaws.{reach-cases, reach-last, reach-after, reach-hidden, reach-deeper, climbs-same, child-there}
+use Rattle.cow_arena.proofs.ReachLaws.{side-of-child, found-of-reach, walk-ends, walk-arrives, hidden-apart, arrives-or-not}
+use Rattle.cow_arena.proofs.AlikeLaws.{with_pair-same, with_pair-other, with_pair-elsewhere, elsewhere-back, walk-but, walk-elsewhere}
+use Rattle.cow_arena.proofs.AlikeLaws.{arrives-but}
 use Rattle.cow_arena.proofs.SpliceWalkLaws.{family-side, family-both, family-parent}
-use Rattle.cow_split.specs.Trees.{with_row}
-use Rattle.cow_split.specs.Search.{reached_from}
-use Rattle.cow_split.specs.Sight.{IsPage, Sees, IsSeenFrom, ShowsSame}
-use Rattle.cow_split.specs.Exact.{Denies, AreSplitBits, IsExact, IsOnlyOf, with_frame, without_frame}
 use Rattle.cow_split.proofs.SearchLaws.{reached-seen, seen-reached, reached-kept}
-use Rattle.cow_split.proofs.ExactLaws.{with_row-changes, frame-stays, frame-gone, frame-comes, exact-changed, seen-carried, Fits, FollowFrame}
+use Rattle.cow_split.proofs.ExactLaws.{with_row-changes, frame-stays, frame-gone, frame-comes, exact-changed, seen-carried, Fits}
+use Rattle.cow_split.proofs.ExactLaws.{FollowFrame}
 use Rattle.cow_split.proofs.RowLaws.{exact-in_use_alike, with_row-twice}
-use Rattle.cow_merge.specs.Ranges.{IsInSight}
-use Rattle.cow_merge.specs.inside.Lifting.{IsMoved, IsAside}
 use Rattle.cow_merge.proofs.SpliceLaws.{family-apart}
 use Rattle.cow_split.proofs.CutLaws.{page-over}
 
@@ -131,9 +117,7 @@ module _ (t : Tree) (f : IsForest t.nodes t.lists) (k h s : ℕ) (leaf parent si
 
   pub lists-apart : parent.list.0 ≡ sibling.list.0 → ⊥
   lists-apart list =
-      let same = ap f.rank (f.by.own h s parent sibling family.parent_at family.sibling_at list) in
-      let less = deeper in
-      absurd (omega arith)
+      absurd (omega (arith, ap f.rank (f.by.own h s parent sibling family.parent_at family.sibling_at list), deeper))
 
   sibling_side : side_in t.nodes s ≡ Some its_side
   sibling_side =
@@ -168,13 +152,10 @@ module _ (t : Tree) (f : IsForest t.nodes t.lists) (k h s : ℕ) (leaf parent si
       let less = deeper in
       elim (reach-cases t k p side s r way) [
         | inl one ↦
-            let same = ap f.rank (up s (one.0).node (one.0).at (one.0).parent) in
-            absurd (omega arith)
+            absurd (omega (arith, ap f.rank (up s (one.0).node (one.0).at (one.0).parent)))
         | inr on ↦
             let step = on.2 in
-            let same = ap f.rank (up on.0 step.node step.at step.parent) in
-            let further = reach-deeper t f on.0 on.1 side s r on.3 in
-            absurd (omega arith)
+            absurd (omega (arith, ap f.rank (up on.0 step.node step.at step.parent), reach-deeper t f on.0 on.1 side s r on.3))
       ]
     where
       up : (j : ℕ) (node : Node) → t.nodes k ≡ Some node → node.parent ≡ link_to j → j ≡ h
@@ -251,13 +232,13 @@ module _ (t : Tree) (f : IsForest t.nodes t.lists) (k h s : ℕ) (leaf parent si
         no_frame = by_row row has
           where
             by_bits : (left right : Bool) → AreSplitBits t out h q left right → ⊥
-            by_bits false right bits = unseen side.Left (bits.left_bit.is_false refl)
-            by_bits true false bits = unseen side.Right (bits.right_bit.is_false refl)
+            by_bits false right bits = unseen Side.Left (bits.left_bit.is_false refl)
+            by_bits true false bits = unseen Side.Right (bits.right_bit.is_false refl)
             by_bits true true bits = absurd (let none = bits.is_seen in cc)
 
             by_row : (row : Slot) → t.slots parent.list.0 q ≡ Some row → frame_in row ≡ None
-            by_row slot.Zero is = refl
-            by_row (slot.Frame tag left right) is = absurd (by_bits left right (exact.bits h q parent tag left right family.parent_at hidden is))
+            by_row Slot.Zero is = refl
+            by_row (Slot.Frame tag left right) is = absurd (by_bits left right (exact.bits h q parent tag left right family.parent_at hidden is))
 
         pub dropped-exact : IsExact (with_row t parent.list.0 q None) out in_use
         dropped-exact =
@@ -291,28 +272,28 @@ module _ (t : Tree) (f : IsForest t.nodes t.lists) (k h s : ℕ) (leaf parent si
 
   -- The frame goes out of the row, which becomes a zero row.
   emptied-exact : (q : ℕ) (row : Slot) (out : ℕ → ℕ → Bool) (in_use : ℕ → Bool) → IsExact t out in_use → t.slots parent.list.0 q ≡ Some row →
-      IsExact (with_row t parent.list.0 q (Some slot.Zero)) out (without_frame in_use (frame_in row))
+      IsExact (with_row t parent.list.0 q (Some Slot.Zero)) out (without_frame in_use (frame_in row))
   emptied-exact q row out in_use exact has =
-      exact-changed t (with_row t parent.list.0 q (Some slot.Zero)) out out in_use (without_frame in_use (frame_in row)) h q parent
-      (Some row) (Some slot.Zero) exact family.parent_at (with_row-changes t parent.list.0 q (Some row) (Some slot.Zero) has)
+      exact-changed t (with_row t parent.list.0 q (Some Slot.Zero)) out out in_use (without_frame in_use (frame_in row)) h q parent
+      (Some row) (Some Slot.Zero) exact family.parent_at (with_row-changes t parent.list.0 q (Some row) (Some Slot.Zero) has)
       (frame-gone (frame_in row) in_use)
       (λ shown. absurd (let none = ap is_some hidden in cc))
       (record {
         alike = λ j r n tag left right at none e differs side.
             let other = place-apart t h q j r parent n family.parent_at at differs in (
-              seen-carried t (with_row t parent.list.0 q (Some slot.Zero)) out out side j r refl
-                  (λ v p sees sight. (goes-stays t f h q parent row (Some slot.Zero) family.parent_at has v p (Some side) j r sees other, sight)),
-              seen-carried (with_row t parent.list.0 q (Some slot.Zero)) t out out side j r refl
-                  (λ v p sees sight. (came-stays t f h q parent slot.Zero family.parent_at v p (Some side) j r sees other, sight)),
+              seen-carried t (with_row t parent.list.0 q (Some Slot.Zero)) out out side j r refl
+                  (λ v p sees sight. (goes-stays t f h q parent row (Some Slot.Zero) family.parent_at has v p (Some side) j r sees other, sight)),
+              seen-carried (with_row t parent.list.0 q (Some Slot.Zero)) t out out side j r refl
+                  (λ v p sees sight. (came-stays t f h q parent Slot.Zero family.parent_at v p (Some side) j r sees other, sight)),
             );
       })
       (λ none tag left right e. absurd (cc))
 
   -- A row comes into the list of the sibling, over a zero row that it sees: its bits tell, and its frame stood in no row.
   filled-exact : (q to : ℕ) (row : Slot) (out : ℕ → ℕ → Bool) (in_use : ℕ → Bool) → IsExact t out in_use →
-      t.slots parent.list.0 q ≡ Some slot.Zero → Climbs t s to h q → t.slots sibling.list.0 to ≡ None → (IsSome sibling.koid → Fits sibling to (Some row)) →
+      t.slots parent.list.0 q ≡ Some Slot.Zero → Climbs t s to h q → t.slots sibling.list.0 to ≡ None → (IsSome sibling.koid → Fits sibling to (Some row)) →
       ((tag : ℕ) → frame_in row ≡ Some tag → in_use tag ≡ false) →
-      (sibling.koid ≡ None → (tag : Tag) (left right : Bool) → Some row ≡ Some (slot.Frame tag left right) →
+      (sibling.koid ≡ None → (tag : Tag) (left right : Bool) → Some row ≡ Some (Slot.Frame tag left right) →
       AreSplitBits (with_row t sibling.list.0 to (Some row)) out s to left right) →
       IsExact (with_row t sibling.list.0 to (Some row)) out (with_frame in_use (frame_in row))
   filled-exact q to row out in_use exact zero step free fits unused own =
@@ -335,7 +316,7 @@ module _ (t : Tree) (f : IsForest t.nodes t.lists) (k h s : ℕ) (leaf parent si
       own
     where
       -- whoever sees a frame does not come by
-      past : (j r : ℕ) (n : Node) (tag : Tag) (left right : Bool) → t.nodes j ≡ Some n → t.slots n.list.0 r ≡ Some (slot.Frame tag left right) →
+      past : (j r : ℕ) (n : Node) (tag : Tag) (left right : Bool) → t.nodes j ≡ Some n → t.slots n.list.0 r ≡ Some (Slot.Frame tag left right) →
           (v p : ℕ) (from : Option Side) → Sees t v p from j r → walk (with_row t sibling.list.0 to (Some row)) v p ≡ walk t v p
       past j r n tag left right at e v p from sees =
           walk-but t f (with_pair t.slots sibling.list.0 to (Some row)) sibling.list.0 to v p
@@ -343,11 +324,11 @@ module _ (t : Tree) (f : IsForest t.nodes t.lists) (k h s : ℕ) (leaf parent si
           (λ before i x there list way.
           let one = f.by.own i s x sibling there family.sibling_at list in
           let up = reach-after t f v p before s to its_side h q (subst (λ y. Arrives t v p before y to) one way) step sibling_side in
-          let found = found-of-reach t f v p its_side h q parent slot.Zero up family.parent_at zero in
+          let found = found-of-reach t f v p its_side h q parent Slot.Zero up family.parent_at zero in
           let ends = (walk-ends t f v p _ sees.found).row in
           let here : ends.node ≡ n = some_same (sym ends.at ∙ at) in
-          let frame : sees.slot ≡ slot.Frame tag left right = some_same (sym ends.row ∙ (ap (λ (y : Node). t.slots y.list.0 r) here ∙ e)) in
-          let none : sees.slot ≡ slot.Zero = ap (λ (it : Found). it.slot) (some_same (sym sees.found ∙ found)) in
+          let frame : sees.slot ≡ Slot.Frame tag left right = some_same (sym ends.row ∙ (ap (λ (y : Node). t.slots y.list.0 r) here ∙ e)) in
+          let none : sees.slot ≡ Slot.Zero = ap (λ (it : Found). it.slot) (some_same (sym sees.found ∙ found)) in
           absurd (cc))
 
   -- what the search below the sibling answers does not depend on the rows of the parent and of the sibling
@@ -389,7 +370,7 @@ module _ (t : Tree) (f : IsForest t.nodes t.lists) (k h s : ℕ) (leaf parent si
   both = with_row t sibling.list.0 to (Some now)
 
   abbrev emptied : Tree
-  emptied = with_row t parent.list.0 q (Some slot.Zero)
+  emptied = with_row t parent.list.0 q (Some Slot.Zero)
 
   abbrev filled : Tree
   filled = with_row emptied sibling.list.0 to (Some now)
@@ -437,7 +418,7 @@ module _ (t : Tree) (f : IsForest t.nodes t.lists) (k h s : ℕ) (leaf parent si
   filled-alike : (side : Side) → reached_from filled None side s to ≡ reached_from (with_row t parent.list.0 q None) None side s to
   filled-alike = search-alike filled.slots (λ l p one two.
       with_pair-other emptied.slots sibling.list.0 to (Some now) l p (λ e _. two e)
-      ∙ with_pair-other t.slots parent.list.0 q (Some slot.Zero) l p (λ e _. one e))
+      ∙ with_pair-other t.slots parent.list.0 q (Some Slot.Zero) l p (λ e _. one e))
 
   both-alike : (side : Side) → reached_from both None side s to ≡ reached_from (with_row t parent.list.0 q None) None side s to
   both-alike = search-alike both.slots (λ l p one two. with_pair-other t.slots sibling.list.0 to (Some now) l p (λ e _. two e))
@@ -493,34 +474,34 @@ module _ (t : Tree) (f : IsForest t.nodes t.lists) (k h s : ℕ) (leaf parent si
     is-seen tag frame = by_row was has frame
       where
         by_bits : (left right : Bool) → AreSplitBits t out h q left right → (side : Side) × IsSeenFrom t out side h q
-        by_bits false right bits = (side.Left, bits.left_bit.is_false refl)
-        by_bits true false bits = (side.Right, bits.right_bit.is_false refl)
+        by_bits false right bits = (Side.Left, bits.left_bit.is_false refl)
+        by_bits true false bits = (Side.Right, bits.right_bit.is_false refl)
         by_bits true true bits = absurd (let none = bits.is_seen in cc)
 
         by_row : (row : Slot) → t.slots parent.list.0 q ≡ Some row → frame_in row ≡ Some tag → (side : Side) × IsSeenFrom t out side h q
-        by_row slot.Zero is e = absurd (cc)
-        by_row (slot.Frame tag left right) is e =
+        by_row Slot.Zero is e = absurd (cc)
+        by_row (Slot.Frame tag left right) is e =
             by_bits left right (exact.bits h q parent tag left right family.parent_at (hidden t f k h s leaf parent sibling family visible) is)
 
     module _ (bits : IsMoved (with_row t parent.list.0 q None) s to sibling was now) where
-      own-bits : sibling.koid ≡ None → (tag : Tag) (left right : Bool) → Some now ≡ Some (slot.Frame tag left right) →
+      own-bits : sibling.koid ≡ None → (tag : Tag) (left right : Bool) → Some now ≡ Some (Slot.Frame tag left right) →
           AreSplitBits filled out s to left right
       own-bits none tag left right e =
-          let is : now ≡ slot.Frame tag left right = some_same e in
+          let is : now ≡ Slot.Frame tag left right = some_same e in
           let split = bits.split tag left right is none in
           let from = is-seen tag.0 (sym frames ∙ ap frame_in is) in
           let below = below-seen none from.0 from.1 in
           record {
-            left_bit = denies side.Left left split.0;
-            right_bit = denies side.Right right split.1;
+            left_bit = denies Side.Left left split.0;
+            right_bit = denies Side.Right right split.1;
             is_seen = on_side below.0 below.1 split;
           }
         where
           on_side : (below : Side) → reached_from (with_row t parent.list.0 q None) None below s to ≡ true →
-              (left ≡ not (reached_from (with_row t parent.list.0 q None) None side.Left s to)) ×
-              (right ≡ not (reached_from (with_row t parent.list.0 q None) None side.Right s to)) → (left && right) ≡ false
-          on_side side.Left holds split = and_left left right (split.0 ∙ ap not holds)
-          on_side side.Right holds split = and_right left right (split.1 ∙ ap not holds)
+              (left ≡ not (reached_from (with_row t parent.list.0 q None) None Side.Left s to)) ×
+              (right ≡ not (reached_from (with_row t parent.list.0 q None) None Side.Right s to)) → (left && right) ≡ false
+          on_side Side.Left holds split = and_left left right (split.0 ∙ ap not holds)
+          on_side Side.Right holds split = and_right left right (split.1 ∙ ap not holds)
 
       fits : IsSome sibling.koid → Fits sibling to (Some now)
       fits shown = record {
@@ -531,20 +512,20 @@ module _ (t : Tree) (f : IsForest t.nodes t.lists) (k h s : ℕ) (leaf parent si
       filled-is : IsExact filled out (with_frame (without_frame in_use (frame_in was)) (frame_in now))
       filled-is =
           let none : emptied.slots sibling.list.0 to ≡ None =
-          with_pair-other t.slots parent.list.0 q (Some slot.Zero) sibling.list.0 to (λ list _. apart (sym list)) ∙ free in
+          with_pair-other t.slots parent.list.0 q (Some Slot.Zero) sibling.list.0 to (λ list _. apart (sym list)) ∙ free in
           filled-exact emptied f k h s leaf parent sibling family visible q to now out (without_frame in_use (frame_in was)) (emptied-exact t f k h s leaf parent sibling family visible q was out in_use exact has)
-          (with_pair-same t.slots parent.list.0 q (Some slot.Zero)) (on-up emptied.slots none) none fits
+          (with_pair-same t.slots parent.list.0 q (Some Slot.Zero)) (on-up emptied.slots none) none fits
           (λ tag e. without-itself in_use (frame_in was) tag (sym frames ∙ e)) own-bits
 
       pub moved-exact : IsExact (record t { slots = moved }) out in_use
       moved-exact =
-          let zero : filled.slots parent.list.0 q ≡ Some slot.Zero =
+          let zero : filled.slots parent.list.0 q ≡ Some Slot.Zero =
           with_pair-other emptied.slots sibling.list.0 to (Some now) parent.list.0 q (λ list _. apart list)
-          ∙ with_pair-same t.slots parent.list.0 q (Some slot.Zero) in
+          ∙ with_pair-same t.slots parent.list.0 q (Some Slot.Zero) in
           let dropped = dropped-exact filled f k h s leaf parent sibling family visible q (closed-by filled f k h s leaf parent sibling family visible q to now filled-row page) out aside
-          (with_frame (without_frame in_use (frame_in was)) (frame_in now)) filled-is slot.Zero zero in
+          (with_frame (without_frame in_use (frame_in was)) (frame_in now)) filled-is Slot.Zero zero in
           subst (λ (slots : Slots). IsExact (record t { slots = slots }) out in_use)
           (rows-swapped emptied.slots parent.list.0 q sibling.list.0 to (Some now) apart
-          ∙ ap (λ (u : Tree). with_pair u.slots sibling.list.0 to (Some now)) (with_row-twice t parent.list.0 q (Some slot.Zero) None))
+          ∙ ap (λ (u : Tree). with_pair u.slots sibling.list.0 to (Some now)) (with_row-twice t parent.list.0 q (Some Slot.Zero) None))
           (exact-in_use_alike (with_row filled parent.list.0 q None) out (with_frame (without_frame in_use (frame_in was)) (frame_in now)) in_use
           (with-again in_use (frame_in was) (frame_in now) frames (λ tag e. exact.used parent.list.0 q was tag has e)) dropped)

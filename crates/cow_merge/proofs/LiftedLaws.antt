@@ -1,62 +1,41 @@
 -- Rows of a hidden node go, or move into the list of a child, where the other child, a VMO's node, goes: the page of this node
 -- that comes to a row is left out of sight first, as if it were cut off, and then the row goes or moves.
-use Rattle.std.proofs.Common.{◌≡◌, ◌≢◌, ◌⊎◌, ℕ, ◌+◌, ◌-◌, ◌*◌, ◌^◌, ◌<◌, ◌≤◌, if◌then◌else◌, Bool, true, false, ◌&&◌, not, Option, None, Some, IsSome}
-use Rattle.std.proofs.Common.{refl, sym, ap, subst, ◌∙◌, inl, inr, arith}
-use Rattle.std.specs.Prelude.{◌==◌, ◌||◌, cond, is_some}
-use Rattle.std.proofs.lemmas.Bool.{cases_Bool, cond-true, cond-false, eq-eqb, ne_eqb, cases_lt, cases_eq, and_from}
-use Rattle.balanced_tree.specs.Pairs.{with_pair, IsNext}
-use Rattle.balanced_tree.specs.Rows.{Rows}
-use Rattle.vm_base.specs.Entries.{passes}
-use Rattle.vm_base.specs.declared.names.Tag.{Tag}
-use Rattle.vm_base.proofs.EntryLaws.{some_same}
-use Rattle.vm_base.proofs.SearchLaws.{eqb_is, eqb_same}
-use Rattle.page_list.specs.Lists.{slots_of, row_count}
-use Rattle.page_list.specs.declared.row.Row.{Row}
-use Rattle.page_list.specs.declared.row.Slot.{Slot}
-use Rattle.page_list.specs.declared.row.Slot.TheVariants as slot
-use Rattle.cow_arena.specs.declared.node.Node.{Node}
-use Rattle.cow_arena.specs.declared.node.NodeId.{NodeId}
-use Rattle.cow_arena.specs.declared.node.Side.{Side}
-use Rattle.cow_arena.specs.declared.node.Side.TheVariants as side
-use Rattle.cow_arena.specs.Nodes.{Arena, nodes_of, IsVisible, AreFamily, link_to, other_side, side_of, side_in, child_on}
-use Rattle.cow_arena.specs.Walk.{Slots, Tree, tree_with, Found, walk, frame_in, frame_shown}
-use Rattle.cow_arena.specs.Forest.{IsForest}
-use Rattle.cow_arena.specs.Ways.{Climbs, Reaches, KeepsBelow}
+use Rattle.cow_merge.proofs.Words.{◌≡◌, ◌≢◌, ◌⊎◌, ℕ, ◌+◌, ◌-◌, ◌*◌, ◌^◌, ◌<◌, ◌≤◌, if◌then◌else◌, Bool, true, false, ◌&&◌, not, Option}
+use Rattle.cow_merge.proofs.Words.{None, Some, IsSome, refl, sym, ap, subst, ◌∙◌, inl, inr, arith, ◌==◌, ◌||◌, cond, is_some, cases_Bool}
+use Rattle.cow_merge.proofs.Words.{cond-true, cond-false, eq-eqb, ne_eqb, cases_lt, cases_eq, and_from, with_pair, IsNext, Rows, passes}
+use Rattle.cow_merge.proofs.Words.{Tag, some_same, eqb_is, eqb_same, slots_of, row_count, Row, Slot, Node, NodeId, Side, Arena, nodes_of}
+use Rattle.cow_merge.proofs.Words.{IsVisible, AreFamily, link_to, other_side, side_of, side_in, child_on, Slots, Tree, tree_with, Found}
+use Rattle.cow_merge.proofs.Words.{walk, frame_in, frame_shown, IsForest, Climbs, Reaches, IsPartOf, KeepsBelow, Cut, tree_of, with_row}
+use Rattle.cow_merge.proofs.Words.{reached_from, IsPage, IsSeenFrom, ShowsSame, Denies, AreSplitBits, IsExact, IsOnlyOf, all_in_sight}
+use Rattle.cow_merge.proofs.Words.{leaving_out, without_frame, split_on, answer_on, slots_from, answer_from, slots_after, answer_after}
+use Rattle.cow_merge.proofs.Words.{cut_slots, cut_answer, frame_left, Backlink, Pool, taken_frames, is_taken, links_of, bit_on}
+use Rattle.cow_merge.proofs.Words.{leaving_range, AreLinked, IsLeftOut, IsHeldBy, IsSparing, Accounts, Moves, HasGiven, IsInSight}
+use Rattle.cow_merge.proofs.Words.{IsNotFrom, IsAside, AreLifted, IsLifting, IsBefore, IsFamilyOf, SeesRow, IsMoved, TellsSeen}
+use Rattle.cow_merge.proofs.Words.{is_row_of_frame, KeepsFamily}
 use Rattle.cow_arena.proofs.RisesSplicedLaws.{below-same, below-then, below-fewer, below-gone, below-moved}
 use Rattle.cow_arena.proofs.ReachLaws.{side-is, side-of-child, reach-one, reach-on, reach-through, found-of-reach, walk-ends}
 use Rattle.cow_arena.proofs.AlikeLaws.{with_pair-same, with_pair-other}
 use Rattle.cow_arena.proofs.SpliceWalkLaws.{family-side, family-parent}
-use Rattle.cow_split.specs.declared.answers.Cut.{Cut}
-use Rattle.cow_split.specs.declared.answers.Cut.TheVariants as cut
-use Rattle.cow_split.specs.Trees.{tree_of, with_row}
-use Rattle.cow_split.specs.Search.{reached_from}
-use Rattle.cow_split.specs.Sight.{IsPage, IsSeenFrom, ShowsSame}
-use Rattle.cow_split.specs.Exact.{Denies, AreSplitBits, IsExact, IsOnlyOf, all_in_sight, leaving_out, without_frame}
-use Rattle.cow_split.specs.Cutting.{split_on, answer_on, slots_from, answer_from, slots_after, answer_after, cut_slots, cut_answer, frame_left}
-use Rattle.cow_split.proofs.PartLaws.{part-none}
+use Rattle.cow_split.proofs.PartLaws.{part-none, part-with_pair}
 use Rattle.cow_split.proofs.SearchLaws.{leaf-alone}
 use Rattle.cow_split.proofs.RowLaws.{left_out-in_sight, only-more, exact-in_use_alike, with_row-twice}
 use Rattle.cow_split.proofs.ExactLaws.{cases_place}
 use Rattle.cow_split.proofs.CutLaws.{exact-cut, cut-shows, page-over}
-use Rattle.frame_pool.specs.declared.frame_pool.Backlink.{Backlink}
-use Rattle.frame_pool.specs.Pool.{Pool, taken_frames, is_taken, links_of}
-use Rattle.cow_merge.specs.Ranges.{bit_on, leaving_range, AreLinked, IsLeftOut, IsHeldBy, IsSparing, Accounts, HasLost, HasGiven, IsInSight, IsNotFrom}
-use Rattle.cow_merge.specs.inside.Lifting.{IsAside, AreLifted, IsLifting, IsBefore, IsFamilyOf, SeesRow, IsMoved, TellsSeen, HasLiftedRow, HasSettled, is_row_of_frame, HasLifted}
 use Rattle.cow_merge.proofs.PassingLaws.{range-exact}
 use Rattle.cow_merge.proofs.SpliceLaws.{family-apart}
 use Rattle.cow_merge.proofs.LiftLaws.{lists-apart, leaf-step, hidden, not-below, dropped-shows, dropped-exact, moved-shows, moved-exact}
-use Rattle.cow_merge.proofs.RangeLaws.{moves-then, accounts-same}
+use Rattle.cow_merge.proofs.RangeLaws.{moves-as, moves-then, moves-same, accounts-part}
 
 -- a slot that has a frame, by the test
 pub has-frame : (t : ℕ) (row : Slot) → frame_in row ≡ Some t → is_row_of_frame t row ≡ true
 unfolding passes
-has-frame t slot.Zero e = absurd (cc)
-has-frame t (slot.Frame tag left right) e = eq-eqb t tag.0 (sym (some_same e))
+has-frame t Slot.Zero e = absurd (cc)
+has-frame t (Slot.Frame tag left right) e = eq-eqb t tag.0 (sym (some_same e))
 
 pub of-has-frame : (t : ℕ) (row : Slot) → is_row_of_frame t row ≡ true → frame_in row ≡ Some t
 unfolding passes
-of-has-frame t slot.Zero e = absurd (cc)
-of-has-frame t (slot.Frame tag left right) e = ap Some (sym (eqb_is t tag.0 e))
+of-has-frame t Slot.Zero e = absurd (cc)
+of-has-frame t (Slot.Frame tag left right) e = ap Some (sym (eqb_is t tag.0 e))
 
 pub link-same : (a b x y : ℕ) → a ≡ b → x ≡ y → ◌≡◌ {A = Backlink} (record { list = a; page = x }) (record { list = b; page = y })
 link-same a b x y e f i = record { list = e i; page = f i }
@@ -114,13 +93,13 @@ pub gone-here : (o : Option Slot) (page : ℕ) → (if page == page then None el
 gone-here o page = cond-true _ _ _ (eqb_same page)
 
 -- it is less far behind a row that went
-pub ahead-less : (old new : ℕ → Option Slot) (from page : ℕ) (row : Slot) → from ≤ page → page < 2 ^ 64 → old page ≡ Some row → new page ≡ None →
+pub ahead-less : (old new : ℕ → Option Slot) (from page : ℕ) → from ≤ page → page < 2 ^ 64 → IsSome (old page) → new page ≡ None →
     still_ahead page (new page) < still_ahead from (old from)
-ahead-less old new from page row least fits had gone =
+ahead-less old new from page least fits had gone =
     let after : ◌≡◌ {A = ℕ} (cond (is_some (new page)) 1 0) 0 = ap (λ (o : Option Slot). cond (is_some o) 1 0) gone in
     elim (cases_eq from page) [
       | inl same ↦
-          let before : ◌≡◌ {A = ℕ} (cond (is_some (old from)) 1 0) 1 = ap (λ (o : Option Slot). cond (is_some o) 1 0) (ap old same ∙ had) in
+          let before : ◌≡◌ {A = ℕ} (cond (is_some (old from)) 1 0) 1 = ap (λ b. cond b 1 0) (ap (λ x. is_some (old x)) same ∙ had) in
           omega arith
       | inr apart ↦ omega arith
     ]
@@ -129,32 +108,32 @@ ahead-less old new from page row least fits had gone =
 
 -- where the other bit is set, the row goes
 split-none : (from : Side) (tag : Tag) (left right : Bool) → bit_on (other_side from) left right ≡ true →
-    (split_on from tag left right ≡ None) × (answer_on from tag left right ≡ cut.LastViewer tag)
-split-none side.Left tag left true e = (refl, refl)
-split-none side.Left tag left false e = absurd (cc)
-split-none side.Right tag true right e = (refl, refl)
-split-none side.Right tag false right e = absurd (cc)
+    (split_on from tag left right ≡ None) × (answer_on from tag left right ≡ Cut.LastViewer tag)
+split-none Side.Left tag left true e = (refl, refl)
+split-none Side.Left tag left false e = absurd (cc)
+split-none Side.Right tag true right e = (refl, refl)
+split-none Side.Right tag false right e = absurd (cc)
 
 -- and else it stays, with its frame
 split-some : (from : Side) (tag : Tag) (left right : Bool) → bit_on (other_side from) left right ≡ false →
-    (row : Slot) × (split_on from tag left right ≡ Some row) × (answer_on from tag left right ≡ cut.StillSeen) × (frame_in row ≡ Some tag.0)
-split-some side.Left tag left true e = absurd (cc)
-split-some side.Left tag left false e = (slot.Frame tag true false, refl, refl, refl)
-split-some side.Right tag true right e = absurd (cc)
-split-some side.Right tag false right e = (slot.Frame tag false true, refl, refl, refl)
+    (row : Slot) × (split_on from tag left right ≡ Some row) × (answer_on from tag left right ≡ Cut.StillSeen) × (frame_in row ≡ Some tag.0)
+split-some Side.Left tag left true e = absurd (cc)
+split-some Side.Left tag left false e = (Slot.Frame tag true false, refl, refl, refl)
+split-some Side.Right tag true right e = absurd (cc)
+split-some Side.Right tag false right e = (Slot.Frame tag false true, refl, refl, refl)
 
 pub denies-on : (t : Tree) (out : ℕ → ℕ → Bool) (h q : ℕ) (left right : Bool) (from : Side) → AreSplitBits t out h q left right →
     Denies (bit_on from left right) (IsSeenFrom t out from h q)
-denies-on t out h q left right side.Left bits = bits.left_bit
-denies-on t out h q left right side.Right bits = bits.right_bit
+denies-on t out h q left right Side.Left bits = bits.left_bit
+denies-on t out h q left right Side.Right bits = bits.right_bit
 
 -- not both bits are set
 pub one-bit : (left right : Bool) (from : Side) → (left && right) ≡ false → bit_on from left right ≡ true → bit_on (other_side from) left right ≡ true → ⊥
 one-bit true true from none one two = absurd (cc)
-one-bit true false side.Left none one two = absurd (cc)
-one-bit true false side.Right none one two = absurd (cc)
-one-bit false right side.Left none one two = absurd (cc)
-one-bit false right side.Right none one two = absurd (cc)
+one-bit true false Side.Left none one two = absurd (cc)
+one-bit true false Side.Right none one two = absurd (cc)
+one-bit false right Side.Left none one two = absurd (cc)
+one-bit false right Side.Right none one two = absurd (cc)
 
 -- ---- one row
 
@@ -218,7 +197,7 @@ module _ (t : Tree) (k h s : ℕ) (leaf parent sibling : Node) (family : AreFami
       let it = reach-through t f seen.v seen.p leaf_side h q k parent way family.parent_at sides.0 in
       none it.0 it.3
 
-  module _ (tag : Tag) (left right : Bool) (is_row : row ≡ slot.Frame tag left right) where
+  module _ (tag : Tag) (left right : Bool) (is_row : row ≡ Slot.Frame tag left right) where
     pub bits : AreSplitBits t out h q left right
     bits = exact.bits h q parent tag left right family.parent_at (hidden t f k h s leaf parent sibling family visible) (has ∙ ap Some is_row)
 
@@ -348,9 +327,9 @@ module _ (t : Tree) (k h s : ℕ) (leaf parent sibling : Node) (family : AreFami
         bits_there = record {
           frame = frames;
           plain = bits.plain;
-          split = subst (λ (x : Slots). (tag : Tag) (left right : Bool) → now ≡ slot.Frame tag left right → sibling.koid ≡ None →
-              (left ≡ not (reached_from (record t { slots = x }) None side.Left s (q - sibling.first)))
-              × (right ≡ not (reached_from (record t { slots = x }) None side.Right s (q - sibling.first))))
+          split = subst (λ (x : Slots). (tag : Tag) (left right : Bool) → now ≡ Slot.Frame tag left right → sibling.koid ≡ None →
+              (left ≡ not (reached_from (record t { slots = x }) None Side.Left s (q - sibling.first)))
+              × (right ≡ not (reached_from (record t { slots = x }) None Side.Right s (q - sibling.first))))
               (sym still.same) bits.split;
         }
 
@@ -389,10 +368,10 @@ module _ (t : Tree) (k h s : ℕ) (leaf parent sibling : Node) (family : AreFami
       cut-answer = ap (λ (it : Option Found). answer_after t k it) found
 
       slots-frame : (tag : Tag) (left right : Bool) →
-          slots_from t k h q (slot.Frame tag left right) (Some leaf_side) ≡ with_pair t.slots parent.list.0 q (split_on leaf_side tag left right)
+          slots_from t k h q (Slot.Frame tag left right) (Some leaf_side) ≡ with_pair t.slots parent.list.0 q (split_on leaf_side tag left right)
       slots-frame tag left right = rw (alone, family.parent_at) refl
 
-      answer-frame : (tag : Tag) (left right : Bool) → answer_from t k h q (slot.Frame tag left right) (Some leaf_side) ≡ answer_on leaf_side tag left right
+      answer-frame : (tag : Tag) (left right : Bool) → answer_from t k h q (Slot.Frame tag left right) (Some leaf_side) ≡ answer_on leaf_side tag left right
       answer-frame tag left right = rw alone refl
 
       cut-off : (slots : Slots) (answer : Cut) → slots_from t k h q row (Some leaf_side) ≡ slots → answer_from t k h q row (Some leaf_side) ≡ answer →
@@ -421,7 +400,7 @@ module _ (t : Tree) (k h s : ℕ) (leaf parent sibling : Node) (family : AreFami
       shows = λ w p page sight. refl;
     }
 
-    module _ (tag : Tag) (left right : Bool) (is_row : row ≡ slot.Frame tag left right) where
+    module _ (tag : Tag) (left right : Bool) (is_row : row ≡ Slot.Frame tag left right) where
       -- a row that is not seen through the sibling goes, with its frame
       pub row-gone : bit_on (other_side leaf_side) left right ≡ true →
           (now : ℕ → ℕ → Bool) × IsCut t k leaf q (with_pair t.slots parent.list.0 q None) out now in_use (Some tag.0)
@@ -429,7 +408,7 @@ module _ (t : Tree) (k h s : ℕ) (leaf parent sibling : Node) (family : AreFami
         | inl it ↦
             let split = split-none leaf_side tag left right off in (
               leaving_out out k it.0,
-              cut-off it.0 it.1 it.2 (with_pair t.slots parent.list.0 q None) (cut.LastViewer tag)
+              cut-off it.0 it.1 it.2 (with_pair t.slots parent.list.0 q None) (Cut.LastViewer tag)
                   (ap (λ (r : Slot). slots_from t k h q r (Some leaf_side)) is_row ∙ (slots-frame it.0 it.1 it.2 tag left right
                   ∙ ap (λ (r : Option Slot). with_pair t.slots parent.list.0 q r) split.0))
                   (ap (λ (r : Slot). answer_from t k h q r (Some leaf_side)) is_row ∙ (answer-frame it.0 it.1 it.2 tag left right ∙ split.1)),
@@ -448,7 +427,7 @@ module _ (t : Tree) (k h s : ℕ) (leaf parent sibling : Node) (family : AreFami
             record {
               now = leaving_out out k it.0;
               slots = with_pair t.slots parent.list.0 q (Some split.0);
-              is_cut = cut-off it.0 it.1 it.2 (with_pair t.slots parent.list.0 q (Some split.0)) cut.StillSeen
+              is_cut = cut-off it.0 it.1 it.2 (with_pair t.slots parent.list.0 q (Some split.0)) Cut.StillSeen
                   (ap (λ (r : Slot). slots_from t k h q r (Some leaf_side)) is_row ∙ (slots-frame it.0 it.1 it.2 tag left right
                   ∙ ap (λ (r : Option Slot). with_pair t.slots parent.list.0 q r) split.1))
                   (ap (λ (r : Slot). answer_from t k h q r (Some leaf_side)) is_row ∙ (answer-frame it.0 it.1 it.2 tag left right ∙ split.2));
@@ -462,10 +441,10 @@ module _ (t : Tree) (k h s : ℕ) (leaf parent sibling : Node) (family : AreFami
       ]
 
     -- a zero row is still there
-    zero-there : row ≡ slot.Zero → StillThere t k leaf parent.list.0 q row out in_use
+    zero-there : row ≡ Slot.Zero → StillThere t k leaf parent.list.0 q row out in_use
     zero-there is_row = elim in-window [
       | inl it ↦
-          untouched (leaving_out out k it.0) (cut-off it.0 it.1 it.2 t.slots cut.NothingThere
+          untouched (leaving_out out k it.0) (cut-off it.0 it.1 it.2 t.slots Cut.NothingThere
           (ap (λ (r : Slot). slots_from t k h q r (Some leaf_side)) is_row)
           (ap (λ (r : Slot). answer_from t k h q r (Some leaf_side)) is_row))
       | inr none ↦ untouched out (none-cut none)
@@ -528,37 +507,38 @@ family-lists arena k h s f it =
       λ same. apart.1 (f.by.own h s it.parent it.sibling it.family.parent_at it.family.sibling_at same),
     )
 
+-- no row has gone or moved
+pub family-same : {arena : Arena} {rows : Rows Row} {pool : Pool} {k h s : ℕ} → Moves arena rows rows pool pool k 0 (KeepsFamily arena k h s)
+family-same {arena} {rows} {pool} {k} {h} {s} =
+    moves-same (record { below = λ of. below-same (slots_of rows) of.parent of.sibling; left = λ parent at p row there. there })
+
 -- some rows have gone or moved, and then others
-pub lifted-same : {arena : Arena} {rows : Rows Row} {pool : Pool} {k h s : ℕ} → IsLifting arena rows pool k h s → HasLifted arena rows rows pool pool k h s
-lifted-same {arena} {rows} {pool} {k} {h} {s} was =
-    record { now = was; moves = record { accounts = accounts-same rows pool; shows = λ w q page before. refl }; rows = below-same (slots_of rows) was.of.parent was.of.sibling }
+below-both : {arena : Arena} {k h s : ℕ} (f : IsForest (nodes_of arena) arena.lists) (of : IsFamilyOf arena k h s) (old mid new : Rows Row) →
+    KeepsBelow (slots_of old) (slots_of mid) of.parent of.sibling → KeepsBelow (slots_of mid) (slots_of new) of.parent of.sibling →
+    KeepsBelow (slots_of old) (slots_of new) of.parent of.sibling
+below-both {arena} {k} {h} {s} f of old mid new =
+    below-then (slots_of old) (slots_of mid) (slots_of new) of.parent of.sibling (family-lists arena k h s f of).2
 
-pub lifted-then : {arena : Arena} {old mid new : Rows Row} {before between after : Pool} {k h s : ℕ} → HasLifted arena old mid before between k h s →
-    HasLifted arena mid new between after k h s → HasLifted arena old new before after k h s
-lifted-then {arena} {old} {mid} {new} {before} {between} {after} {k} {h} {s} one two = record {
-  now = two.now;
-  moves = moves-then one.moves two.moves;
-  rows = below-then (slots_of old) (slots_of mid) (slots_of new) two.now.of.parent two.now.of.sibling
-      (family-lists arena k h s two.now.lifted.exact.forest two.now.of).2
-      (below-of one.now.of two.now.of (slots_of old) (slots_of mid) one.rows) two.rows;
-}
+module _ {arena : Arena} {old mid new : Rows Row} {before between after : Pool} {k h s : ℕ} (f : IsForest (nodes_of arena) arena.lists) where
+  pub family-then : Moves arena old mid before between k 0 (KeepsFamily arena k h s) → Moves arena mid new between after k 0 (KeepsFamily arena k h s) →
+      Moves arena old new before after k 0 (KeepsFamily arena k h s)
+  family-then = moves-then (λ one two. record {
+    below = λ of. below-both f of old mid new (one.below of) (two.below of);
+    left = λ parent at p row there. one.left parent at p row (two.left parent at p row there);
+  })
 
--- the same of the parent as it was found
-pub below-found : {arena : Arena} {old new : Rows Row} {before after : Pool} {k h s : ℕ} (it : HasLifted arena old new before after k h s) (parent : Node) →
-    nodes_of arena h ≡ Some parent → KeepsBelow (slots_of old) (slots_of new) parent it.now.of.sibling
-below-found {arena} {old} {new} {before} {after} {k} {h} {s} it parent at =
-    subst (λ (n : Node). KeepsBelow (slots_of old) (slots_of new) n it.now.of.sibling) (some_same (sym it.now.of.family.parent_at ∙ at)) it.rows
+  -- rows went before
+  pub lost-lifted : (of : IsFamilyOf arena k h s) → Moves arena old mid before between k 0 IsPartOf → Moves arena mid new between after k 0 (KeepsFamily arena k h s) →
+      Moves arena old new before after k 0 (λ a b. KeepsBelow a b of.parent of.sibling)
+  lost-lifted of one two = moves-then (below-both f of old mid new)
+      (moves-as one (below-fewer (slots_of old) (slots_of mid) of.parent of.sibling (part-none (slots_of old) (slots_of mid) one.keeps)))
+      (moves-as two (two.keeps.below of))
 
--- rows went before
-pub lost-lifted : {arena : Arena} {old mid new : Rows Row} {before between after : Pool} {k h s : ℕ} → HasLost arena old mid before between k 0 →
-    HasLifted arena mid new between after k h s → HasLifted arena old new before after k h s
-lost-lifted {arena} {old} {mid} {new} {before} {between} {after} {k} {h} {s} one two = record {
-  now = two.now;
-  moves = moves-then one.moves two.moves;
-  rows = below-then (slots_of old) (slots_of mid) (slots_of new) two.now.of.parent two.now.of.sibling
-      (family-lists arena k h s two.now.lifted.exact.forest two.now.of).2
-      (below-fewer (slots_of old) (slots_of mid) two.now.of.parent two.now.of.sibling (part-none (slots_of old) (slots_of mid) one.part)) two.rows;
-}
+-- what is said of the parent, of the parent as it was found
+pub below-found : {arena : Arena} {old new : Slots} {k h s : ℕ} → KeepsFamily arena k h s old new → (of : IsFamilyOf arena k h s) (parent : Node) →
+    nodes_of arena h ≡ Some parent → KeepsBelow old new parent of.sibling
+below-found {arena} {old} {new} {k} {h} {s} keeps of parent at =
+    subst (λ (n : Node). KeepsBelow old new n of.sibling) (some_same (sym of.family.parent_at ∙ at)) (keeps.below of)
 
 -- It ends where the parent has no rows: all pages of the node are left out.
 module _ (arena : Arena) (slots : Slots) (after : Pool) (k h s : ℕ) (of : IsFamilyOf arena k h s)
@@ -603,21 +583,11 @@ pub told : (bit seen : Bool) → seen ≡ not bit → seen ≡ true → bit ≡ 
 told true seen is e = absurd (cc)
 told false seen is e = refl
 
--- a row that is seen through a node is seen by the node
-pub settle-sees : (slots : Slots) (parent : Node) (s : ℕ) (node : Node) (q : ℕ) (row : Slot) (seen : Bool) → TellsSeen slots parent s node q row seen →
-    ((tag : Tag) (left right : Bool) → row ≡ slot.Frame tag left right → bit_on (side_of parent s) left right ≡ false → SeesRow slots node q) →
-    seen ≡ true → SeesRow slots node q
-settle-sees slots parent s node q row seen tells bits on = by_row row refl
-  where
-    by_row : (r : Slot) → row ≡ r → SeesRow slots node q
-    by_row slot.Zero e = (tells.zero e).0 on
-    by_row (slot.Frame tag left right) e = bits tag left right e (told _ _ (tells.frame tag left right e) on)
-
 -- what a row with a frame says of the sibling's side, and a zero row of what the sibling sees
 abbrev pub IsUnseen : Slots → (parent : Node) → (k : ℕ) → (sibling : Node) → (q : ℕ) → Slot → Type 0
 IsUnseen slots parent k sibling q row =
-    ((tag : Tag) (left right : Bool) → row ≡ slot.Frame tag left right → bit_on (other_side (side_of parent k)) left right ≡ true)
-    × (row ≡ slot.Zero → SeesRow slots sibling q → ⊥)
+    ((tag : Tag) (left right : Bool) → row ≡ Slot.Frame tag left right → bit_on (other_side (side_of parent k)) left right ≡ true)
+    × (row ≡ Slot.Zero → SeesRow slots sibling q → ⊥)
 
 -- The rows and the pool changed: the tree of the new rows is like that of the old, and the other VMOs show what they showed.
 pub record HasLiftedOn (arena : Arena) (old new : Slots) (pool : Pool) (k h s : ℕ) (of : IsFamilyOf arena k h s) : Type 0 where
@@ -666,7 +636,7 @@ module _ (arena : Arena) (first : Slots) (between after : Pool) (k h s : ℕ) (o
     below = below;
   }
 
-  zero-still : row ≡ slot.Zero → StillThere first_tree k of.node of.parent.list.0 q row was.out (is_taken between)
+  zero-still : row ≡ Slot.Zero → StillThere first_tree k of.node of.parent.list.0 q row was.out (is_taken between)
   zero-still e = zero-there first_tree k h s of.node of.parent of.sibling of.family of.visible q row has was.out (is_taken between) was.exact was.only was.bare e
 
   -- a row goes that is not seen through the sibling, with its frame
@@ -682,17 +652,17 @@ module _ (arena : Arena) (first : Slots) (between after : Pool) (k h s : ℕ) (o
           (λ l p _ apart. with_pair-other first of.parent.list.0 q None l p (λ a b. apart (a, b))) (below-gone first of.parent of.sibling q)
 
       goes : (r : Slot) → row ≡ r → HasLiftedOn arena first (with_pair first of.parent.list.0 q None) after k h s of
-      goes slot.Zero e = next None _ (ap frame_in e)
+      goes Slot.Zero e = next None _ (ap frame_in e)
           (zero-gone first_tree k h s of.node of.parent of.sibling of.family of.visible q row has was.out (is_taken between) was.exact was.only (zero-still e)
           (unseen.1 e))
-      goes (slot.Frame tag left right) e =
+      goes (Slot.Frame tag left right) e =
           let it = row-gone first_tree k h s of.node of.parent of.sibling of.family of.visible q row has was.out (is_taken between) was.exact was.only was.bare tag left right e
           (unseen.0 tag left right e) in
           next (Some tag.0) it.0 (ap frame_in e) it.1
 
   -- one moves that the sibling sees
   pub lifted-moved : (now : Slot) → SeesRow first of.sibling q →
-      ((tag : Tag) (left right : Bool) → row ≡ slot.Frame tag left right → bit_on (other_side (side_of of.parent k)) left right ≡ false) →
+      ((tag : Tag) (left right : Bool) → row ≡ Slot.Frame tag left right → bit_on (other_side (side_of of.parent k)) left right ≡ false) →
       IsMoved (with_row first_tree of.parent.list.0 q None) s (q - of.sibling.first) of.sibling row now → ((x : ℕ) → is_taken after x ≡ is_taken between x) →
       HasLiftedOn arena first (with_pair (with_pair first of.parent.list.0 q None) of.sibling.list.0 (q - of.sibling.first) (Some now)) after k h s of
   lifted-moved now sees bit moved taken = moves row refl
@@ -709,8 +679,8 @@ module _ (arena : Arena) (first : Slots) (between after : Pool) (k h s : ℕ) (o
 
       moves : (r : Slot) → row ≡ r →
           HasLiftedOn arena first (with_pair (with_pair first of.parent.list.0 q None) of.sibling.list.0 (q - of.sibling.first) (Some now)) after k h s of
-      moves slot.Zero e = next (zero-still e)
-      moves (slot.Frame tag left right) e = next
+      moves Slot.Zero e = next (zero-still e)
+      moves (Slot.Frame tag left right) e = next
           (row-there first_tree k h s of.node of.parent of.sibling of.family of.visible q row has was.out (is_taken between) was.exact was.only was.bare tag left right e
           (bit tag left right e))
 
@@ -736,65 +706,6 @@ linked-placed old new before after l p own q was now has frame_same links each l
         ]
   ];
 }
-
--- A row of the parent was taken out, and is gone, or has moved.
-module _ (arena : Arena) (first mid new : Rows Row) (between after : Pool) (k h s : ℕ) (of : IsFamilyOf arena k h s) (q : ℕ) (row : Slot)
-    (has : slots_of first of.parent.list.0 q ≡ Some row) (taken_out : slots_of mid ≡ with_pair (slots_of first) of.parent.list.0 q None) where
-  abbrev above : Node
-  above = of.parent
-
-  abbrev beside_it : Node
-  beside_it = of.sibling
-
-  module _ (gone : (new ≡ mid) × HasGiven between after (frame_in row)) where
-    pub gone-slots : slots_of new ≡ with_pair (slots_of first) above.list.0 q None
-    gone-slots = ap (λ (r : Rows Row). slots_of r) gone.0 ∙ taken_out
-
-    pub gone-linked : AreLinked first between → AreLinked new after
-    gone-linked linked = record {
-      linked = λ m r other tag e frame.
-          ap (λ (f : ℕ → Backlink). f tag) gone.1.links
-          ∙ linked.linked m r other tag (was-there (slots_of first) above.list.0 q m r other (sym (ap (λ (x : Slots). x m r) gone-slots) ∙ e)).1 frame;
-    }
-
-  module _ (moved : HasLiftedRow arena mid new between after s beside_it q row) where
-    abbrev to : ℕ
-    to = q - beside_it.first
-
-    abbrev both : Slots
-    both = with_pair (with_pair (slots_of first) above.list.0 q None) beside_it.list.0 to (Some moved.now)
-
-    pub moved-slots : slots_of new ≡ both
-    moved-slots = moved.slots ∙ ap (λ (x : Slots). with_pair x beside_it.list.0 to (Some moved.now)) taken_out
-
-    -- a row is the one that moved, or it was there
-    came-or-was : (m r : ℕ) (other : Slot) → slots_of new m r ≡ Some other →
-        ((m ≡ beside_it.list.0) × (r ≡ to) × (other ≡ moved.now)) ⊎ (((m ≡ above.list.0) × (r ≡ q) → ⊥) × (slots_of first m r ≡ Some other))
-    came-or-was m r other e =
-        let e' = sym (ap (λ (x : Slots). x m r) moved-slots) ∙ e in
-        elim (cases_place beside_it.list.0 to m r) [
-          | inl here ↦
-              let same : both m r ≡ Some moved.now = rw (here.0, here.1) (with_pair-same _ beside_it.list.0 to (Some moved.now)) in
-              inl (here.0, here.1, some_same (sym e' ∙ same))
-          | inr differs ↦ inr (was-there (slots_of first) above.list.0 q m r other
-              (sym (with_pair-other _ beside_it.list.0 to (Some moved.now) m r (λ x y. differs (x, y))) ∙ e'))
-        ]
-
-    pub moved-linked : AreLinked first between → AreLinked new after
-    moved-linked = linked-placed first new between after beside_it.list.0 to above.list.0 q row moved.now has moved.moved.frame moved.links came-or-was
-
-  -- the parent's list has lost this row alone
-  pub settled-list : (above.list.0 ≢ beside_it.list.0) → HasSettled arena mid new between after above s beside_it q row → (p : ℕ) →
-      slots_of new above.list.0 p ≡ (if p == q then None else slots_of first above.list.0 p)
-  settled-list apart done p = same ∙ rows-gone (slots_of first) (slots_of mid) above.list.0 q p taken_out
-    where
-      same : slots_of new above.list.0 p ≡ slots_of mid above.list.0 p
-      same = elim (cases_Bool done.seen) [
-        | inl on ↦
-            let moved = done.moves on in
-            rows-beside (slots_of mid) (slots_of new) above.list.0 beside_it.list.0 (q - beside_it.first) p (Some moved.now) moved.slots apart
-        | inr off ↦ ap (λ (r : Rows Row). slots_of r above.list.0 p) ((done.gone off).0)
-      ]
 
 -- A row of the parent was taken out.
 module _ {arena : Arena} {first : Rows Row} (mid : Rows Row) {between : Pool} {k h s : ℕ} (q : ℕ) (row : Slot)
@@ -829,74 +740,96 @@ module _ {arena : Arena} {first : Rows Row} (mid : Rows Row) {between : Pool} {k
   pub row-taken : (tag : ℕ) → frame_in row ≡ Some tag → IsSome (taken_frames between tag)
   row-taken tag frame = was.lifted.exact.used parent.list.0 q row tag has frame
 
-  -- what its bits tell of the sibling's side holds
-  pub row-sees-mid : (tag : Tag) (left right : Bool) → row ≡ slot.Frame tag left right → bit_on (side_of parent s) left right ≡ false → SeesRow (slots_of mid) sibling q
-  row-sees-mid tag left right e seen = sees-mid
-      (row-sees t k h s node parent sibling was.of.family was.of.visible q row has was.lifted.out (is_taken between) was.lifted.exact was.lifted.only
-      tag left right e (ap (λ (from : Side). bit_on from left right) (sym (family-other arena k h s was.lifted.exact.forest was.of)) ∙ seen))
+  -- the parent's list has lost this row alone, also where it came into the sibling's list
+  pub list-gone : (p : ℕ) → slots_of mid parent.list.0 p ≡ (if p == q then None else slots_of first parent.list.0 p)
+  list-gone p = rows-gone (slots_of first) (slots_of mid) parent.list.0 q p taken_out
 
-  module _ {new : Rows Row} {after : Pool} where
-    -- what the rows and the frames are now
-    next : (slots : Slots) → slots_of new ≡ slots → HasLiftedOn arena (slots_of first) slots after k h s was.of →
-        Accounts first new between after → HasLifted arena first new between after k h s
-    next slots is it accounts = record {
-      now = record { of = was.of; lifted = subst (λ (x : Slots). AreLifted arena x after k h node) (sym is) it.lifted };
-      moves = record { accounts = accounts; shows = subst (λ (x : Slots). ShowsSame t (record t { slots = x }) (IsNotFrom k 0)) (sym is) it.shows };
-      rows = subst (λ (x : Slots). KeepsBelow (slots_of first) x parent sibling) (sym is) it.below;
-    }
+  pub list-moved : (new : Slots) (r : ℕ) (now : Option Slot) → new ≡ with_pair (slots_of mid) sibling.list.0 r now → (p : ℕ) →
+      new parent.list.0 p ≡ (if p == q then None else slots_of first parent.list.0 p)
+  list-moved new r now slots p = rows-beside (slots_of mid) new parent.list.0 sibling.list.0 r p now slots lists.2 ∙ list-gone p
 
-    -- ---- the row is gone
+  -- what the rows and the frames are now
+  next : {new : Rows Row} {after : Pool} (slots : Slots) → slots_of new ≡ slots → HasLiftedOn arena (slots_of first) slots after k h s was.of →
+      ((p : ℕ) → slots_of new parent.list.0 p ≡ (if p == q then None else slots_of first parent.list.0 p)) → Accounts first new between after →
+      IsLifting arena new after k h s × Moves arena first new between after k 0 (KeepsFamily arena k h s)
+  next {new} {after} slots is it gone accounts = (
+    record { of = was.of; lifted = subst (λ (x : Slots). AreLifted arena x after k h node) (sym is) it.lifted },
+    record {
+      accounts = accounts;
+      shows = subst (λ (x : Slots). ShowsSame t (record t { slots = x }) (IsNotFrom k 0)) (sym is) it.shows;
+      keeps = record {
+        below = λ of. below-of was.of of (slots_of first) (slots_of new) (subst (λ (x : Slots). KeepsBelow (slots_of first) x parent sibling) (sym is) it.below);
+        left = λ up at p row. subst (λ (n : Node). slots_of new n.list.0 p ≡ Some row → slots_of first n.list.0 p ≡ Some row)
+            (some_same (sym was.of.family.parent_at ∙ at)) (left-was (slots_of first parent.list.0) (slots_of new parent.list.0) q gone p row);
+      };
+    },
+  )
 
-    module _ (gone : (new ≡ mid) × HasGiven between after (frame_in row)) where
-      gone-next : IsUnseen (slots_of first) parent k sibling q row → row_count mid + 1 ≡ row_count first → mid.spare ≡ first.spare + 1 →
-          HasLifted arena first new between after k h s
-      gone-next unseen count spare =
-          let spare_is = ap (λ (r : Rows Row). r.spare) gone.0 in
-          let count_is = ap (λ (r : Rows Row). row_count r) gone.0 in
-          next (with_pair (slots_of first) parent.list.0 q None) (gone-slots arena first mid new between after k h s was.of q row has taken_out gone)
-          (lifted-gone arena (slots_of first) between after k h s was.of q row was.lifted has unseen gone.1.taken) (record {
-            gives = gone.1.gives;
-            linked = gone-linked arena first mid new between after k h s was.of q row has taken_out gone;
+  -- whether it is seen through the sibling, was told by its side
+  module _ (side : Side) (side_is : side ≡ side_of parent s) (seen : Bool) (tells : TellsSeen (slots_of mid) side sibling q row seen) where
+    other : side ≡ other_side (side_of parent k)
+    other = side_is ∙ family-other arena k h s was.lifted.exact.forest was.of
+
+    bit-off : seen ≡ true → (tag : Tag) (left right : Bool) → row ≡ Slot.Frame tag left right → bit_on (other_side (side_of parent k)) left right ≡ false
+    bit-off on tag left right e = ap (λ (from : Side). bit_on from left right) (sym other) ∙ told _ _ (tells.frame tag left right e) on
+
+    -- if so, the sibling sees it
+    pub settled-sees : seen ≡ true → SeesRow (slots_of mid) sibling q
+    settled-sees on = by_row row refl
+      where
+        by_row : (r : Slot) → row ≡ r → SeesRow (slots_of mid) sibling q
+        by_row Slot.Zero e = (tells.zero e).0 on
+        by_row (Slot.Frame tag left right) e = sees-mid (row-sees t k h s node parent sibling was.of.family was.of.visible q row has was.lifted.out
+            (is_taken between) was.lifted.exact was.lifted.only tag left right e (bit-off on tag left right e))
+
+    -- if not, it goes with its frame
+    pub settled-gone : {after : Pool} → seen ≡ false → HasGiven between after (frame_in row) → row_count mid + 1 ≡ row_count first →
+        mid.spare ≡ first.spare + 1 → IsLifting arena mid after k h s × Moves arena first mid between after k 0 (KeepsFamily arena k h s)
+    settled-gone {after} off given count spare =
+        next (with_pair (slots_of first) parent.list.0 q None) taken_out
+        (lifted-gone arena (slots_of first) between after k h s was.of q row was.lifted has (
+          (λ tag left right e. ap (λ (from : Side). bit_on from left right) (sym other) ∙ untold _ _ (tells.frame tag left right e) off),
+          (λ e sees. let told = (tells.zero e).1 (sees-mid sees) in absurd (cc)),
+        ) given.taken) list-gone
+        (accounts-part first mid between after (frame_in row)
+        (subst (λ (x : Slots). IsPartOf (slots_of first) x) (sym taken_out) (part-with_pair (slots_of first) parent.list.0 q None (λ r e. absurd (cc))))
+        given (omega arith) (omega arith))
+
+    -- a row that the sibling sees has moved
+    module _ (new : Rows Row) (after : Pool) (now : Slot) (moved : IsMoved (tree_of arena mid) s (q - sibling.first) sibling row now)
+        (slots : slots_of new ≡ with_pair (slots_of mid) sibling.list.0 (q - sibling.first) (Some now)) (taken : taken_frames after ≡ taken_frames between)
+        (frames : after.frames ≡ between.frames)
+        (links : (x : ℕ) → links_of after x ≡ (if is_row_of_frame x now then record { list = sibling.list.0; page = q - sibling.first } else links_of between x)) where
+      abbrev both : Slots
+      both = with_pair (with_pair (slots_of first) parent.list.0 q None) sibling.list.0 (q - sibling.first) (Some now)
+
+      now-both : slots_of new ≡ both
+      now-both = slots ∙ ap (λ (x : Slots). with_pair x sibling.list.0 (q - sibling.first) (Some now)) taken_out
+
+      -- a row is the one that moved, or it was there
+      came-or-was : (m r : ℕ) (row : Slot) → slots_of new m r ≡ Some row →
+          ((m ≡ sibling.list.0) × (r ≡ q - sibling.first) × (row ≡ now)) ⊎ (((m ≡ parent.list.0) × (r ≡ q) → ⊥) × (slots_of first m r ≡ Some row))
+      came-or-was m r row e =
+          let there = sym (ap (λ (x : Slots). x m r) now-both) ∙ e in
+          elim (cases_place sibling.list.0 (q - sibling.first) m r) [
+            | inl here ↦
+                let same : both m r ≡ Some now = rw (here.0, here.1) (with_pair-same _ sibling.list.0 (q - sibling.first) (Some now)) in
+                inl (here.0, here.1, some_same (sym there ∙ same))
+            | inr differs ↦ inr (was-there (slots_of first) parent.list.0 q m r row
+                (sym (with_pair-other _ sibling.list.0 (q - sibling.first) (Some now) m r (λ x y. differs (x, y))) ∙ there))
+          ]
+
+      pub settled-moved : seen ≡ true → row_count mid + 1 ≡ row_count first → mid.spare ≡ first.spare + 1 → row_count new ≡ row_count mid + 1 →
+          new.spare + 1 ≡ mid.spare → IsLifting arena new after k h s × Moves arena first new between after k 0 (KeepsFamily arena k h s)
+      settled-moved on fewer room count spare =
+          let bits = subst (λ (x : Slots). IsMoved (record (tree_of arena first) { slots = x }) s (q - sibling.first) sibling row now) taken_out moved in
+          next both now-both
+          (lifted-moved arena (slots_of first) between after k h s was.of q row was.lifted has now (sees-first (settled-sees on)) (bit-off on) bits
+          (λ x. ap (λ f. is_some (f x)) taken))
+          (list-moved (slots_of new) (q - sibling.first) (Some now) slots)
+          (record {
+            gives = record { frames = frames; kept = λ x. inl (ap (λ f. f x) taken) };
+            linked = linked-placed first new between after sibling.list.0 (q - sibling.first) parent.list.0 q row now has moved.frame links came-or-was;
             spare = omega arith;
             count = omega arith;
           })
-
-    -- ---- the row has moved
-
-    module _ (moved : HasLiftedRow arena mid new between after s sibling q row) where
-      moved-next : SeesRow (slots_of first) sibling q →
-          ((tag : Tag) (left right : Bool) → row ≡ slot.Frame tag left right → bit_on (other_side (side_of parent k)) left right ≡ false) →
-          row_count mid + 1 ≡ row_count first → mid.spare ≡ first.spare + 1 → HasLifted arena first new between after k h s
-      moved-next sees bit count spare =
-          let bits = subst (λ (x : Slots). IsMoved (record (tree_of arena first) { slots = x }) s (q - sibling.first) sibling row moved.now) taken_out moved.moved in
-          next (with_pair (with_pair (slots_of first) parent.list.0 q None) sibling.list.0 (q - sibling.first) (Some moved.now))
-          (moved-slots arena first mid new between after k h s was.of q row has taken_out moved)
-          (lifted-moved arena (slots_of first) between after k h s was.of q row was.lifted has moved.now sees bit bits (λ x. ap (λ f. is_some (f x)) moved.taken))
-          (record {
-            gives = record { frames = moved.frames; kept = λ x. inl (ap (λ f. f x) moved.taken) };
-            linked = moved-linked arena first mid new between after k h s was.of q row has taken_out moved;
-            spare = omega (arith, moved.spare);
-            count = omega (arith, moved.count);
-          })
-
-    -- the row is gone, or has moved
-    pub lifting-settled : HasSettled arena mid new between after parent s sibling q row → row_count mid + 1 ≡ row_count first → mid.spare ≡ first.spare + 1 →
-        HasLifted arena first new between after k h s
-    lifting-settled done count spare = elim (cases_Bool done.seen) [
-      | inl on ↦ moved-next (done.moves on) (sees-first (settle-sees (slots_of mid) parent s sibling q row done.seen done.tells row-sees-mid on)) (bit-off on) count spare
-      | inr off ↦ gone-next (done.gone off) (
-        (λ tag left right e. ap (λ (from : Side). bit_on from left right) (sym other) ∙ untold _ _ (done.tells.frame tag left right e) off),
-        (λ e sees. let seen = (done.tells.zero e).1 (sees-mid sees) in absurd (cc)),
-      ) count spare
-    ]
-      where
-        other : side_of parent s ≡ other_side (side_of parent k)
-        other = family-other arena k h s was.lifted.exact.forest was.of
-
-        bit-off : done.seen ≡ true → (tag : Tag) (left right : Bool) → row ≡ slot.Frame tag left right → bit_on (other_side (side_of parent k)) left right ≡ false
-        bit-off on tag left right e = ap (λ (from : Side). bit_on from left right) (sym other) ∙ told _ _ (done.tells.frame tag left right e) on
-
-    -- the parent's list has lost this row alone
-    pub lifting-list : HasSettled arena mid new between after parent s sibling q row → (p : ℕ) →
-        slots_of new parent.list.0 p ≡ (if p == q then None else slots_of first parent.list.0 p)
-    lifting-list = settled-list arena first mid new between after k h s was.of q row has taken_out lists.2

@@ -1,37 +1,15 @@
 -- A row of a hidden node is passed on the way up: the page of v that comes to it is cut off there, or nothing changes.
-use Rattle.std.proofs.Common.{◌≡◌, ℕ, ◌+◌, ◌-◌, ◌<◌, ◌≤◌, Bool, true, Option, None, Some, inl, inr, IsSome}
-use Rattle.std.proofs.Common.{refl, sym, ap, subst, ◌∙◌, arith}
-use Rattle.std.specs.Prelude.{is_some}
-use Rattle.std.proofs.lemmas.Bool.{cases_Bool}
-use Rattle.balanced_tree.specs.Rows.{Rows}
-use Rattle.vm_base.specs.declared.names.Tag.{Tag}
-use Rattle.vm_base.proofs.EntryLaws.{some_same}
-use Rattle.page_list.specs.declared.row.Row.{Row}
-use Rattle.page_list.specs.declared.row.Slot.{Slot}
-use Rattle.page_list.specs.declared.row.Slot.TheVariants as slot
-use Rattle.page_list.specs.Lists.{slots_of, row_count}
-use Rattle.frame_pool.specs.Pool.{Pool, taken_frames, is_taken}
-use Rattle.cow_arena.specs.declared.node.Node.{Node}
-use Rattle.cow_arena.specs.declared.node.NodeId.{NodeId}
-use Rattle.cow_arena.specs.declared.node.Side.{Side}
-use Rattle.cow_arena.specs.declared.node.Side.TheVariants as side
-use Rattle.cow_arena.specs.Nodes.{Arena, nodes_of, IsVisible, side_of}
-use Rattle.cow_arena.specs.Walk.{Tree}
-use Rattle.cow_arena.specs.Forest.{IsForest}
-use Rattle.cow_arena.specs.Ways.{HasRow, Climbs, Reaches, Arrives, IsPartOf}
+use Rattle.cow_merge.proofs.Words.{◌≡◌, ℕ, ◌+◌, ◌-◌, ◌<◌, ◌≤◌, Bool, true, Option, None, Some, inl, inr, IsSome, refl, sym, ap, subst, ◌∙◌}
+use Rattle.cow_merge.proofs.Words.{arith, is_some, cases_Bool, Rows, Tag, some_same, Row, Slot, slots_of, row_count, Pool, taken_frames}
+use Rattle.cow_merge.proofs.Words.{is_taken, Node, NodeId, Side, Arena, nodes_of, IsVisible, side_of, Tree, frame_shown, IsForest, HasRow}
+use Rattle.cow_merge.proofs.Words.{Climbs, Reaches, Arrives, IsPartOf, Cut, tree_of, ComesTo, IsPage, IsSeenFrom, AreSplitBits, IsExact}
+use Rattle.cow_merge.proofs.Words.{IsOnlyOf, leaving_out, frame_left, HasCut, IsUnseenBy, bare_of, bit_on, is_split, HasGiven, IsOnlyWay}
+use Rattle.cow_merge.proofs.Words.{HasCutOff, ComesNotTo, IsExactFor}
 use Rattle.cow_arena.proofs.ReachLaws.{reach-cases, reach-after, reach-apart, reach-hidden, side-is, found-of-reach, arrives-or-not}
-use Rattle.cow_split.specs.declared.answers.Cut.{Cut}
-use Rattle.cow_split.specs.declared.answers.Cut.TheVariants as cut
-use Rattle.cow_split.specs.Trees.{tree_of}
-use Rattle.cow_split.specs.Searching.{ComesTo}
-use Rattle.cow_split.specs.Sight.{IsPage, IsSeenFrom}
-use Rattle.cow_split.specs.Exact.{AreSplitBits, IsExact, leaving_out, without_frame}
-use Rattle.cow_split.specs.Cutting.{frame_left, HasCut, IsUnseenBy}
 use Rattle.cow_split.proofs.ExactLaws.{cases_place}
-use Rattle.cow_split.proofs.RowLaws.{left_out-here, left_out-other}
+use Rattle.cow_split.proofs.RowLaws.{left_out-here, left_out-other, exact-in_use_alike}
 use Rattle.cow_split.proofs.PartLaws.{part-same}
-use Rattle.cow_merge.specs.Ranges.{bare_of, bit_on, is_split, HasGiven, IsOnlyWay, IsCutOr, ComesNotTo, IsExactFor}
-use Rattle.cow_merge.proofs.RangeLaws.{reach-part, given-none, cut-taken, cut-left_out, accounts-same, accounts-part, kept-same}
+use Rattle.cow_merge.proofs.RangeLaws.{reach-part, given-none, cut-taken, cut-left_out, cut-spared, accounts-same, accounts-part}
 
 -- ---- the ways through the windows
 
@@ -95,31 +73,32 @@ module _ {arena : Arena} {old new : Rows Row} {v p : ℕ} {from : Side} {h q : �
   comes = from-there (tree_of arena old) v p from h q has.node has.visible hidden only
 
   -- the frame that is to be given back is taken
-  pub row-taken : (tag : Tag) → answer ≡ cut.LastViewer tag → IsSome (taken_frames pool tag.0)
+  pub row-taken : (tag : Tag) → answer ≡ Cut.LastViewer tag → IsSome (taken_frames pool tag.0)
   row-taken tag is = elim (arrives-or-not (tree_of arena old) has.exact.forest h q v p) [
     | inl way ↦ cut-taken arena old new v p has.node has.visible pool has.out answer tag has.exact has.only bare (seen (comes way.0 way.1)) is
     | inr none ↦ absurd (let stays = stayed (λ way. none (Some from) way) in let left = ap frame_left is in let nothing = stays.1 in cc)
   ]
 
   pub row-passed : (after : Pool) → HasGiven pool after (frame_left answer) → old.spare ≤ new.spare → row_count new ≤ row_count old →
-      IsCutOr arena old new pool after v p (ComesNotTo (tree_of arena old) v p h q)
-  row-passed after given spare count = elim (arrives-or-not (tree_of arena old) has.exact.forest h q v p) [
-    | inl way ↦ inl (cut-left_out arena old new v p has.node has.visible pool after answer has.exact.forest bare (seen (comes way.0 way.1)) given)
+      (out : ℕ → ℕ → Bool) → IsExact (tree_of arena old) out (is_taken pool) → IsOnlyOf out v →
+      HasCutOff arena old new pool after v p (ComesNotTo (tree_of arena old) v p h q) out
+  row-passed after given spare count out exact of_v = elim (arrives-or-not (tree_of arena old) has.exact.forest h q v p) [
+    | inl way ↦
+        cut-left_out arena old new v p has.node has.visible pool after answer has.exact.forest bare (seen (comes way.0 way.1)) given out exact of_v
     | inr none ↦
         let stays = stayed (λ way. none (Some from) way) in
         let same = subst (λ o. HasGiven pool after o) stays.1 given in
-        inr (
-          record {
-            rows = stays.0;
-            taken = λ t. same.taken t ∙ kept t;
-            accounts = accounts-part old new pool after None (subst (λ s. IsPartOf (slots_of old) s) (sym stays.0) (part-same (slots_of old))) same spare count;
-          },
-          none,
-        )
+        let part = subst (λ s. IsPartOf (slots_of old) s) (sym stays.0) (part-same (slots_of old)) in
+        record {
+          now = out;
+          leaves = inr (refl, none);
+          exact = exact-in_use_alike (tree_of arena new) out (is_taken pool) (is_taken after) (λ t. (given-none pool).taken t ∙ sym (same.taken t))
+              (subst (λ s. IsExact (record (tree_of arena old) { slots = s }) out (is_taken pool)) (sym stays.0) exact);
+          shows = λ w r page sight. ap (λ s. frame_shown (record (tree_of arena old) { slots = s }) w r) stays.0;
+          part = part;
+          accounts = accounts-part old new pool after None part same spare count;
+        }
   ]
-    where
-      kept : (t : ℕ) → without_frame (is_taken pool) None t ≡ is_taken pool t
-      kept t = sym ((given-none pool).taken t)
 
 -- ---- a row whose bit of the side is set
 
@@ -140,24 +119,24 @@ module _ (t : Tree) (out : ℕ → ℕ → Bool) (in_use : ℕ → Bool) (exact 
   -- the bit denies that the page is in sight
   split-out : (above : Node) (slot : Slot) → t.nodes h ≡ Some above → above.koid ≡ None → t.slots above.list.0 q ≡ Some slot → is_split from slot ≡ true →
       out v p ≡ true
-  split-out above slot.Zero at hidden row split = absurd (cc)
-  split-out above (slot.Frame tag left right) at hidden row split = elim (cases_Bool (out v p)) [
+  split-out above Slot.Zero at hidden row split = absurd (cc)
+  split-out above (Slot.Frame tag left right) at hidden row split = elim (cases_Bool (out v p)) [
     | inl gone ↦ gone
     | inr sight ↦ absurd (denied from left right (exact.bits h q above tag left right at hidden row) split (record {
       v = v;
       p = p;
       sees = record {
         page = way-page;
-        slot = slot.Frame tag left right;
-        found = found-of-reach t exact.forest v p from h q above (slot.Frame tag left right) way at row;
+        slot = Slot.Frame tag left right;
+        found = found-of-reach t exact.forest v p from h q above (Slot.Frame tag left right) way at row;
       };
       in_sight = sight;
     }))
   ]
     where
       denied : (s : Side) (one other : Bool) → AreSplitBits t out h q one other → bit_on s one other ≡ true → IsSeenFrom t out s h q → ⊥
-      denied side.Left one other bits e = bits.left_bit.is_true e
-      denied side.Right one other bits e = bits.right_bit.is_true e
+      denied Side.Left one other bits e = bits.left_bit.is_true e
+      denied Side.Right one other bits e = bits.right_bit.is_true e
 
 -- what is left out is left out
 out-again : (out : ℕ → ℕ → Bool) (v p : ℕ) → out v p ≡ true → (w r : ℕ) → out w r ≡ leaving_out out v p w r
@@ -172,17 +151,20 @@ out-again out v p gone w r = elim (cases_place v p w r) [
 -- so nothing has to change
 pub split-passed : (arena : Arena) (rows : Rows Row) (pool : Pool) (v p : ℕ) (from : Side) (h q : ℕ) (slot : Slot) (has : IsExactFor arena rows pool v) →
     HasRow (tree_of arena rows) h q slot → ((above : Node) → nodes_of arena h ≡ Some above → above.koid ≡ None) → IsOnlyWay (tree_of arena rows) v p from h q →
-    is_split from slot ≡ true → IsCutOr arena rows rows pool pool v p (ComesNotTo (tree_of arena rows) v p h q)
-split-passed arena rows pool v p from h q slot has row hidden only split = elim (arrives-or-not (tree_of arena rows) has.exact.forest h q v p) [
-  | inl way ↦ inl (record {
-    exact = λ out exact only_of.
-        let reaches = from-there (tree_of arena rows) v p from h q has.node has.visible hidden only way.0 way.1 in
-        let gone = split-out (tree_of arena rows) out (is_taken pool) exact v p has.node has.visible from h q reaches row.node slot row.at
-        (hidden row.node row.at) row.row split in
-        subst (λ o. IsExact (tree_of arena rows) o (is_taken pool)) (λ i w r. out-again out v p gone w r i) exact;
-    shows = λ out exact only_of w r page sight. refl;
-    part = part-same (slots_of rows);
-    accounts = accounts-same rows pool;
-  })
-  | inr none ↦ inr (kept-same, none)
+    is_split from slot ≡ true → (out : ℕ → ℕ → Bool) → IsExact (tree_of arena rows) out (is_taken pool) →
+    HasCutOff arena rows rows pool pool v p (ComesNotTo (tree_of arena rows) v p h q) out
+split-passed arena rows pool v p from h q slot has row hidden only split out exact = elim (arrives-or-not (tree_of arena rows) has.exact.forest h q v p) [
+  | inl way ↦
+      let reaches = from-there (tree_of arena rows) v p from h q has.node has.visible hidden only way.0 way.1 in
+      let gone = split-out (tree_of arena rows) out (is_taken pool) exact v p has.node has.visible from h q reaches row.node slot row.at
+      (hidden row.node row.at) row.row split in
+      record {
+        now = out;
+        leaves = inl (λ i w r. out-again out v p gone w r i);
+        exact = exact;
+        shows = λ w r page sight. refl;
+        part = part-same (slots_of rows);
+        accounts = accounts-same rows pool;
+      }
+  | inr none ↦ cut-spared exact none
 ]

@@ -1,40 +1,21 @@
 -- The rows above a node that is left out of sight, page by page: those of the nodes on its way upwards, one node after
 -- another.
-use Rattle.std.proofs.Common.{◌≡◌, ◌≢◌, ◌⊎◌, ℕ, ◌+◌, ◌-◌, ◌<◌, ◌≤◌, min, zero, suc, Bool, true, false, Option, None, Some, inl, inr, IsSome, IsSomeAnd}
-use Rattle.std.proofs.Common.{refl, sym, ap, subst, ◌∙◌, arith}
-use Rattle.std.specs.Prelude.{◌&&◌, ◌||◌, ◌==◌, nat_le, nat_lt, is_some, IfSome, IfNone}
-use Rattle.std.proofs.lemmas.Bool.{cases_Bool, cases_eq, cases_lt, and_from, le-leb, lt-ltb}
-use Rattle.balanced_tree.specs.Rows.{Rows}
-use Rattle.balanced_tree.specs.Pairs.{IsNext}
-use Rattle.vm_base.specs.declared.names.Tag.{Tag}
-use Rattle.vm_base.proofs.EntryLaws.{some_same}
-use Rattle.vm_base.proofs.SearchLaws.{eqb_same}
-use Rattle.page_list.specs.declared.row.Row.{Row}
-use Rattle.page_list.specs.declared.row.Slot.{Slot}
-use Rattle.page_list.specs.declared.row.Slot.TheVariants as slot
-use Rattle.page_list.specs.Lists.{slots_of}
-use Rattle.frame_pool.specs.Pool.{Pool, is_taken}
-use Rattle.cow_arena.specs.declared.node.Node.{Node}
-use Rattle.cow_arena.specs.declared.node.NodeId.{NodeId}
-use Rattle.cow_arena.specs.declared.node.Side.{Side}
-use Rattle.cow_arena.specs.Nodes.{Arena, Nodes, nodes_of, IsVisible, link_to}
-use Rattle.cow_arena.specs.Walk.{Slots, Tree, tree_with, Found, walk, frame_in, frame_found, frame_shown, from_side}
-use Rattle.cow_arena.specs.Forest.{IsForest}
-use Rattle.cow_arena.specs.Ways.{Climbs, Arrives, IsPartOf}
+use Rattle.cow_merge.proofs.Words.{◌≡◌, ◌≢◌, ◌⊎◌, ℕ, ◌+◌, ◌-◌, ◌<◌, ◌≤◌, min, zero, suc, Bool, true, false, Option, None, Some, inl, inr}
+use Rattle.cow_merge.proofs.Words.{IsSome, IsSomeAnd, refl, sym, ap, subst, ◌∙◌, arith, ◌&&◌, ◌||◌, ◌==◌, nat_le, nat_lt, is_some, IfSome}
+use Rattle.cow_merge.proofs.Words.{IfNone, cases_Bool, cases_eq, cases_lt, and_from, le-leb, lt-ltb, Rows, IsNext, Tag, some_same, eqb_same}
+use Rattle.cow_merge.proofs.Words.{Row, Slot, slots_of, Pool, is_taken, Node, NodeId, Side, Arena, Nodes, nodes_of, IsVisible, link_to}
+use Rattle.cow_merge.proofs.Words.{Slots, Tree, tree_with, Found, walk, frame_in, frame_found, frame_shown, from_side, IsForest, Climbs}
+use Rattle.cow_merge.proofs.Words.{Arrives, IsPartOf, tree_of, nodes_up, IsPage, Sees, IsExact, IsOnlyOf, all_in_sight, Pages}
+use Rattle.cow_merge.proofs.Words.{leaving_range, HasCutOff, IsLeftBare, CameTo, IsHeldBy, IsSpared, IsParent, ComesNotTo, IsPassing}
+use Rattle.cow_merge.proofs.Words.{IsSparing, IsLeftOut, IsOutside, no_pages, IsNextOutside, Moves}
 use Rattle.cow_arena.proofs.WalkLaws.{walk-past}
 use Rattle.cow_arena.proofs.ReachLaws.{reach-one, reach-after, climb-side, walk-from, walk-ends, found-of-reach}
-use Rattle.cow_split.specs.Trees.{tree_of}
-use Rattle.cow_split.specs.Cost.{nodes_up}
-use Rattle.cow_split.specs.Sight.{IsPage, Sees}
-use Rattle.cow_split.specs.Exact.{IsExact, IsOnlyOf, all_in_sight}
 use Rattle.cow_split.proofs.CostLaws.{depth-up, depth-some}
 use Rattle.cow_split.proofs.ExactLaws.{exact-seen_alike, seen-carried}
-use Rattle.cow_split.proofs.RowLaws.{left_out-in_sight, frame-shown}
+use Rattle.cow_split.proofs.RowLaws.{frame-shown}
 use Rattle.cow_split.proofs.PartLaws.{part-same, part-none}
-use Rattle.cow_merge.specs.declared.ranges.Pages.{Pages}
-use Rattle.cow_merge.specs.Ranges.{leaving_range, HasLeftPageOut, IsLeftBare, CameTo, IsHeldBy, IsSpared, IsParent, HasKept, IsCutOr, ComesNotTo, IsPassing, IsSparing, IsLeftOut, IsOutside, no_pages, IsNextOutside, HasLost}
 use Rattle.cow_merge.proofs.CountLaws.{outside-other, outside-before}
-use Rattle.cow_merge.proofs.RangeLaws.{arrives-part, bare-more, bare-kept, bare-lost, lost-kept}
+use Rattle.cow_merge.proofs.RangeLaws.{arrives-part, cut-was, cut-here, cut-lost, bare-cut}
 
 -- what was found from a side has its frame
 pub frame-from : (side : Option Side) (o : Option Found) → frame_found (from_side side o) ≡ frame_found o
@@ -274,74 +255,40 @@ module _ {arena : Arena} {mid : Rows Row} (new : Rows Row) {between : Pool} (aft
   row-past : first ≤ row - shift
   row-past = omega (arith, next.least)
 
-  -- the page that comes to a row is cut off
-  passing-out : HasLeftPageOut arena mid new between after v (row - shift) → IsPassing arena new after v first skip spared above shift to (row + 1)
-  passing-out step =
-      let out = was.bare.has.out in
-      record {
-        bare = bare-more was.bare step row-past;
-        parent = was.parent;
-        h = was.h;
-        at = was.at;
-        came = λ q tag start below sight shown.
-            let parts = left_out-in_sight out v (row - shift) v q sight in
-            let apart : q ≢ row - shift = λ same. parts.0 (refl, same) in
-            let page : IsPage (tree_of arena mid) v q = record { node = was.bare.has.node; visible = was.bare.has.visible; below = below } in
-            let showed = sym (step.shows out was.bare.has.exact was.bare.has.only v q page sight) ∙ shown in
-            elim (was.came q tag start below parts.1 showed) [
-              | inl held ↦ inl (spared-stays arena mid new v was.bare.has.node was.bare.has.visible out (is_taken between) was.bare.has.exact step.part
-                  spared q tag was.parent (was.bare.bare q start) showed shown held)
-              | inr came ↦ inr (came-on came step.part (λ less. part-none (slots_of mid) (slots_of new) step.part above.list.0 came.page
-                  (elim (cases_lt came.page upto) [
-                    | inl before ↦ came.free before
-                    | inr past ↦ before-next q came.page came.is past (omega (arith, came.is, next.least)) came.apart
-                  ])))
-            ];
-      }
+  -- the page that comes to the row is cut off, or none comes to it
+  module _ (h : ℕ) (step : HasCutOff arena mid new between after v (row - shift) (ComesNotTo (tree_of arena mid) v (row - shift) h row) was.bare.has.out) where
+    -- what went, went from the pages of v
+    pub passing-lost : Moves arena mid new between after v first IsPartOf
+    passing-lost = cut-lost step row-past was.bare.has.only was.bare.within
 
-  -- no page comes to the row, and nothing has changed
-  passing-kept : HasKept mid new between after →
-      ((q : ℕ) (side : Option Side) → q ≡ row - shift → Arrives (tree_of arena mid) v q side was.h row → ⊥) →
-      IsPassing arena new after v first skip spared above shift to (row + 1)
-  passing-kept kept none = record {
-    bare = bare-kept was.bare kept;
-    parent = was.parent;
-    h = was.h;
-    at = was.at;
-    came = λ q tag start below sight shown.
-        let showed : frame_shown (tree_of arena mid) v q ≡ Some tag
-        = ap (λ s. frame_shown (record (tree_of arena mid) { slots = s }) v q) (sym kept.rows) ∙ shown in
-        elim (was.came q tag start below sight showed) [
-          | inl held ↦ inl (subst (λ s. IsSpared (nodes_of arena) s spared was.bare.has.node q) (sym kept.rows) held)
-          | inr came ↦ inr (subst (λ s. CameTo (record (tree_of arena mid) { slots = s }) v q skip was.h above.list.0 shift to (row + 1)) (sym kept.rows) (came-on came (part-same (slots_of mid))
-              (λ less. elim (cases_lt came.page upto) [
-                | inl before ↦ came.free before
-                | inr past ↦ elim (cases_lt came.page row) [
-                  | inl earlier ↦ before-next q came.page came.is past earlier came.apart
-                  | inr later ↦ (
-                      let here : came.page ≡ row = omega arith in
-                      absurd (none q came.side (omega (arith, came.is)) (subst (Arrives (tree_of arena mid) v q came.side was.h) here came.way)))
-                ]
-              ])))
-        ];
-  }
-
-  -- what went, went from the pages of v
-  pub passing-lost : (h : ℕ) → IsCutOr arena mid new between after v (row - shift) (ComesNotTo (tree_of arena mid) v (row - shift) h row) →
-      HasLost arena mid new between after v first
-  passing-lost h step = elim step [ inl out ↦ bare-lost was.bare out row-past | inr kept ↦ lost-kept kept.0 ]
-
-  pub passing-cut : (h : ℕ) → nodes_of arena h ≡ Some above →
-      IsCutOr arena mid new between after v (row - shift) (ComesNotTo (tree_of arena mid) v (row - shift) h row) →
-      IsPassing arena new after v first skip spared above shift to (row + 1)
-  passing-cut h at step = elim step [
-    | inl out ↦ passing-out out
-    | inr kept ↦ passing-kept kept.0
-        (λ q side e way. kept.1 side (subst (λ x. Arrives (tree_of arena mid) v x side h row) e (subst (λ i. Arrives (tree_of arena mid) v q side i row) here way)))
-  ]
-    where
-      here : was.h ≡ h
-      here = was.bare.has.exact.forest.by.own was.h h above above was.at at refl
+    pub passing-cut : nodes_of arena h ≡ Some above → IsPassing arena new after v first skip spared above shift to (row + 1)
+    passing-cut at =
+        let here : was.h ≡ h = was.bare.has.exact.forest.by.own was.h h above above was.at at refl in
+        record {
+          bare = bare-cut was.bare step row-past;
+          parent = was.parent;
+          h = was.h;
+          at = was.at;
+          came = λ q tag start below sight shown.
+              let page : IsPage (tree_of arena mid) v q = record { node = was.bare.has.node; visible = was.bare.has.visible; below = below } in
+              let showed = sym (step.shows v q page sight) ∙ shown in
+              elim (was.came q tag start below (cut-was step v q sight) showed) [
+                | inl held ↦ inl (spared-stays arena mid new v was.bare.has.node was.bare.has.visible was.bare.has.out (is_taken between) was.bare.has.exact step.part
+                    spared q tag was.parent (was.bare.bare q start) showed shown held)
+                | inr came ↦ inr (came-on came step.part (λ less. part-none (slots_of mid) (slots_of new) step.part above.list.0 came.page
+                    (elim (cases_lt came.page upto) [
+                      | inl before ↦ came.free before
+                      | inr past ↦ elim (cases_lt came.page row) [
+                        | inl earlier ↦ before-next q came.page came.is past earlier came.apart
+                        | inr later ↦
+                            let there : came.page ≡ row = omega arith in
+                            let own : q ≡ row - shift = omega (arith, came.is) in
+                            absurd (cut-here step q sight own came.side (subst (λ x. Arrives (tree_of arena mid) v x came.side h row) own
+                            (subst (λ i. Arrives (tree_of arena mid) v q came.side i row) here (subst (Arrives (tree_of arena mid) v q came.side was.h) there came.way))))
+                      ]
+                    ])))
+              ];
+        }
 
 module _ {arena : Arena} {new : Rows Row} {after : Pool} {v first : ℕ} {skip : Pages} {spared : Option NodeId} {above : Node} {shift to upto : ℕ} where
   -- no row is left that they could come to
@@ -376,11 +323,11 @@ exact-shown_alike t out now in_use exact alike = exact-seen_alike t out now in_u
     ))
   where
     seen : (k r : ℕ) (node : Node) (tag : Tag) (left right : Bool) → t.nodes k ≡ Some node →
-        t.slots node.list.0 r ≡ Some (slot.Frame tag left right) → (w q : ℕ) (side : Side) → Sees t w q (Some side) k r → out w q ≡ now w q
+        t.slots node.list.0 r ≡ Some (Slot.Frame tag left right) → (w q : ℕ) (side : Side) → Sees t w q (Some side) k r → out w q ≡ now w q
     seen k r node tag left right at row w q side sees =
         let ends = walk-ends t exact.forest w q _ sees.found in
         let same : ends.row.node ≡ node = some_same (sym ends.row.at ∙ at) in
-        let slot_is : sees.slot ≡ slot.Frame tag left right =
+        let slot_is : sees.slot ≡ Slot.Frame tag left right =
         some_same (sym (subst (λ (n : Node). t.slots n.list.0 r ≡ Some sees.slot) same ends.row.row) ∙ row) in
         alike w q tag.0 sees.page (ap frame_found sees.found ∙ ap frame_in slot_is)
 
@@ -554,6 +501,4 @@ module _ (arena : Arena) (v : ℕ) (hidden : NodeId) where
     pub above-list : (above : Node) → IsChildOf → nodes_of arena v ≡ Some node → nodes_of arena hidden.0 ≡ Some above → above.list.0 ≢ node.list.0
     above-list above some at above_at same =
         let below = f.by.below hidden.0 v node at (above-parent node some at) in
-        let deeper = below.deeper in
-        let one = ap f.rank (f.by.own hidden.0 v above node above_at at same) in
-        absurd (omega arith)
+        absurd (omega (arith, below.deeper, ap f.rank (f.by.own hidden.0 v above node above_at at same)))

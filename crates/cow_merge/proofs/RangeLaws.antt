@@ -1,34 +1,18 @@
 -- A range of pages of one visible node is left out of sight: frames are given back, and its own rows go, one page after another.
 -- How its pages are cut off from the rows of the nodes above is in PassingLaws.
-use Rattle.std.proofs.Common.{◌≡◌, ℕ, ◌<◌, ◌≤◌, Bool, true, false, Option, None, Some, inl, inr, IsSome, IsSomeAnd}
-use Rattle.std.proofs.Common.{refl, sym, ap, subst, ◌∙◌, arith}
-use Rattle.std.specs.Prelude.{◌&&◌, not, is_some}
-use Rattle.std.proofs.lemmas.Bool.{cases_Bool, cases_eq, cases_lt, eq-eqb, ne_eqb}
-use Rattle.balanced_tree.specs.Rows.{Rows}
-use Rattle.balanced_tree.specs.Pairs.{with_pair, IsNext}
-use Rattle.vm_base.specs.Entries.{without_key}
-use Rattle.vm_base.specs.declared.names.Tag.{Tag}
-use Rattle.vm_base.proofs.EntryLaws.{without_key-same, without_key-other}
-use Rattle.page_list.specs.declared.row.Row.{Row}
-use Rattle.page_list.specs.declared.row.Slot.{Slot}
-use Rattle.page_list.specs.Lists.{slots_of, row_count}
-use Rattle.frame_pool.specs.Pool.{Pool, taken_frames, links_of, is_taken}
-use Rattle.cow_arena.specs.declared.node.Node.{Node}
-use Rattle.cow_arena.specs.declared.node.Side.{Side}
-use Rattle.cow_arena.specs.Nodes.{Arena, nodes_of, IsVisible}
-use Rattle.cow_arena.specs.Walk.{Slots, Tree, frame_in, frame_shown}
-use Rattle.cow_arena.specs.Forest.{IsForest}
-use Rattle.cow_arena.specs.Ways.{Climbs, Reaches, Arrives, IsPartOf}
+use Rattle.cow_merge.proofs.Words.{◌≡◌, ◌≢◌, ℕ, ◌<◌, ◌≤◌, Bool, true, false, Option, None, Some, inl, inr, IsSome, IsSomeAnd, refl, sym, ap}
+use Rattle.cow_merge.proofs.Words.{subst, ◌∙◌, arith, ◌&&◌, not, is_some, cases_Bool, cases_eq, cases_lt, eq-eqb, ne_eqb, Rows, with_pair}
+use Rattle.cow_merge.proofs.Words.{IsNext, without_key, Tag, without_key-same, without_key-other, Row, Slot, slots_of, row_count, Pool}
+use Rattle.cow_merge.proofs.Words.{taken_frames, links_of, is_taken, Node, Side, Arena, nodes_of, IsVisible, Slots, Tree, frame_in}
+use Rattle.cow_merge.proofs.Words.{frame_shown, IsForest, Climbs, Reaches, Arrives, IsPartOf, Cut, tree_of, IsExact, IsOnlyOf, all_in_sight}
+use Rattle.cow_merge.proofs.Words.{leaving_out, without_frame, cut_slots, frame_left, HasCut, AreLinked, GivesBack, HasGiven, Accounts}
+use Rattle.cow_merge.proofs.Words.{Moves, HasCutOff, IsDropping, IsLeftBare}
+use Rattle.cow_arena.proofs.AlikeLaws.{with_pair-other}
 use Rattle.cow_arena.proofs.ReachLaws.{reach-one, reach-more, reach-each}
-use Rattle.cow_split.specs.declared.answers.Cut.{Cut}
-use Rattle.cow_split.specs.declared.answers.Cut.TheVariants as cut
-use Rattle.cow_split.specs.Trees.{tree_of}
-use Rattle.cow_split.specs.Exact.{IsExact, IsOnlyOf, all_in_sight, leaving_out, without_frame}
-use Rattle.cow_split.specs.Cutting.{cut_slots, frame_left, HasCut}
-use Rattle.cow_split.proofs.RowLaws.{left_out-in_sight, left_out-other, only-more, only-none, exact-in_use_alike, exact-own_gone, own-shows, frame-in_use}
+use Rattle.cow_split.proofs.RowLaws.{left_out-in_sight, left_out-other, only-more, only-none, exact-in_use_alike, exact-own_gone, own-shows}
+use Rattle.cow_split.proofs.RowLaws.{frame-in_use}
 use Rattle.cow_split.proofs.CutLaws.{exact-cut, cut-last, cut-shows, page-over}
 use Rattle.cow_split.proofs.PartLaws.{part-same, part-with_pair, part-then, part-none, part-cut}
-use Rattle.cow_merge.specs.Ranges.{AreLinked, GivesBack, HasGiven, Accounts, Moves, HasLost, HasLeftPageOut, IsDropping, IsLeftBare, HasKept}
 
 -- a way stays where rows go
 module _ (t : Tree) (slots : Slots) (part : IsPartOf t.slots slots) where
@@ -51,6 +35,10 @@ module _ (t : Tree) (slots : Slots) (part : IsPartOf t.slots slots) where
   pub arrives-part : (k p : ℕ) (side : Option Side) (h q : ℕ) → Arrives t k p side h q → Arrives (record t { slots = slots }) k p side h q
   arrives-part k p None h q way = way
   arrives-part k p (Some side) h q way = reach-part k p side h q way
+
+-- the rows of a list stay where a row of another list changes
+pub list-beside : (old new : Slots) (l q : ℕ) (row : Option Slot) → new ≡ with_pair old l q row → (m : ℕ) → m ≢ l → new m ≡ old m
+list-beside old new l q row e m apart = λ i p. (ap (λ (x : Slots). x m p) e ∙ with_pair-other old l q row m p (λ list _. apart list)) i
 
 -- ---- frames that are given back
 
@@ -97,37 +85,30 @@ accounts-part old new before after frame part given spare count =
 
 -- ---- the tree moves on
 
-pub moves-then : {arena : Arena} {old mid new : Rows Row} {before between after : Pool} {v first : ℕ} → Moves arena old mid before between v first →
-    Moves arena mid new between after v first → Moves arena old new before after v first
-moves-then {arena} {old} {mid} {new} {before} {between} {after} {v} {first} one two = record {
+-- what is said of the rows may be another thing
+pub moves-as : {arena : Arena} {old new : Rows Row} {before after : Pool} {v first : ℕ} {Keeps Other : Slots → Slots → Type 0} →
+    Moves arena old new before after v first Keeps → Other (slots_of old) (slots_of new) → Moves arena old new before after v first Other
+moves-as {arena} {old} {new} {before} {after} {v} {first} {Keeps} {Other} one keeps = record { accounts = one.accounts; shows = one.shows; keeps = keeps }
+
+pub moves-then : {arena : Arena} {old mid new : Rows Row} {before between after : Pool} {v first : ℕ} {Keeps : Slots → Slots → Type 0} →
+    (Keeps (slots_of old) (slots_of mid) → Keeps (slots_of mid) (slots_of new) → Keeps (slots_of old) (slots_of new)) →
+    Moves arena old mid before between v first Keeps → Moves arena mid new between after v first Keeps → Moves arena old new before after v first Keeps
+moves-then {arena} {old} {mid} {new} {before} {between} {after} {v} {first} {Keeps} keeps one two = record {
   accounts = accounts-then one.accounts two.accounts;
   shows = λ w q page sight. two.shows w q (page-over (tree_of arena old) (slots_of mid) w q page) sight ∙ one.shows w q page sight;
+  keeps = keeps one.keeps two.keeps;
 }
 
-pub lost-same : {arena : Arena} {rows : Rows Row} {pool : Pool} {v first : ℕ} → HasLost arena rows rows pool pool v first
-lost-same {arena} {rows} {pool} {v} {first} =
-    record { moves = record { accounts = accounts-same rows pool; shows = λ w q page sight. refl }; part = part-same (slots_of rows) }
+pub moves-same : {arena : Arena} {rows : Rows Row} {pool : Pool} {v first : ℕ} {Keeps : Slots → Slots → Type 0} → Keeps (slots_of rows) (slots_of rows) →
+    Moves arena rows rows pool pool v first Keeps
+moves-same {arena} {rows} {pool} {v} {first} {Keeps} keeps = record { accounts = accounts-same rows pool; shows = λ w q page sight. refl; keeps = keeps }
 
-pub lost-then : {arena : Arena} {old mid new : Rows Row} {before between after : Pool} {v first : ℕ} → HasLost arena old mid before between v first →
-    HasLost arena mid new between after v first → HasLost arena old new before after v first
-lost-then {arena} {old} {mid} {new} {before} {between} {after} {v} {first} one two = record {
-  moves = moves-then one.moves two.moves;
-  part = part-then (slots_of old) (slots_of mid) (slots_of new) one.part two.part;
-}
+pub lost-same : {arena : Arena} {rows : Rows Row} {pool : Pool} {v first : ℕ} → Moves arena rows rows pool pool v first IsPartOf
+lost-same {arena} {rows} {pool} {v} {first} = moves-same (part-same (slots_of rows))
 
--- no row and no frame changes
-pub kept-same : {rows : Rows Row} {pool : Pool} → HasKept rows rows pool pool
-kept-same {rows} {pool} = record { rows = refl; taken = λ t. refl; accounts = accounts-same rows pool }
-
-pub lost-kept : {arena : Arena} {old new : Rows Row} {before after : Pool} {v first : ℕ} → HasKept old new before after →
-    HasLost arena old new before after v first
-lost-kept {arena} {old} {new} {before} {after} {v} {first} kept = record {
-  moves = record {
-    accounts = kept.accounts;
-    shows = λ w q page sight. ap (λ s. frame_shown (record (tree_of arena old) { slots = s }) w q) kept.rows;
-  };
-  part = subst (λ s. IsPartOf (slots_of old) s) (sym kept.rows) (part-same (slots_of old));
-}
+pub lost-then : {arena : Arena} {old mid new : Rows Row} {before between after : Pool} {v first : ℕ} → Moves arena old mid before between v first IsPartOf →
+    Moves arena mid new between after v first IsPartOf → Moves arena old new before after v first IsPartOf
+lost-then {arena} {old} {mid} {new} {before} {between} {after} {v} {first} = moves-then (part-then (slots_of old) (slots_of mid) (slots_of new))
 
 pub given-none : (pool : Pool) → HasGiven pool pool None
 unfolding without_frame
@@ -161,17 +142,17 @@ given-one before after tag frames links taken = record {
 }
 
 -- no frame is given back but that of a last viewer
-pub given-kept : (pool : Pool) (answer : Cut) → ((tag : Tag) → answer ≡ cut.LastViewer tag → ⊥) → HasGiven pool pool (frame_left answer)
-given-kept pool (cut.LastViewer tag) other = absurd (other tag refl)
-given-kept pool cut.StillSeen other = given-none pool
-given-kept pool cut.NothingThere other = given-none pool
+pub given-kept : (pool : Pool) (answer : Cut) → ((tag : Tag) → answer ≡ Cut.LastViewer tag → ⊥) → HasGiven pool pool (frame_left answer)
+given-kept pool (Cut.LastViewer tag) other = absurd (other tag refl)
+given-kept pool Cut.StillSeen other = given-none pool
+given-kept pool Cut.NothingThere other = given-none pool
 
 -- ---- one page
 
 module _ (arena : Arena) (old new : Rows Row) (v p : ℕ) (node : Node) (visible : IsVisible (nodes_of arena) v node) where
   -- the frame that is to be given back is taken
   pub cut-taken : (pool : Pool) (out : ℕ → ℕ → Bool) (answer : Cut) (tag : Tag) → IsExact (tree_of arena old) out (is_taken pool) →
-      IsOnlyOf out v → slots_of old node.list.0 p ≡ None → HasCut arena old new v p answer → answer ≡ cut.LastViewer tag →
+      IsOnlyOf out v → slots_of old node.list.0 p ≡ None → HasCut arena old new v p answer → answer ≡ Cut.LastViewer tag →
       IsSome (taken_frames pool tag.0)
   cut-taken pool out answer tag exact only none has is =
       let last = cut-last (tree_of arena old) out (is_taken pool) exact v p only node visible none tag in
@@ -179,9 +160,12 @@ module _ (arena : Arena) (old new : Rows Row) (v p : ℕ) (node : Node) (visible
       frame-in_use (tree_of arena old) out (is_taken pool) exact v p tag.0 shown.0
 
   pub cut-left_out : (before after : Pool) (answer : Cut) → IsForest (nodes_of arena) arena.lists → slots_of old node.list.0 p ≡ None →
-      HasCut arena old new v p answer → HasGiven before after (frame_left answer) → HasLeftPageOut arena old new before after v p
-  cut-left_out before after answer forest none has given = record {
-    exact = λ out exact only.
+      HasCut arena old new v p answer → HasGiven before after (frame_left answer) → {Spared : Type 0} (out : ℕ → ℕ → Bool) →
+      IsExact (tree_of arena old) out (is_taken before) → IsOnlyOf out v → HasCutOff arena old new before after v p Spared out
+  cut-left_out before after answer forest none has given {Spared} out exact only = record {
+    now = leaving_out out v p;
+    leaves = inl refl;
+    exact =
         exact-in_use_alike (tree_of arena new) (leaving_out out v p) (without_frame (is_taken before) (frame_left answer)) (is_taken after)
         (λ t. sym (given.taken t))
         (subst
@@ -191,7 +175,7 @@ module _ (arena : Arena) (old new : Rows Row) (v p : ℕ) (node : Node) (visible
         (λ a. IsExact (record (tree_of arena old) { slots = cut_slots (tree_of arena old) v p }) (leaving_out out v p) (without_frame (is_taken before) (frame_left a)))
         (sym has.answers)
         (exact-cut (tree_of arena old) out (is_taken before) exact v p only node visible none)));
-    shows = λ out exact only w q page in_sight.
+    shows = λ w q page in_sight.
         ap (λ s. frame_shown (record (tree_of arena old) { slots = s }) w q) has.slots
         ∙ cut-shows (tree_of arena old) out (is_taken before) exact v p only node visible none w q page in_sight;
     part = part;
@@ -203,16 +187,19 @@ module _ (arena : Arena) (old new : Rows Row) (v p : ℕ) (node : Node) (visible
 
   drop-left_out : (before after : Pool) (row : Slot) → IsForest (nodes_of arena) arena.lists → slots_of old node.list.0 p ≡ Some row →
       slots_of new ≡ with_pair (slots_of old) node.list.0 p None → HasGiven before after (frame_in row) → old.spare ≤ new.spare →
-      row_count new ≤ row_count old → HasLeftPageOut arena old new before after v p
-  drop-left_out before after row forest at slots given spare count = record {
-    exact = λ out exact only.
+      row_count new ≤ row_count old → {Spared : Type 0} (out : ℕ → ℕ → Bool) → IsExact (tree_of arena old) out (is_taken before) →
+      HasCutOff arena old new before after v p Spared out
+  drop-left_out before after row forest at slots given spare count {Spared} out exact = record {
+    now = leaving_out out v p;
+    leaves = inl refl;
+    exact =
         exact-in_use_alike (tree_of arena new) (leaving_out out v p) (without_frame (is_taken before) (frame_in row)) (is_taken after)
         (λ t. sym (given.taken t))
         (subst
         (λ s. IsExact (record (tree_of arena old) { slots = s }) (leaving_out out v p) (without_frame (is_taken before) (frame_in row)))
         (sym slots)
         (exact-own_gone (tree_of arena old) v p node visible out (is_taken before) row exact at));
-    shows = λ out exact only w q page in_sight.
+    shows = λ w q page in_sight.
         ap (λ s. frame_shown (record (tree_of arena old) { slots = s }) w q) slots
         ∙ own-shows (tree_of arena old) v p node visible forest None w q page (left_out-in_sight out v p w q in_sight).0;
     part = part;
@@ -224,65 +211,70 @@ module _ (arena : Arena) (old new : Rows Row) (v p : ℕ) (node : Node) (visible
 
 -- ---- pages, one after another
 
--- one page more is left out
-module _ (arena : Arena) (old new : Rows Row) (before after : Pool) (v first p : ℕ) (step : HasLeftPageOut arena old new before after v p) (from : first ≤ p)
-    (out : ℕ → ℕ → Bool) (exact : IsExact (tree_of arena old) out (is_taken before)) (only : IsOnlyOf out v) (within : (q : ℕ) → out v q ≡ true → first ≤ q) where
-  pub more-within : (q : ℕ) → leaving_out out v p v q ≡ true → first ≤ q
-  more-within q e = elim (cases_eq q p) [
-    | inl same ↦ omega arith
-    | inr apart ↦ within q (sym (left_out-other out v p v q (λ both. apart both.1)) ∙ e)
+-- nothing changes, and the page is spared
+pub cut-spared : {arena : Arena} {rows : Rows Row} {pool : Pool} {v p : ℕ} {Spared : Type 0} {out : ℕ → ℕ → Bool} → IsExact (tree_of arena rows) out (is_taken pool) →
+    Spared → HasCutOff arena rows rows pool pool v p Spared out
+cut-spared {arena} {rows} {pool} {v} {p} {Spared} {out} exact spared = record {
+  now = out;
+  leaves = inr (refl, spared);
+  exact = exact;
+  shows = λ w q page sight. refl;
+  part = part-same (slots_of rows);
+  accounts = accounts-same rows pool;
+}
+
+-- one page was cut off, or none
+module _ {arena : Arena} {old new : Rows Row} {before after : Pool} {v p : ℕ} {Spared : Type 0} {out : ℕ → ℕ → Bool}
+    (step : HasCutOff arena old new before after v p Spared out) where
+  -- a page that is in sight was so
+  pub cut-was : (w q : ℕ) → step.now w q ≡ false → out w q ≡ false
+  cut-was w q sight = elim step.leaves [
+    | inl more ↦ (left_out-in_sight out v p w q (ap (λ f. f w q) (sym more) ∙ sight)).1
+    | inr same ↦ ap (λ f. f w q) (sym same.0) ∙ sight
   ]
 
-  pub more-lost : HasLost arena old new before after v first
-  more-lost = record {
-    moves = record { accounts = step.accounts; shows = λ w q page before. step.shows out exact only w q page (sight w q before) };
-    part = step.part;
-  }
-    where
-      sight : (w q : ℕ) → (w ≡ v → q < first) → leaving_out out v p w q ≡ false
-      sight w q before = elim (cases_Bool (leaving_out out v p w q)) [
-        | inl gone ↦
-            let same = only-more out v p only w q gone in
-            let late = more-within q (sym (ap (λ k. leaving_out out v p k q) same) ∙ gone) in
-            let early = before same in
-            absurd (omega arith)
-        | inr seen ↦ seen
-      ]
+  -- and if it is this one, it is spared
+  pub cut-here : (q : ℕ) → step.now v q ≡ false → q ≡ p → Spared
+  cut-here q sight here = elim step.leaves [
+    | inl more ↦ absurd ((left_out-in_sight out v p v q (ap (λ f. f v q) (sym more) ∙ sight)).0 (refl, here))
+    | inr same ↦ same.1
+  ]
 
-abbrev pub bare-more : {arena : Arena} {old new : Rows Row} {before after : Pool} {v first p : ℕ} → IsLeftBare arena old before v first →
-    HasLeftPageOut arena old new before after v p → first ≤ p → IsLeftBare arena new after v first
-bare-more {arena} {old} {new} {before} {after} {v} {first} {p} was step from = record {
-  has = record {
-    out = leaving_out was.has.out v p;
-    exact = step.exact was.has.out was.has.exact was.has.only;
-    only = only-more was.has.out v p was.has.only;
-    node = was.has.node;
-    visible = was.has.visible;
-  };
-  within = more-within arena old new before after v first p step from was.has.out was.has.exact was.has.only was.within;
+  module _ {first : ℕ} (from : first ≤ p) (only : IsOnlyOf out v) (within : (q : ℕ) → out v q ≡ true → first ≤ q) where
+    pub cut-only : IsOnlyOf step.now v
+    cut-only = elim step.leaves [
+      | inl more ↦ subst (λ f. IsOnlyOf f v) (sym more) (only-more out v p only)
+      | inr same ↦ subst (λ f. IsOnlyOf f v) (sym same.0) only
+    ]
+
+    pub cut-within : (q : ℕ) → step.now v q ≡ true → first ≤ q
+    cut-within q gone = elim step.leaves [
+      | inl more ↦ elim (cases_eq q p) [
+        | inl here ↦ omega arith
+        | inr apart ↦ within q (sym (left_out-other out v p v q (λ both. apart both.1)) ∙ (ap (λ f. f v q) (sym more) ∙ gone))
+      ]
+      | inr same ↦ within q (ap (λ f. f v q) (sym same.0) ∙ gone)
+    ]
+
+    pub cut-lost : Moves arena old new before after v first IsPartOf
+    cut-lost = record { accounts = step.accounts; shows = λ w q page before. step.shows w q page (sight w q before); keeps = step.part }
+      where
+        sight : (w q : ℕ) → (w ≡ v → q < first) → step.now w q ≡ false
+        sight w q before = elim (cases_Bool (step.now w q)) [
+          | inl gone ↦
+              let same = cut-only w q gone in
+              absurd (omega (arith, cut-within q (sym (ap (λ k. step.now k q) same) ∙ gone), before same))
+          | inr seen ↦ seen
+        ]
+
+-- the same of a node without rows from there on
+abbrev pub bare-cut : {arena : Arena} {old new : Rows Row} {before after : Pool} {v first p : ℕ} {Spared : Type 0} (was : IsLeftBare arena old before v first) →
+    HasCutOff arena old new before after v p Spared was.has.out → first ≤ p → IsLeftBare arena new after v first
+bare-cut {arena} {old} {new} {before} {after} {v} {first} {p} {Spared} was step from = record {
+  has = record { out = step.now; exact = step.exact; only = cut-only step from was.has.only was.within; node = was.has.node; visible = was.has.visible };
+  within = cut-within step from was.has.only was.within;
   bare = λ q start. part-none (slots_of old) (slots_of new) step.part was.has.node.list.0 q (was.bare q start);
 }
-
--- nothing has changed
-abbrev pub bare-kept : {arena : Arena} {old new : Rows Row} {before after : Pool} {v first : ℕ} → IsLeftBare arena old before v first →
-    HasKept old new before after → IsLeftBare arena new after v first
-bare-kept {arena} {old} {new} {before} {after} {v} {first} was kept = record {
-  has = record {
-    out = was.has.out;
-    exact = exact-in_use_alike (tree_of arena new) was.has.out (is_taken before) (is_taken after) (λ t. sym (kept.taken t))
-        (subst (λ s. IsExact (record (tree_of arena old) { slots = s }) was.has.out (is_taken before)) (sym kept.rows) was.has.exact);
-    only = was.has.only;
-    node = was.has.node;
-    visible = was.has.visible;
-  };
-  within = was.within;
-  bare = λ p start. ap (λ s. s was.has.node.list.0 p) kept.rows ∙ was.bare p start;
-}
-
-pub bare-lost : {arena : Arena} {old new : Rows Row} {before after : Pool} {v first p : ℕ} → IsLeftBare arena old before v first →
-    HasLeftPageOut arena old new before after v p → first ≤ p → HasLost arena old new before after v first
-bare-lost {arena} {old} {new} {before} {after} {v} {first} {p} was step from =
-    more-lost arena old new before after v first p step from was.has.out was.has.exact was.has.only was.within
 
 -- ---- the own rows
 
@@ -312,18 +304,18 @@ module _ {arena : Arena} {old : Rows Row} {before : Pool} {v : ℕ} {node : Node
   module _ (new : Rows Row) {after : Pool} (from : first ≤ end) (next : IsNext (slots_of old node.list.0) end (Some page))
       (slots : slots_of new ≡ with_pair (slots_of old) node.list.0 page None) (given : HasGiven before after (frame_in row))
       (spare : old.spare ≤ new.spare) (count : row_count new ≤ row_count old) where
-    step : HasLeftPageOut arena old new before after v page
-    step = drop-left_out arena old new v page node was.visible before after row was.exact.forest at slots given spare count
+    step : HasCutOff arena old new before after v page ⊥ was.out
+    step = drop-left_out arena old new v page node was.visible before after row was.exact.forest at slots given spare count was.out was.exact
 
     past : first ≤ page
     past = let least = next.least page refl in omega (arith, least.0)
 
     pub dropping-more : IsDropping arena new after v node first page
     dropping-more = record {
-      out = leaving_out was.out v page;
-      exact = step.exact was.out was.exact was.only;
-      only = only-more was.out v page was.only;
-      within = more-within arena old new before after v first page step past was.out was.exact was.only was.within;
+      out = step.now;
+      exact = step.exact;
+      only = cut-only step past was.only was.within;
+      within = cut-within step past was.only was.within;
       visible = was.visible;
       bare = λ p start to. part-none (slots_of old) (slots_of new) step.part node.list.0 p (elim (cases_lt p end) [
         | inl before ↦ was.bare p start before
@@ -331,8 +323,8 @@ module _ {arena : Arena} {old : Rows Row} {before : Pool} {v : ℕ} {node : Node
       ]);
     }
 
-    pub dropping-lost : HasLost arena old new before after v first
-    dropping-lost = more-lost arena old new before after v first page step past was.out was.exact was.only was.within
+    pub dropping-lost : Moves arena old new before after v first IsPartOf
+    dropping-lost = cut-lost step past was.only was.within
 
 pub dropping-end : {arena : Arena} {rows : Rows Row} {pool : Pool} {v : ℕ} {node : Node} {first end : ℕ} →
     IsDropping arena rows pool v node first end → first ≤ end → IsNext (slots_of rows node.list.0) end None → IsLeftBare arena rows pool v first

@@ -1,18 +1,8 @@
 -- Rows of the parent of a VMO's node that the node's pages come to are seen from its side.
-use Rattle.std.proofs.Common.{◌≡◌, ℕ, ◌+◌, ◌-◌, ◌<◌, Bool, None, Some, IsSome}
-use Rattle.std.proofs.Common.{refl, sym, ap, subst, ◌∙◌, inl, inr, arith}
-use Rattle.std.specs.Prelude.{is_some}
-use Rattle.std.proofs.lemmas.Bool.{cases_Bool}
-use Rattle.vm_base.proofs.EntryLaws.{some_same}
-use Rattle.page_list.specs.declared.row.Slot.TheVariants as slot
-use Rattle.cow_arena.specs.declared.node.Node.{Node}
-use Rattle.cow_arena.specs.Nodes.{IsVisible, link_to, side_of}
-use Rattle.cow_arena.specs.Walk.{Slots, Tree}
+use Rattle.cow_merge.proofs.Words.{◌≡◌, ℕ, ◌+◌, ◌-◌, ◌<◌, Bool, None, Some, IsSome, refl, sym, ap, subst, ◌∙◌, inl, inr, arith, is_some}
+use Rattle.cow_merge.proofs.Words.{cases_Bool, some_same, Slot, Node, IsVisible, link_to, side_of, Slots, Tree, IsExact, all_in_sight}
+use Rattle.cow_merge.proofs.Words.{IsHeldBy, bit_on, AreSeenFrom}
 use Rattle.cow_arena.proofs.ReachLaws.{reach-one, side-is, found-of-reach}
-use Rattle.cow_split.specs.Exact.{IsExact, all_in_sight}
-use Rattle.cow_merge.specs.Ranges.{IsHeldBy}
-use Rattle.cow_merge.specs.Ranges.{bit_on}
-use Rattle.cow_merge.specs.inside.HandingOver.{AreSeenFrom}
 use Rattle.cow_merge.proofs.LiftedLaws.{denies-on}
 
 -- A row with a frame that a page of the node sees is seen from its side.
@@ -37,8 +27,8 @@ seen-start t in_use exact k h leaf parent visible up parent_at free = record {
           p = q - leaf.first;
           sees = record {
             page = record { node = leaf; visible = visible; below = omega (arith, inside, f.by.seen k leaf visible.at) };
-            slot = slot.Frame tag left right;
-            found = found-of-reach t f k (q - leaf.first) (side_of parent k) h q parent (slot.Frame tag left right)
+            slot = Slot.Frame tag left right;
+            found = found-of-reach t f k (q - leaf.first) (side_of parent k) h q parent (Slot.Frame tag left right)
                 (reach-one t k (q - leaf.first) (side_of parent k) h q
                 (record { node = leaf; at = visible.at; free = free (q - leaf.first) held; inside = inside; parent = up; page = page })
                 (side-is t.nodes t.lists f h k parent leaf parent_at visible.at up))
@@ -50,8 +40,8 @@ seen-start t in_use exact k h leaf parent visible up parent_at free = record {
 }
 
 -- they are, as long as they stay
-pub seen-kept : (old new : Slots) (parent : Node) (k first end : ℕ) → ((q : ℕ) → new parent.list.0 q ≡ old parent.list.0 q) → AreSeenFrom old parent k first end →
+pub seen-kept : (old new : Slots) (parent : Node) (k first end : ℕ) → new parent.list.0 ≡ old parent.list.0 → AreSeenFrom old parent k first end →
     AreSeenFrom new parent k first end
 seen-kept old new parent k first end same was = record {
-  bit = λ q tag left right least less has. was.bit q tag left right least less (sym (same q) ∙ has);
+  bit = λ q tag left right least less has. was.bit q tag left right least less (ap (λ row. row q) (sym same) ∙ has);
 }

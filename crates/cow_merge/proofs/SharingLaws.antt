@@ -1,26 +1,10 @@
 -- Pages of a hidden node to which VMOs come from both of its sides: the way down to such a VMO, and rows that move meanwhile.
-use Rattle.std.proofs.Common.{◌≡◌, ℕ, ◌+◌, ◌-◌, ◌<◌, ◌≤◌, ◌^◌, true, Option, None, Some, IsSome}
-use Rattle.std.proofs.Common.{refl, sym, ap, subst, ◌∙◌, inl, inr, arith}
-use Rattle.std.specs.Prelude.{is_some}
-use Rattle.std.proofs.lemmas.Bool.{cases_eq, cases_lt}
-use Rattle.vm_base.proofs.EntryLaws.{some_same}
-use Rattle.balanced_tree.specs.Pairs.{IsNext}
-use Rattle.page_list.specs.declared.row.Slot.{Slot}
-use Rattle.cow_arena.specs.declared.node.Node.{Node}
-use Rattle.cow_arena.specs.declared.node.NodeId.{NodeId}
-use Rattle.cow_arena.specs.declared.node.Side.{Side}
-use Rattle.cow_arena.specs.declared.node.Side.TheVariants as side
-use Rattle.cow_arena.specs.Nodes.{side_in}
-use Rattle.cow_arena.specs.Forest.{IsForest, IsChild}
-use Rattle.cow_arena.specs.Walk.{Slots, Tree}
-use Rattle.cow_arena.specs.Ways.{Climbs, Reaches, Arrives, KeepsBelow}
+use Rattle.cow_merge.proofs.Words.{◌≡◌, ℕ, ◌+◌, ◌-◌, ◌<◌, ◌≤◌, ◌^◌, true, Option, None, Some, IsSome, refl, sym, ap, subst, ◌∙◌, inl, inr}
+use Rattle.cow_merge.proofs.Words.{arith, is_some, cases_eq, cases_lt, some_same, IsNext, Slot, Node, NodeId, Side, side_in, IsForest}
+use Rattle.cow_merge.proofs.Words.{IsChild, Slots, Tree, Climbs, Reaches, Arrives, KeepsBelow, viewers_from, reached_from, Pages, Way}
+use Rattle.cow_merge.proofs.Words.{IsEntered, IsReached, AreReached, AreShared, IsDown}
 use Rattle.cow_arena.proofs.ReachLaws.{reach-one, reach-more, reach-each, reach-deeper, arrives-on, side-of-parent}
-use Rattle.cow_split.specs.Search.{viewers_from, reached_from}
 use Rattle.cow_split.proofs.SearchLaws.{some-of, found-of-reached}
-use Rattle.cow_merge.specs.declared.ranges.Pages.{Pages}
-use Rattle.cow_merge.specs.declared.witness.Way.{Way}
-use Rattle.cow_merge.specs.inside.Witness.{IsEntered}
-use Rattle.cow_merge.specs.inside.Sharing.{IsReached, AreReached, AreShared, IsDown}
 use Rattle.cow_merge.proofs.LiftLaws.{no-except}
 
 -- a page that has a row had one
@@ -99,9 +83,7 @@ module _ (t : Tree) (f : IsForest t.nodes t.lists) (slots : Slots) (parent sibli
       free-kept : (p : ℕ) → t.slots was.node.list.0 p ≡ None → slots was.node.list.0 p ≡ None
       free-kept p none = keeps.others was.node.list.0 p
           (λ list.
-          let same = ap f.rank (f.by.own way.at.0 s was.node sibling was.node_at at list) in
-          let less = was.deeper f in
-          absurd (omega arith))
+          absurd (omega (arith, ap f.rank (f.by.own way.at.0 s was.node sibling was.node_at at list), was.deeper f)))
           none
 
       pub down-kept : IsDown now parent.list.0 s seen from way upto
@@ -255,14 +237,11 @@ down-fits t list s seen from way upto fits was p low less = let high = was.high 
 
 -- of a visible child, all pages of the window
 pub shared-visible : (t : Tree) (list s : ℕ) (node : Node) → IsSome node.koid → AreShared t list s node (record { from = 0; to = node.seen })
-shared-visible t list s node koid = record {
-  below = λ q low less. less;
-  reached = λ none. absurd (let here = ap is_some none in cc);
-}
+shared-visible t list s node koid = record { below = λ q low less. less; reached = λ none. absurd (let here = ap is_some none in cc) }
 
 -- of a hidden child, the pages to which there are VMOs on both sides
-pub shared-both : (t : Tree) (list s : ℕ) (node : Node) (one other pages : Pages) → AreReached t list side.Left s node.seen one →
-    AreReached t list side.Right s node.seen other → one.from ≤ pages.from → other.from ≤ pages.from → pages.to ≤ one.to → pages.to ≤ other.to →
+pub shared-both : (t : Tree) (list s : ℕ) (node : Node) (one other pages : Pages) → AreReached t list Side.Left s node.seen one →
+    AreReached t list Side.Right s node.seen other → one.from ≤ pages.from → other.from ≤ pages.from → pages.to ≤ one.to → pages.to ≤ other.to →
     AreShared t list s node pages
 shared-both t list s node one other pages left right low lower high higher = record {
   below = λ q least less. left.below q (omega arith) (omega arith);
@@ -270,8 +249,8 @@ shared-both t list s node one other pages left right low lower high higher = rec
 }
   where
     from_side : (q : ℕ) → pages.from ≤ q → q < pages.to → IsSome (t.slots list q) → (from : Side) → IsReached t from s q
-    from_side q least less some side.Left = left.reached q (omega arith) (omega arith) some
-    from_side q least less some side.Right = right.reached q (omega arith) (omega arith) some
+    from_side q least less some Side.Left = left.reached q (omega arith) (omega arith) some
+    from_side q least less some Side.Right = right.reached q (omega arith) (omega arith) some
 
 -- ---- a search finds them
 

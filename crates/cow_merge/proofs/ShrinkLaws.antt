@@ -1,26 +1,9 @@
 -- A VMO's node gets fewer pages: first its window, and then its count.
-use Rattle.std.proofs.Common.{◌≡◌, ℕ, ◌+◌, ◌≤◌, min, Bool, true, false, not, Option, None, Some, inl, inr, IsSome, IsSomeAnd}
-use Rattle.std.proofs.Common.{refl, sym, ap, subst, ◌∙◌, arith}
-use Rattle.std.specs.Prelude.{is_some}
-use Rattle.std.proofs.lemmas.Bool.{cases_eq}
-use Rattle.balanced_tree.specs.Rows.{Rows}
-use Rattle.vm_base.specs.Entries.{with_key}
-use Rattle.vm_base.proofs.EntryLaws.{some_same, with_key-same, with_key-other, with_key-here}
-use Rattle.page_list.specs.declared.row.Row.{Row}
-use Rattle.page_list.specs.Lists.{slots_of}
-use Rattle.frame_pool.specs.Pool.{Pool, is_taken}
-use Rattle.cow_arena.specs.declared.node.Node.{Node}
-use Rattle.cow_arena.specs.declared.node.NodeId.{NodeId}
-use Rattle.cow_arena.specs.Nodes.{Arena, Nodes, nodes_of, node_above, IsVisible}
-use Rattle.cow_arena.specs.Walk.{Tree, frame_shown}
-use Rattle.cow_arena.specs.Forest.{IsForest}
-use Rattle.cow_arena.specs.Changes.{window_first, with_window}
-use Rattle.cow_arena.specs.Counts.{hidden_count, visible_count}
-use Rattle.cow_split.specs.Trees.{tree_of}
-use Rattle.cow_split.specs.Sight.{IsPage}
-use Rattle.cow_split.specs.Exact.{IsExact, all_in_sight}
-use Rattle.cow_merge.specs.Ranges.{HasLost, IsLeftOut}
-use Rattle.cow_merge.specs.Merging.{with_count, narrowed_nodes, HasShrunk}
+use Rattle.cow_merge.proofs.Words.{◌≡◌, ℕ, ◌+◌, ◌≤◌, min, Bool, true, false, not, Option, None, Some, inl, inr, IsSome, IsSomeAnd, refl}
+use Rattle.cow_merge.proofs.Words.{sym, ap, subst, ◌∙◌, arith, is_some, cases_eq, Rows, with_key, some_same, with_key-same, with_key-other}
+use Rattle.cow_merge.proofs.Words.{with_key-here, Row, slots_of, Pool, is_taken, Node, NodeId, Arena, Nodes, nodes_of, node_above}
+use Rattle.cow_merge.proofs.Words.{IsVisible, Tree, frame_shown, IsForest, window_first, with_window, tree_of}
+use Rattle.cow_merge.proofs.Words.{IsPage, IsExact, all_in_sight, IsPartOf, Moves, IsLeftOut, with_count, narrowed_nodes, KeepsPages}
 use Rattle.cow_merge.proofs.CountLaws.{narrowed-page, narrowed-shows, exact-narrowed}
 use Rattle.cow_split.proofs.CutLaws.{page-over}
 
@@ -120,7 +103,7 @@ module _ (arena between new : Arena) (v count : ℕ) (node : Node) (visible : Is
       (sym narrowed-at)
       (visible.koid, omega arith)
 
-  counted-nodes : ((node : Node) → nodes_of between v ≡ Some node → nodes_of new ≡ with_key (nodes_of between) v (record node { count = count })) →
+  pub counted-nodes : ((node : Node) → nodes_of between v ≡ Some node → nodes_of new ≡ with_key (nodes_of between) v (record node { count = count })) →
       nodes_of new ≡ with_key (nodes_of arena) v (with_count node count)
   counted-nodes counted =
       counted (with_window node node.first (min node.seen count)) narrowed-at
@@ -128,11 +111,10 @@ module _ (arena between new : Arena) (v count : ℕ) (node : Node) (visible : Is
       ∙ with_key-twice (nodes_of arena) v (with_window node node.first (min node.seen count)) (with_count node count))
 
   pub shrunk : (rows late : Rows Row) (before after : Pool) → count ≤ node.count →
-      IsLeftOut arena late after v node count → HasLost arena rows late before after v count →
+      IsLeftOut arena late after v node count → Moves arena rows late before after v count IsPartOf →
       ((node : Node) → nodes_of between v ≡ Some node → nodes_of new ≡ with_key (nodes_of between) v (record node { count = count })) →
-      new.lists ≡ arena.lists → hidden_count new ≡ hidden_count arena → visible_count new ≡ visible_count arena →
-      IsForest (nodes_of new) new.lists → HasShrunk arena new rows late before after v count
-  shrunk rows late before after few left lost counted lists hidden shown forest =
+      new.lists ≡ arena.lists → IsForest (nodes_of new) new.lists → KeepsPages arena new rows late before after
+  shrunk rows late before after few left lost counted lists forest =
       let nodes = counted-nodes counted in
       let t : Tree = tree_of arena late in
       let now = tree-now arena new late (with_key (nodes_of arena) v (with_count node count)) nodes lists in
@@ -141,14 +123,10 @@ module _ (arena between new : Arena) (v count : ℕ) (node : Node) (visible : Is
       record {
         exact = subst (λ (u : Tree). IsExact u all_in_sight (is_taken after)) (sym now)
             (exact-narrowed t v count node visible few g (is_taken after) left.exact left.bare);
-        nodes = λ other at. nodes ∙ ap (λ n. with_key (nodes_of arena) v (with_count n count)) (some_same (sym visible.at ∙ at));
         lists = lists;
-        hidden = hidden;
-        visible = shown;
         shows = subst (λ (u : Tree). (w q : ℕ) → IsPage u w q → frame_shown u w q ≡ frame_shown (tree_of arena rows) w q) (sym now)
             (λ w q page.
             let was = narrowed-page t v count node visible few g w q page in
-            narrowed-shows t v count node visible few g left.exact.forest w q page ∙ lost.moves.shows w q (page-over t (slots_of rows) w q was.0) was.1);
-        accounts = lost.moves.accounts;
-        part = lost.part;
+            narrowed-shows t v count node visible few g left.exact.forest w q page ∙ lost.shows w q (page-over t (slots_of rows) w q was.0) was.1);
+        accounts = lost.accounts;
       }

@@ -1,27 +1,15 @@
 -- A VMO's node goes, alone or with its parent: the tree stays exact, and the others show what they showed.
-use Rattle.std.proofs.Common.{◌≡◌, ◌≢◌, ◌↔◌, ℕ, ◌<◌, Bool, None, Some, inl, inr}
-use Rattle.std.proofs.Common.{refl, sym, ap, subst, ◌∙◌, arith}
-use Rattle.std.specs.Prelude.{IsSome}
-use Rattle.std.proofs.lemmas.Bool.{cases_eq, both_ways, false_from_ne_true}
-use Rattle.vm_base.specs.Entries.{without_key}
-use Rattle.vm_base.proofs.EntryLaws.{some_same, with_key-same, with_key-other, with_key-cases, without_key-same, without_key-other, without_key-some}
-use Rattle.page_list.specs.declared.row.ListId.{ListId}
-use Rattle.page_list.specs.declared.row.Slot.{Slot}
-use Rattle.cow_arena.specs.declared.node.Node.{Node}
-use Rattle.cow_arena.specs.declared.node.Side.{Side}
-use Rattle.cow_arena.specs.Nodes.{Nodes, IsVisible, AreFamily}
-use Rattle.cow_arena.specs.Walk.{Tree, walk, frame_found, frame_shown}
-use Rattle.cow_arena.specs.Forest.{IsForest, HasListedRows}
-use Rattle.cow_arena.specs.Changes.{lifted, spliced}
+use Rattle.cow_merge.proofs.Words.{◌≡◌, ◌≢◌, ◌↔◌, ℕ, ◌<◌, Bool, None, Some, inl, inr, refl, sym, ap, subst, ◌∙◌, arith, IsSome, cases_eq}
+use Rattle.cow_merge.proofs.Words.{both_ways, false_from_ne_true, without_key, some_same, with_key-same, with_key-other, with_key-cases}
+use Rattle.cow_merge.proofs.Words.{without_key-same, without_key-other, without_key-some, ListId, Slot, Node, Side, Nodes, IsVisible}
+use Rattle.cow_merge.proofs.Words.{AreFamily, Tree, walk, frame_found, frame_shown, IsForest, HasListedRows, lifted, spliced, IsPage}
+use Rattle.cow_merge.proofs.Words.{IsSeenFrom, CameFrom, IsExact, IsOnlyOf, all_in_sight, IsAllOut, StaysVisible}
 use Rattle.cow_arena.proofs.ReachLaws.{hidden-apart}
 use Rattle.cow_arena.proofs.RelinkLaws.{relinked-stays, relinked-was}
 use Rattle.cow_arena.proofs.SpliceForestLaws.{s_k, s_h, k_h}
 use Rattle.cow_arena.proofs.SpliceWalkLaws.{walk-spliced, spliced-listed, walk-removed, removed-listed}
-use Rattle.cow_split.specs.Sight.{IsPage, IsSeenFrom, CameFrom}
-use Rattle.cow_split.specs.Exact.{IsExact, IsOnlyOf, all_in_sight}
-use Rattle.cow_merge.specs.Ranges.{IsAllOut}
-use Rattle.cow_split.specs.Sight.{StaysVisible}
-use Rattle.cow_split.proofs.NodeLaws.{stays-page, seen-moved, exact-moved}
+use Rattle.cow_split.proofs.NodeLaws.{stays-page, exact-moved}
+use Rattle.cow_split.proofs.ExactLaws.{seen-moved}
 
 -- ---- nodes that stay
 
@@ -155,11 +143,7 @@ module _ (old new : Tree) (k : ℕ) (without : IsWithout old new k) where
         }),
     seen-moved new old all_in_sight out side h q (λ v p sees in_sight.
         let was = without-page v p sees.page in
-        record {
-          page = was.1;
-          same = sym was.2;
-          in_sight = false_from_ne_true (out v p) (λ e. was.0 (only v p e));
-        }),
+        record { page = was.1; same = sym was.2; in_sight = false_from_ne_true (out v p) (λ e. was.0 (only v p e)) }),
   )
 
 -- the tree stays exact
@@ -180,8 +164,7 @@ exact-without t nodes k without out in_use exact g listed only all = exact-moved
         let it = was v now shown.at in
         let inside = exact.below v p it.now row (record { at = it.at; koid = subst IsSome (sym it.koid) shown.koid })
         (ap (λ (l : ListId). t.slots l.0 p) it.list ∙ e) in
-        let count = it.count in
-        omega arith
+        omega (arith, it.count)
 
 -- ---- a node goes with its parent
 

@@ -1,55 +1,32 @@
 -- Own rows of a VMO's node that goes, over rows of its parent: once they are gone, the node sees the rows of the parent.
-use Rattle.std.proofs.Common.{◌≡◌, ◌≢◌, ℕ, ◌+◌, ◌<◌, ◌≤◌, Bool, false, Option, None, Some, IsSome, IsSomeAnd}
-use Rattle.std.proofs.Common.{refl, sym, ap, subst, ◌∙◌, inl, inr, arith}
-use Rattle.std.specs.Prelude.{is_some}
-use Rattle.std.specs.Option.{option_map}
-use Rattle.std.proofs.lemmas.Bool.{cases_Bool, cases_eq, cases_lt}
-use Rattle.balanced_tree.specs.Pairs.{with_pair, IsNext}
-use Rattle.balanced_tree.specs.Rows.{Rows}
-use Rattle.vm_base.specs.declared.names.Tag.{Tag}
-use Rattle.vm_base.proofs.EntryLaws.{some_same}
-use Rattle.page_list.specs.Lists.{slots_of}
-use Rattle.page_list.specs.declared.row.Row.{Row}
-use Rattle.page_list.specs.declared.row.Slot.{Slot}
-use Rattle.page_list.specs.declared.row.Slot.TheVariants as slot
-use Rattle.cow_arena.specs.declared.node.Node.{Node}
-use Rattle.cow_arena.specs.declared.node.NodeId.{NodeId}
-use Rattle.cow_arena.specs.declared.node.Side.{Side}
-use Rattle.cow_arena.specs.declared.node.Side.TheVariants as side
-use Rattle.cow_arena.specs.Nodes.{Arena, nodes_of, IsVisible, link_to, child_on, other_side, side_of}
-use Rattle.cow_arena.specs.Walk.{Slots, Tree, Found, walk, frame_in, frame_shown}
-use Rattle.cow_arena.specs.Forest.{IsForest}
-use Rattle.cow_arena.specs.Ways.{Climbs, SameFrames, IsPartOf}
+use Rattle.cow_merge.proofs.Words.{◌≡◌, ◌≢◌, ℕ, ◌+◌, ◌<◌, ◌≤◌, Bool, false, Option, None, Some, IsSome, IsSomeAnd, refl, sym, ap, subst}
+use Rattle.cow_merge.proofs.Words.{◌∙◌, inl, inr, arith, is_some, option_map, cases_Bool, cases_eq, cases_lt, with_pair, Rows, Tag}
+use Rattle.cow_merge.proofs.Words.{some_same, slots_of, row_count, Row, Slot, Node, NodeId, Side, Arena, nodes_of, IsVisible, link_to}
+use Rattle.cow_merge.proofs.Words.{child_on, other_side, side_of, Slots, Tree, Found, walk, frame_in, frame_shown, IsForest, Climbs}
+use Rattle.cow_merge.proofs.Words.{SameFrames, IsPartOf, tree_of, with_row, IsPage, IsSeenFrom, AreSplitBits, IsExact, all_in_sight}
+use Rattle.cow_merge.proofs.Words.{leaving_out, without_frame, Pool, is_taken, bit_on, IsHeldBy, HasGiven, Moves, without_bits}
+use Rattle.cow_merge.proofs.Words.{IsUncovering}
 use Rattle.cow_arena.proofs.AlikeLaws.{with_pair-same, with_pair-other, frames-back, found-alike, frame-alike}
 use Rattle.cow_arena.proofs.ReachLaws.{side-is, side-of-parent, reach-one, reach-through, found-of-reach, walk-ends, hidden-apart}
 use Rattle.cow_arena.proofs.WalkLaws.{walk-own}
-use Rattle.cow_split.specs.Trees.{tree_of, with_row}
-use Rattle.cow_split.specs.Sight.{IsPage, IsSeenFrom}
-use Rattle.cow_split.specs.Exact.{AreSplitBits, IsExact, all_in_sight, leaving_out, without_frame}
 use Rattle.cow_split.proofs.ExactLaws.{cases_place, FollowFrame, with_row-changes, frame-stays, exact-changed}
-use Rattle.cow_split.proofs.NodeLaws.{stays-page}
 use Rattle.cow_split.proofs.PartLaws.{part-with_pair, part-then}
 use Rattle.cow_split.proofs.RowLaws.{left_out-other, exact-in_use_alike, own-walks, own-shows, exact-own_gone}
-use Rattle.frame_pool.specs.Pool.{Pool, taken_frames, is_taken}
-use Rattle.cow_merge.specs.Ranges.{bit_on, IsHeldBy, HasLost}
-use Rattle.cow_merge.specs.Merging.{HasClosed}
-use Rattle.cow_merge.specs.inside.Lifting.{IsFamilyOf}
-use Rattle.cow_merge.specs.inside.Uncovering.{without_bits, IsRowUncovered, IsUncovered, IsUncovering}
-use Rattle.cow_merge.proofs.RangeLaws.{accounts-then, accounts-part, lost-same}
-use Rattle.cow_merge.proofs.LiftedLaws.{one-bit, denies-on, family-lists}
+use Rattle.cow_merge.proofs.RangeLaws.{accounts-part}
+use Rattle.cow_merge.proofs.LiftedLaws.{one-bit, denies-on}
 
 -- ---- one row
 
 frame-kept : (row : Slot) → frame_in (without_bits row) ≡ frame_in row
-frame-kept slot.Zero = refl
-frame-kept (slot.Frame tag left right) = refl
+frame-kept Slot.Zero = refl
+frame-kept (Slot.Frame tag left right) = refl
 
 -- what holds of one side and of the other one, holds of each
 pub both-sides : (from : Side) (P : Side → Type 0) → P from → P (other_side from) → (s : Side) → P s
-both-sides side.Left P one other side.Left = one
-both-sides side.Left P one other side.Right = other
-both-sides side.Right P one other side.Left = other
-both-sides side.Right P one other side.Right = one
+both-sides Side.Left P one other Side.Left = one
+both-sides Side.Left P one other Side.Right = other
+both-sides Side.Right P one other Side.Left = other
+both-sides Side.Right P one other Side.Right = one
 
 -- Page p of the leaf has an own row, and comes to a row of the parent. The own row goes, and the parent's row has no bit set then.
 module _ (t : Tree) (in_use : ℕ → Bool) (exact : IsExact t all_in_sight in_use) (k h p q : ℕ) (leaf parent : Node) (visible : IsVisible t.nodes k leaf)
@@ -164,7 +141,7 @@ module _ (t : Tree) (in_use : ℕ → Bool) (exact : IsExact t all_in_sight in_u
       absurd (cc)
 
   -- so it was seen from the other side
-  seen-beside : (tag : Tag) (left right : Bool) → row ≡ slot.Frame tag left right → IsSeenFrom last all_in_sight (other_side leaf_side) h q
+  seen-beside : (tag : Tag) (left right : Bool) → row ≡ Slot.Frame tag left right → IsSeenFrom last all_in_sight (other_side leaf_side) h q
   seen-beside tag left right is_row =
       let bits : AreSplitBits t all_in_sight h q left right = exact.bits h q parent tag left right parent_at hidden (row_at ∙ ap Some is_row) in
       let off : bit_on (other_side leaf_side) left right ≡ false = elim (cases_Bool (bit_on (other_side leaf_side) left right)) [
@@ -193,17 +170,17 @@ module _ (t : Tree) (in_use : ℕ → Bool) (exact : IsExact t all_in_sight in_u
             in_sight = refl;
           })
 
-  bits-now : (r : Slot) → row ≡ r → (tag : Tag) (left right : Bool) → Some (without_bits r) ≡ Some (slot.Frame tag left right) →
+  bits-now : (r : Slot) → row ≡ r → (tag : Tag) (left right : Bool) → Some (without_bits r) ≡ Some (Slot.Frame tag left right) →
       AreSplitBits last all_in_sight h q left right
-  bits-now slot.Zero e tag left right is = absurd (let same = some_same is in cc)
-  bits-now (slot.Frame other a b) e tag left right is =
-      let same : slot.Frame other false false ≡ slot.Frame tag left right = some_same is in
+  bits-now Slot.Zero e tag left right is = absurd (let same = some_same is in cc)
+  bits-now (Slot.Frame other a b) e tag left right is =
+      let same : Slot.Frame other false false ≡ Slot.Frame tag left right = some_same is in
       let left_is : left ≡ false = cc in
       let right_is : right ≡ false = cc in
       let seen = both-sides leaf_side (λ s. IsSeenFrom last all_in_sight s h q) seen-here (seen-beside other a b e) in
       record {
-        left_bit = record { is_true = λ on. absurd (cc); is_false = λ off. seen side.Left };
-        right_bit = record { is_true = λ on. absurd (cc); is_false = λ off. seen side.Right };
+        left_bit = record { is_true = λ on. absurd (cc); is_false = λ off. seen Side.Left };
+        right_bit = record { is_true = λ on. absurd (cc); is_false = λ off. seen Side.Right };
         is_seen = rw left_is refl;
       }
 
@@ -283,105 +260,96 @@ uncovered-more {arena} {new} {after} {k} {h} {from} end leaf at was none =
       ];
     }
 
--- the next own row was looked at
-module _ {arena : Arena} {first : Rows Row} (new : Rows Row) {between : Pool} (after : Pool) {k h from p : ℕ} (was : IsUncovering arena first between k h from)
-    (leaf parent : Node) (leaf_at : nodes_of arena k ≡ Some leaf) (parent_at : nodes_of arena h ≡ Some parent)
-    (next : IsNext (slots_of first leaf.list.0) from (Some p)) (inside : p < leaf.seen) where
+-- page p has an own row, and was come to
+module _ {arena : Arena} {first : Rows Row} {between : Pool} {k h p : ℕ} (was : IsUncovering arena first between k h p)
+    (leaf parent : Node) (leaf_at : nodes_of arena k ≡ Some leaf) (parent_at : nodes_of arena h ≡ Some parent) where
   abbrev q : ℕ
   q = leaf.first + p
 
+  one : was.node ≡ leaf
+  one = some_same (sym was.visible.at ∙ leaf_at)
+
   shown : IsVisible (nodes_of arena) k leaf
-  shown = subst (λ (n : Node). IsVisible (nodes_of arena) k n) (some_same (sym was.visible.at ∙ leaf_at)) was.visible
+  shown = subst (λ (n : Node). IsVisible (nodes_of arena) k n) one was.visible
 
   link : leaf.parent ≡ link_to h
-  link = subst (λ (n : Node). n.parent ≡ link_to h) (some_same (sym was.visible.at ∙ leaf_at)) was.up
+  link = subst (λ (n : Node). n.parent ≡ link_to h) one was.up
 
-  module _ (it : IsRowUncovered first new between after leaf.list.0 p parent.list.0 q) where
-    abbrev t_first : Tree
-    t_first = tree_of arena first
+  -- the lists of the node and of its parent are two
+  pub uncovered-lists : leaf.list.0 ≢ parent.list.0
+  uncovered-lists same =
+      let f = was.exact.forest in
+      let below = f.by.below h k leaf leaf_at link in
+      let none = ap (λ (n : Node). n.koid) (some_same (sym parent_at ∙ below.at)) ∙ below.hidden in
+      hidden-apart (tree_of arena first) f h k parent leaf parent_at none shown (sym (f.by.own k h leaf parent leaf_at parent_at same))
 
-    abbrev slots : Slots
-    slots = with_pair (with_pair (slots_of first) leaf.list.0 p None) parent.list.0 q (Some (without_bits it.row))
+  -- the page of the parent is a number of the machine
+  pub uncovered-fits : leaf.first + leaf.seen ≤ parent.count
+  uncovered-fits =
+      let below = was.exact.forest.by.below h k leaf leaf_at link in
+      subst (λ (n : Node). leaf.first + leaf.seen ≤ n.count) (some_same (sym below.at ∙ parent_at)) below.window
 
-    own-new : (r : ℕ) → r ≢ p → slots_of new leaf.list.0 r ≡ slots_of first leaf.list.0 r
-    own-new r other = ap (λ (x : Slots). x leaf.list.0 r) it.slots
-        ∙ uncovered-own t_first (is_taken between) was.exact k h p q leaf parent shown link parent_at inside refl it.own it.row it.own_at it.row_at r other
+  -- it covers no row of the parent
+  pub uncovered-none : slots_of first parent.list.0 q ≡ None → IsUncovering arena first between k h (p + 1)
+  uncovered-none none = uncovered-more (p + 1) leaf leaf_at was (λ r past below held.
+      let here : p ≡ r = omega arith in
+      let above : held.above ≡ parent = some_same (sym held.at ∙ parent_at) in
+      let some : IsSome (slots_of first parent.list.0 (leaf.first + r)) =
+      subst (λ (n : Node). IsSome (slots_of first n.list.0 (leaf.first + r))) above held.row in
+      absurd (let gone = subst (λ x. slots_of first parent.list.0 (leaf.first + x) ≡ None) here none in let nothing = ap is_some gone in cc))
+
+  -- it goes, and the row of the parent has no bit set then
+  module _ (inside : p < leaf.seen) (new : Rows Row) (after : Pool) (own row : Slot) (own_at : slots_of first leaf.list.0 p ≡ Some own)
+      (row_at : slots_of first parent.list.0 q ≡ Some row)
+      (slots : slots_of new ≡ with_pair (with_pair (slots_of first) leaf.list.0 p None) parent.list.0 q (Some (without_bits row)))
+      (given : HasGiven between after (frame_in own)) where
+    abbrev t : Tree
+    t = tree_of arena first
 
     free-now : (r : ℕ) → r < p + 1 → IsHeldBy (nodes_of arena) (slots_of new) h leaf r → slots_of new leaf.list.0 r ≡ None
     free-now r less held = elim (cases_eq r p) [
-      | inl same ↦ ap (slots_of new leaf.list.0) same ∙ (ap (λ (x : Slots). x leaf.list.0 p) it.slots
-          ∙ uncovered-gone t_first (is_taken between) was.exact k h p q leaf parent shown link parent_at inside refl it.own it.row it.own_at it.row_at)
-      | inr other ↦ elim (cases_lt r from) [
-        | inr past ↦ own-new r other ∙ (next.least p refl).2 r past (omega arith)
-        | inl before ↦
-            let above : held.above ≡ parent = some_same (sym held.at ∙ parent_at) in
-            let apart : leaf.first + r ≢ q = λ e. absurd (omega arith) in
-            let same : slots_of new parent.list.0 (leaf.first + r) ≡ slots_of first parent.list.0 (leaf.first + r) =
-            ap (λ (x : Slots). x parent.list.0 (leaf.first + r)) it.slots
-            ∙ uncovered-above t_first (is_taken between) was.exact k h p q leaf parent shown link parent_at inside refl it.own it.row it.own_at it.row_at
-            (leaf.first + r) apart in
-            let some : IsSome (slots_of new parent.list.0 (leaf.first + r)) = subst (λ (n : Node). IsSome (slots_of new n.list.0 (leaf.first + r))) above held.row in
-            let one : was.node ≡ leaf = some_same (sym was.visible.at ∙ leaf_at) in
-            let there : IsHeldBy (nodes_of arena) (slots_of first) h leaf r =
-            record { above = parent; at = parent_at; row = ap is_some (sym same) ∙ some; inside = held.inside } in
-            own-new r other ∙ subst (λ (n : Node). slots_of first n.list.0 r ≡ None) one
-            (was.free r before (subst (λ (n : Node). IsHeldBy (nodes_of arena) (slots_of first) h n r) (sym one) there))
-      ]
+      | inl same ↦ ap (slots_of new leaf.list.0) same ∙ (ap (λ (x : Slots). x leaf.list.0 p) slots
+          ∙ uncovered-gone t (is_taken between) was.exact k h p q leaf parent shown link parent_at inside refl own row own_at row_at)
+      | inr other ↦
+          let above : held.above ≡ parent = some_same (sym held.at ∙ parent_at) in
+          let apart : leaf.first + r ≢ q = λ e. absurd (omega arith) in
+          let same : slots_of new parent.list.0 (leaf.first + r) ≡ slots_of first parent.list.0 (leaf.first + r) =
+          ap (λ (x : Slots). x parent.list.0 (leaf.first + r)) slots
+          ∙ uncovered-above t (is_taken between) was.exact k h p q leaf parent shown link parent_at inside refl own row own_at row_at (leaf.first + r) apart in
+          let some : IsSome (slots_of new parent.list.0 (leaf.first + r)) = subst (λ (n : Node). IsSome (slots_of new n.list.0 (leaf.first + r))) above held.row in
+          let there : IsHeldBy (nodes_of arena) (slots_of first) h leaf r =
+          record { above = parent; at = parent_at; row = ap is_some (sym same) ∙ some; inside = held.inside } in
+          ap (λ (x : Slots). x leaf.list.0 r) slots
+          ∙ (uncovered-own t (is_taken between) was.exact k h p q leaf parent shown link parent_at inside refl own row own_at row_at r other
+          ∙ subst (λ (n : Node). slots_of first n.list.0 r ≡ None) one
+          (was.free r (omega arith) (subst (λ (n : Node). IsHeldBy (nodes_of arena) (slots_of first) h n r) (sym one) there)))
     ]
 
-    uncovered-row : IsUncovering arena new after k h (p + 1)
+    pub uncovered-row : IsUncovering arena new after k h (p + 1)
     uncovered-row = record {
       node = leaf;
       visible = shown;
       up = link;
-      exact = subst (λ (x : Slots). IsExact (record t_first { slots = x }) all_in_sight (is_taken after)) (sym it.slots)
-          (exact-in_use_alike (record t_first { slots = slots }) all_in_sight (without_frame (is_taken between) (frame_in it.own)) (is_taken after)
-          (λ x. sym (it.given.taken x))
-          (uncovered-exact t_first (is_taken between) was.exact k h p q leaf parent shown link parent_at inside refl it.own it.row it.own_at it.row_at));
+      exact = subst (λ (x : Slots). IsExact (record t { slots = x }) all_in_sight (is_taken after)) (sym slots)
+          (exact-in_use_alike (record t { slots = with_pair (with_pair (slots_of first) leaf.list.0 p None) parent.list.0 q (Some (without_bits row)) }) all_in_sight
+          (without_frame (is_taken between) (frame_in own)) (is_taken after) (λ x. sym (given.taken x))
+          (uncovered-exact t (is_taken between) was.exact k h p q leaf parent shown link parent_at inside refl own row own_at row_at));
       free = free-now;
     }
 
     part : IsPartOf (slots_of first) (slots_of new)
-    part = subst (λ (s : Slots). IsPartOf (slots_of first) s) (sym it.slots)
-        (uncovered-part t_first (is_taken between) was.exact k h p q leaf parent shown link parent_at inside refl it.own it.row it.own_at it.row_at)
+    part = subst (λ (s : Slots). IsPartOf (slots_of first) s) (sym slots)
+        (uncovered-part t (is_taken between) was.exact k h p q leaf parent shown link parent_at inside refl own row own_at row_at)
 
-    row-lost : HasLost arena first new between after k 0
-    row-lost = record {
-      moves = record {
-        accounts = accounts-part first new between after (frame_in it.own) part it.given (omega (arith, it.spare)) (omega (arith, it.count));
-        shows = λ w x page before.
-            ap (λ (s : Slots). frame_shown (record t_first { slots = s }) w x) it.slots
-            ∙ uncovered-shows t_first (is_taken between) was.exact k h p q leaf parent shown link parent_at inside refl it.own it.row it.own_at it.row_at w x
-            (λ same. absurd (let early = before same in omega arith)) page;
-      };
-      part = part;
+    pub uncovered-lost : first.spare ≤ new.spare → row_count new ≤ row_count first → Moves arena first new between after k 0 IsPartOf
+    uncovered-lost spare count = record {
+      accounts = accounts-part first new between after (frame_in own) part given spare count;
+      shows = λ w x page before.
+          ap (λ (s : Slots). frame_shown (record t { slots = s }) w x) slots
+          ∙ uncovered-shows t (is_taken between) was.exact k h p q leaf parent shown link parent_at inside refl own row own_at row_at w x
+          (λ same. absurd (let early = before same in omega arith)) page;
+      keeps = part;
     }
-
-  pub uncovered-next : IsUncovered first new between after leaf.list.0 p parent.list.0 q → IsUncovering arena new after k h (p + 1)
-  uncovered-next done = elim done [
-    | inr it ↦ uncovered-row it
-    | inl nothing ↦
-        subst (λ (r : Rows Row). IsUncovering arena r after k h (p + 1)) (sym nothing.1)
-        (subst (λ (x : Pool). IsUncovering arena first x k h (p + 1)) (sym nothing.2)
-        (uncovered-more (p + 1) leaf leaf_at was (λ r past below held.
-        elim (cases_eq r p) [
-          | inl same ↦
-              let above : held.above ≡ parent = some_same (sym held.at ∙ parent_at) in
-              let some : IsSome (slots_of first parent.list.0 q) =
-              subst (λ x. IsSome (slots_of first parent.list.0 (leaf.first + x))) same
-              (subst (λ (n : Node). IsSome (slots_of first n.list.0 (leaf.first + r))) above held.row) in
-              absurd (let none = ap is_some nothing.0 in cc)
-          | inr apart ↦ (next.least p refl).2 r past (omega arith)
-        ])))
-  ]
-
-  pub uncovered-lost : IsUncovered first new between after leaf.list.0 p parent.list.0 q → HasLost arena first new between after k 0
-  uncovered-lost done = elim done [
-    | inr it ↦ row-lost it
-    | inl nothing ↦
-        subst (λ (r : Rows Row). HasLost arena first r between after k 0) (sym nothing.1)
-        (subst (λ (x : Pool). HasLost arena first first between x k 0) (sym nothing.2) lost-same)
-  ]
 
 -- ---- what the code asks on the way
 
@@ -396,55 +364,3 @@ pub uncover-ready : (arena : Arena) (k : ℕ) (hidden : NodeId) (node : Node) �
 uncover-ready arena k hidden node some at =
     let it = subst (λ (o : Option Node). IsSomeAnd o (λ node. IsSome node.koid × (node.parent ≡ Some hidden))) at some in
     (record { at = at; koid = it.0 }, it.1)
-
--- the frame of an own row is taken
-pub uncover-taken : {arena : Arena} {new : Rows Row} {after : Pool} {k h from : ℕ} (p : ℕ) → IsUncovering arena new after k h from → (l : ℕ) (own : Slot) (tag : ℕ) →
-    slots_of new l p ≡ Some own → frame_in own ≡ Some tag → IsSome (taken_frames after tag)
-uncover-taken {arena} {new} {after} {k} {h} {from} p was l own tag at frame = was.exact.used l p own tag at frame
-
--- the lists of the node and of its parent are two
-pub uncover-lists : (arena : Arena) (f : IsForest (nodes_of arena) arena.lists) (k h : ℕ) (leaf parent : Node) → IsVisible (nodes_of arena) k leaf →
-    leaf.parent ≡ link_to h → nodes_of arena h ≡ Some parent → leaf.list.0 ≢ parent.list.0
-uncover-lists arena f k h leaf parent visible up parent_at same =
-    let below = f.by.below h k leaf visible.at up in
-    let none = ap (λ (n : Node). n.koid) (some_same (sym parent_at ∙ below.at)) ∙ below.hidden in
-    hidden-apart (tree_of_nodes arena) f h k parent leaf parent_at none visible (sym (f.by.own k h leaf parent visible.at parent_at same))
-  where
-    tree_of_nodes : Arena → Tree
-    tree_of_nodes arena = record { nodes = nodes_of arena; slots = λ l p. None; lists = arena.lists }
-
--- the page of the parent is a number of the machine, and so is the next one
-pub uncover-fits : (arena : Arena) (f : IsForest (nodes_of arena) arena.lists) (k h : ℕ) (leaf parent : Node) → nodes_of arena k ≡ Some leaf →
-    leaf.parent ≡ link_to h → nodes_of arena h ≡ Some parent → leaf.first + leaf.seen ≤ parent.count
-uncover-fits arena f k h leaf parent leaf_at up parent_at =
-    let below = f.by.below h k leaf leaf_at up in
-    subst (λ (n : Node). leaf.first + leaf.seen ≤ n.count) (some_same (sym below.at ∙ parent_at)) below.window
-
--- the two lists are two
-pub two-lists : (arena : Arena) (k h s : ℕ) → IsForest (nodes_of arena) arena.lists → IsFamilyOf arena k h s → (parent child : Node) →
-    nodes_of arena h ≡ Some parent → nodes_of arena s ≡ Some child → parent.list.0 ≢ child.list.0
-two-lists arena k h s f of parent child parent_at child_at same =
-    (family-lists arena k h s f of).2
-    (ap (λ (n : Node). n.list.0) (some_same (sym of.family.parent_at ∙ parent_at)) ∙ (same ∙ ap (λ (n : Node). n.list.0) (some_same (sym child_at ∙ of.family.sibling_at))))
-
--- ---- a VMO is closed that was uncovered before
-
-pub closed-then : {arena new : Arena} {old rows late : Rows Row} {before between after : Pool} {k : ℕ} →
-    HasLost arena old rows before between k 0 → HasClosed arena new rows late between after k → HasClosed arena new old late before after k
-closed-then {arena} {new} {old} {rows} {late} {before} {between} {after} {k} lost c = record {
-  exact = c.exact;
-  gone = c.gone;
-  stays = c.stays;
-  no_more = c.no_more;
-  came = c.came;
-  own_lists = c.own_lists;
-  parent_gone = c.parent_gone;
-  beside = c.beside;
-  lists = c.lists;
-  visible = c.visible;
-  shows = λ w q page.
-      c.shows w q page
-      ∙ lost.moves.shows w q (stays-page (tree_of new late) (tree_of arena old) w q page (c.no_more w page.node page.visible))
-      (λ same. absurd (let none = ap (nodes_of new) same ∙ c.gone in let there = page.visible.at in cc));
-  accounts = accounts-then lost.moves.accounts c.accounts;
-}

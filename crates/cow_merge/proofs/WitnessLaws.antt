@@ -1,33 +1,13 @@
 -- The way down ends at a VMO's node: pages that it comes to go out of sight at once.
-use Rattle.std.proofs.Common.{◌≡◌, ◌≢◌, ◌⊎◌, ℕ, ◌+◌, ◌-◌, ◌<◌, ◌≤◌, Bool, true, false, Option, None, Some, inl, inr, IsSome}
-use Rattle.std.proofs.Common.{refl, sym, ap, subst, ◌∙◌, arith}
-use Rattle.std.specs.Prelude.{◌&&◌, ◌||◌, ◌==◌, nat_le, nat_lt, is_some, is_none}
-use Rattle.std.proofs.lemmas.Bool.{cases_Bool, cases_lt, and_from, and_parts, or_left, or_right, or_parts, eq-eqb, eqb-true, ne_eqb, le-leb, lt-ltb, leb-true, ltb-true}
-use Rattle.balanced_tree.specs.Rows.{Rows}
-use Rattle.vm_base.specs.declared.names.Tag.{Tag}
-use Rattle.vm_base.proofs.EntryLaws.{some_same}
-use Rattle.page_list.specs.declared.row.Row.{Row}
-use Rattle.page_list.specs.declared.row.Slot.{Slot}
-use Rattle.page_list.specs.declared.row.Slot.TheVariants as slot
-use Rattle.page_list.specs.Lists.{slots_of}
-use Rattle.frame_pool.specs.Pool.{Pool, is_taken}
-use Rattle.cow_arena.specs.declared.node.Node.{Node}
-use Rattle.cow_arena.specs.declared.node.NodeId.{NodeId}
-use Rattle.cow_arena.specs.declared.node.Side.{Side}
-use Rattle.cow_arena.specs.declared.node.Side.TheVariants as side
-use Rattle.cow_arena.specs.Nodes.{Arena, nodes_of, link_to, other_side, side_of}
-use Rattle.cow_arena.specs.Forest.{IsForest}
-use Rattle.cow_arena.specs.Walk.{Tree, frame_shown, frame_found, frame_in}
-use Rattle.cow_arena.specs.Ways.{Climbs, Reaches}
+use Rattle.cow_merge.proofs.Words.{◌≡◌, ◌≢◌, ◌⊎◌, ℕ, ◌+◌, ◌-◌, ◌<◌, ◌≤◌, Bool, true, false, Option, None, Some, inl, inr, IsSome, refl, sym}
+use Rattle.cow_merge.proofs.Words.{ap, subst, ◌∙◌, arith, ◌&&◌, ◌||◌, ◌==◌, nat_le, nat_lt, is_some, is_none, cases_Bool, cases_lt}
+use Rattle.cow_merge.proofs.Words.{and_from, and_parts, or_left, or_right, or_parts, eq-eqb, eqb-true, ne_eqb, le-leb, lt-ltb, leb-true}
+use Rattle.cow_merge.proofs.Words.{ltb-true, Rows, Tag, some_same, Row, Slot, slots_of, Pool, is_taken, Node, NodeId, Side, Arena, nodes_of}
+use Rattle.cow_merge.proofs.Words.{link_to, other_side, side_of, IsForest, Tree, frame_shown, frame_found, frame_in, Climbs, Reaches}
+use Rattle.cow_merge.proofs.Words.{tree_of, Sees, IsSeenFrom, IsExact, IsOnlyOf, Way, IsSpared, IsParent, IsPassing, IsBeside}
 use Rattle.cow_arena.proofs.ReachLaws.{reach-one, reach-apart, side-is, walk-ends, found-of-reach}
 use Rattle.cow_arena.proofs.WalkLaws.{link_same}
-use Rattle.cow_split.specs.Trees.{tree_of}
-use Rattle.cow_split.specs.Sight.{Sees, IsSeenFrom}
-use Rattle.cow_split.specs.Exact.{IsExact, IsOnlyOf}
 use Rattle.cow_split.proofs.SharedLaws.{beside-way, exact-shared}
-use Rattle.cow_merge.specs.declared.witness.Way.{Way}
-use Rattle.cow_merge.specs.Ranges.{IsSpared, IsParent, IsPassing}
-use Rattle.cow_merge.specs.inside.Witness.{IsBeside}
 use Rattle.cow_merge.proofs.PassingLaws.{bare-inside}
 use Rattle.cow_merge.proofs.BesideLaws.{goes-up}
 
@@ -78,8 +58,8 @@ test-shared from to page q low less none =
     (and_from (nat_lt q to) (is_none (page q)) (lt-ltb q to less) (ap is_none none))
 
 other-apart : (own s : Side) → s ≡ other_side own → s ≢ own
-other-apart side.Left s is same = absurd (let both = sym is ∙ same in cc)
-other-apart side.Right s is same = absurd (let both = sym is ∙ same in cc)
+other-apart Side.Left s is same = absurd (let both = sym is ∙ same in cc)
+other-apart Side.Right s is same = absurd (let both = sym is ∙ same in cc)
 
 module _ {arena : Arena} {new : Rows Row} {after : Pool} {v first : ℕ} {spared : Option NodeId} {h : ℕ} {above : Node} {base to : ℕ}
     {s : Side} {way : Way} (was : IsBeside arena new after v first spared h above base to s way way.to)
@@ -130,14 +110,14 @@ module _ {arena : Arena} {new : Rows Row} {after : Pool} {v first : ℕ} {spared
 
   -- a row that it saw is seen by the witness
   seen-beside : (x : ℕ) (side : Side) (g r : ℕ) (node : Node) (tag : Tag) (left right : Bool) → was.bare.has.out v x ≡ false → is_shared from end page_at x ≡ true →
-      nodes_of arena g ≡ Some node → slots_of new node.list.0 r ≡ Some (slot.Frame tag left right) → Sees t v x (Some side) g r → IsSeenFrom t now side g r
+      nodes_of arena g ≡ Some node → slots_of new node.list.0 r ≡ Some (Slot.Frame tag left right) → Sees t v x (Some side) g r → IsSeenFrom t now side g r
   seen-beside x side g r node tag left right sight test at row sees =
       let parts = shared-test from end page_at x test in
       let first_is = was.place.within.low way.from (omega arith) some in
       let start : first ≤ x = omega (arith, parts.0) in
       let ends = walk-ends t f v x _ sees.found in
       let one : ends.row.node ≡ node = some_same (sym ends.row.at ∙ at) in
-      let slot_is : sees.slot ≡ slot.Frame tag left right = some_same (sym (subst (λ (n : Node). slots_of new n.list.0 r ≡ Some sees.slot) one ends.row.row) ∙ row) in
+      let slot_is : sees.slot ≡ Slot.Frame tag left right = some_same (sym (subst (λ (n : Node). slots_of new n.list.0 r ≡ Some sees.slot) one ends.row.row) ∙ row) in
       let shown : frame_shown t v x ≡ Some tag.0 = ap frame_found sees.found ∙ ap frame_in slot_is in
       let count : x < was.bare.has.node.count = subst (λ (n : Node). x < n.count) (some_same (sym sees.page.visible.at ∙ was.bare.has.visible.at)) sees.page.below in
       elim (was.came x tag.0 start count sight shown) [
@@ -151,7 +131,7 @@ module _ {arena : Arena} {new : Rows Row} {after : Pool} {v first : ℕ} {spared
             let there = goes-up was x p it is low less in
             let apart = witness-apart x p tag.0 start shown there in
             let reach = beside-way t f v x h (x + base) above was.at parts.2 (climbs-there x tag.0 start shown) way.at.0 p s side g r
-            (slot.Frame tag left right) there ends.way (record { node = node; at = at; row = row }) in
+            (Slot.Frame tag left right) there ends.way (record { node = node; at = at; row = row }) in
             record {
               v = way.at.0;
               p = p;
@@ -161,8 +141,8 @@ module _ {arena : Arena} {new : Rows Row} {after : Pool} {v first : ℕ} {spared
                   visible = record { at = was.place.node_at; koid = koid };
                   below = let most = f.by.seen way.at.0 was.place.node was.place.node_at in let inside = was.place.within.inside p low less in omega arith;
                 };
-                slot = slot.Frame tag left right;
-                found = found-of-reach t f way.at.0 p side g r node (slot.Frame tag left right) reach at row;
+                slot = Slot.Frame tag left right;
+                found = found-of-reach t f way.at.0 p side g r node (Slot.Frame tag left right) reach at row;
               };
               in_sight = shared-other was.bare.has.out v (is_shared from end page_at) way.at.0 p apart ∙ other-sight p apart;
             }

@@ -1,17 +1,14 @@
 -- What it is to shrink a VMO's node, and to close one.
-use Rattle.std.specs.Prelude.{◌≡◌, ◌≢◌, ◌⊎◌, ℕ, suc, min, None, Some, IsSome}
+use Rattle.std.specs.Prelude.{◌≡◌, ◌≢◌, ◌⊎◌, ℕ, min, None, Some, IsSome}
 use Rattle.balanced_tree.specs.Rows.{Rows}
 use Rattle.page_list.specs.declared.row.Row.{Row}
-use Rattle.page_list.specs.Lists.{slots_of}
 use Rattle.vm_base.specs.Entries.{with_key}
 use Rattle.frame_pool.specs.Pool.{Pool, is_taken}
 use Rattle.cow_arena.specs.declared.node.Node.{Node}
-use Rattle.cow_arena.specs.Nodes.{Arena, Nodes, nodes_of, IsVisible, link_to, sibling_in}
+use Rattle.cow_arena.specs.Nodes.{Arena, Nodes, IsVisible, link_to, sibling_in}
 use Rattle.cow_arena.specs.Forest.{IsChild}
 use Rattle.cow_arena.specs.Changes.{with_window}
-use Rattle.cow_arena.specs.Counts.{hidden_count, visible_count}
 use Rattle.cow_arena.specs.Walk.{frame_shown}
-use Rattle.cow_arena.specs.Ways.{IsPartOf}
 use Rattle.cow_split.specs.Trees.{tree_of}
 use Rattle.cow_split.specs.Sight.{IsPage, StaysVisible}
 use Rattle.cow_split.specs.Exact.{IsExact, all_in_sight}
@@ -25,18 +22,14 @@ with_count node count = record (with_window node node.first (min node.seen count
 abbrev pub narrowed_nodes : Nodes → (v : ℕ) → Node → (count : ℕ) → Nodes
 narrowed_nodes nodes v node count = with_key nodes v (with_window node node.first (min node.seen count))
 
--- The visible node v has `count` of the pages that it had, and shows the same there. Every other VMO shows the same
--- everywhere.
-pub record HasShrunk (old new : Arena) (rows rows_after : Rows Row) (before after : Pool) (v count : ℕ) : Type 0 where
+-- Nodes, pages, rows and frames may be gone. The tree is exact over the frames that are taken, and each page that is left
+-- shows what it showed.
+pub record KeepsPages (old new : Arena) (rows rows_after : Rows Row) (before after : Pool) : Type 0 where
   pub exact : IsExact (tree_of new rows_after) all_in_sight (is_taken after)
-  pub nodes : (node : Node) → nodes_of old v ≡ Some node → nodes_of new ≡ with_key (nodes_of old) v (with_count node count)
   pub lists : new.lists ≡ old.lists
-  pub hidden : hidden_count new ≡ hidden_count old
-  pub visible : visible_count new ≡ visible_count old
   pub shows : (w q : ℕ) → IsPage (tree_of new rows_after) w q →
       frame_shown (tree_of new rows_after) w q ≡ frame_shown (tree_of old rows) w q
   pub accounts : Accounts rows rows_after before after
-  pub part : IsPartOf (slots_of rows) (slots_of rows_after)
 
 -- node j was there, with the koid that it has now
 pub record WasThere (old : Nodes) (j : ℕ) (now : Node) : Type 0 where
@@ -52,24 +45,6 @@ pub record HasListOfParent (old : Nodes) (v j : ℕ) (now : Node) : Type 0 where
   pub parent_at : old h ≡ Some parent
   pub beside : sibling_in old v ≡ link_to j
   pub list : now.list ≡ parent.list
-
--- The visible node v is gone, and its parent too. Each other VMO has its node, and shows what it showed. Each node has
--- the list that it had, except that the sibling may have the list of the parent.
-pub record HasClosed (old new : Arena) (rows rows_after : Rows Row) (before after : Pool) (v : ℕ) : Type 0 where
-  pub exact : IsExact (tree_of new rows_after) all_in_sight (is_taken after)
-  pub gone : nodes_of new v ≡ None
-  pub stays : (w : ℕ) (node : Node) → w ≢ v → IsVisible (nodes_of old) w node → StaysVisible (nodes_of old) (nodes_of new) w node
-  pub no_more : (w : ℕ) (node : Node) → IsVisible (nodes_of new) w node → StaysVisible (nodes_of new) (nodes_of old) w node
-  pub came : (k : ℕ) (node : Node) → nodes_of new k ≡ Some node → WasThere (nodes_of old) k node
-  pub own_lists : (k : ℕ) (was now : Node) → nodes_of old k ≡ Some was → nodes_of new k ≡ Some now →
-      (now.list ≡ was.list) ⊎ HasListOfParent (nodes_of old) v k now
-  pub parent_gone : (h : ℕ) → IsChild (nodes_of old) h v → nodes_of new h ≡ None
-  pub beside : (s : ℕ) → sibling_in (nodes_of old) v ≡ link_to s → IsSome (nodes_of new s)
-  pub lists : new.lists ≡ old.lists
-  pub visible : suc (visible_count new) ≡ visible_count old
-  pub shows : (w q : ℕ) → IsPage (tree_of new rows_after) w q →
-      frame_shown (tree_of new rows_after) w q ≡ frame_shown (tree_of old rows) w q
-  pub accounts : Accounts rows rows_after before after
 
 -- node k has its koid and the parent h still. If its window began at page 0, it does
 pub record StaysUnder (old : Nodes) (k h : ℕ) (now : Node) : Type 0 where
@@ -92,6 +67,18 @@ pub record IsRaised (old : Nodes) (k h : ℕ) (now : Node) : Type 0 where
   pub parent : between.parent ≡ link_to h
   pub first : node.first ≡ 0 → between.first ≡ 0 → now.first ≡ 0
 
--- each node that has a parent had it before, or came into the place of its own
-pub record KeepsParents (old new : Nodes) : Type 0 where
-  pub parents : (k h : ℕ) (now : Node) → new k ≡ Some now → now.parent ≡ link_to h → StaysUnder old k h now ⊎ IsRaised old k h now
+-- node k, which has the parent h, had it before, or came into the place of its parent
+abbrev pub WasUnder : (old : Nodes) → (k h : ℕ) → Node → Type 0
+WasUnder old k h now = StaysUnder old k h now ⊎ IsRaised old k h now
+
+-- The visible node v is gone, and its parent too. Each other VMO has its node. Each node has the list that it had, except
+-- that the sibling may have the list of the parent.
+pub record HasGone (old new : Nodes) (v : ℕ) : Type 0 where
+  pub gone : new v ≡ None
+  pub stays : (w : ℕ) (node : Node) → w ≢ v → IsVisible old w node → StaysVisible old new w node
+  pub no_more : (w : ℕ) (node : Node) → IsVisible new w node → StaysVisible new old w node
+  pub came : (k : ℕ) (node : Node) → new k ≡ Some node → WasThere old k node
+  pub own_lists : (k : ℕ) (was now : Node) → old k ≡ Some was → new k ≡ Some now → (now.list ≡ was.list) ⊎ HasListOfParent old v k now
+  pub parent_gone : (h : ℕ) → IsChild old h v → new h ≡ None
+  pub beside : (s : ℕ) → sibling_in old v ≡ link_to s → IsSome (new s)
+  pub parents : (k h : ℕ) (now : Node) → new k ≡ Some now → now.parent ≡ link_to h → WasUnder old k h now

@@ -1,5 +1,5 @@
 -- A range of pages of one visible node that are left out of sight, and what leaving them out changes.
-use Rattle.std.specs.Prelude.{◌≡◌, ◌≢◌, ◌⊎◌, ℕ, ◌+◌, ◌<◌, ◌≤◌, Bool, true, false, ◌&&◌, ◌||◌, ◌==◌, nat_le, nat_lt, Option, None, Some, IsSome}
+use Rattle.std.specs.Prelude.{◌≡◌, ◌⊎◌, ℕ, ◌+◌, ◌<◌, ◌≤◌, Bool, true, false, ◌&&◌, ◌||◌, ◌==◌, nat_le, nat_lt, Option, None, Some, IsSome}
 use Rattle.balanced_tree.specs.Rows.{Rows}
 use Rattle.page_list.specs.declared.row.Row.{Row}
 use Rattle.page_list.specs.Lists.{slots_of, row_count}
@@ -47,15 +47,12 @@ IsInSight out w q = out w q ≡ false
 abbrev pub IsNotFrom : (v first w q : ℕ) → Type 0
 IsNotFrom v first w q = w ≡ v → q < first
 
--- The rows and the frames change under the same nodes. The pages of v from `first` on may show something else.
-pub record Moves (arena : Arena) (old new : Rows Row) (before after : Pool) (v first : ℕ) : Type 0 where
+-- The rows and the frames change under the same nodes, and `Keeps` says which rows may be there. The pages of v from `first` on may
+-- show something else.
+pub record Moves (arena : Arena) (old new : Rows Row) (before after : Pool) (v first : ℕ) (Keeps : Slots → Slots → Type 0) : Type 0 where
   pub accounts : Accounts old new before after
   pub shows : ShowsSame (tree_of arena old) (tree_of arena new) (IsNotFrom v first)
-
--- The same, and rows go, but none comes.
-pub record HasLost (arena : Arena) (old new : Rows Row) (before after : Pool) (v first : ℕ) : Type 0 where
-  pub moves : Moves arena old new before after v first
-  pub part : IsPartOf (slots_of old) (slots_of new)
+  pub keeps : Keeps (slots_of old) (slots_of new)
 
 -- each page of v is left out
 abbrev pub IsAllOut : Tree → (ℕ → ℕ → Bool) → ℕ → Type 0
@@ -67,13 +64,13 @@ pub record HasGiven (before after : Pool) (frame : Option ℕ) : Type 0 where
   pub links : links_of after ≡ links_of before
   pub gives : GivesBack before after
 
--- Page p of v is out of sight: a row that only this page saw is gone, and its frame is given back. The tree is exact
--- with this page left out too, and the other visible nodes show what they showed.
-pub record HasLeftPageOut (arena : Arena) (old new : Rows Row) (before after : Pool) (v p : ℕ) : Type 0 where
-  pub exact : (out : ℕ → ℕ → Bool) → IsExact (tree_of arena old) out (is_taken before) → IsOnlyOf out v →
-      IsExact (tree_of arena new) (leaving_out out v p) (is_taken after)
-  pub shows : (out : ℕ → ℕ → Bool) → IsExact (tree_of arena old) out (is_taken before) → IsOnlyOf out v →
-      ShowsSame (tree_of arena old) (tree_of arena new) (IsInSight (leaving_out out v p))
+-- Page p of v is left out of sight too: a row that only this page saw is gone, and its frame is given back. Or no page is
+-- left out, since this page is spared. Afterwards the pages `now` are out of sight, and the others show what they showed.
+pub record HasCutOff (arena : Arena) (old new : Rows Row) (before after : Pool) (v p : ℕ) (Spared : Type 0) (out : ℕ → ℕ → Bool) : Type 0 where
+  pub now : ℕ → ℕ → Bool
+  pub leaves : (now ≡ leaving_out out v p) ⊎ (now ≡ out) × Spared
+  pub exact : IsExact (tree_of arena new) now (is_taken after)
+  pub shows : ShowsSame (tree_of arena old) (tree_of arena new) (IsInSight now)
   pub part : IsPartOf (slots_of old) (slots_of new)
   pub accounts : Accounts old new before after
 
@@ -130,14 +127,6 @@ abbrev pub IsSpared : Nodes → Slots → Option NodeId → Node → ℕ → Typ
 IsSpared nodes slots None node p = ⊥
 IsSpared nodes slots (Some h) node p = IsHeldBy nodes slots h.0 node p
 
--- the rows of this list are as they were
-abbrev pub KeepsList : (old new : Rows Row) → (list : ℕ) → Type 0
-KeepsList old new list = (q : ℕ) → slots_of new list q ≡ slots_of old list q
-
--- the rows of all lists but this one are as they were
-abbrev pub KeepsOthers : (old new : Rows Row) → (list : ℕ) → Type 0
-KeepsOthers old new list = (l : ℕ) → l ≢ list → KeepsList old new l
-
 -- the node that is spared, if one is, is the parent of this one
 abbrev pub IsParent : Option NodeId → Node → Type 0
 IsParent spared node = (h : NodeId) → spared ≡ Some h → node.parent ≡ Some h
@@ -189,16 +178,6 @@ is_split from slot.Zero = false
 -- no page of v but page p comes to page q of node h, and page p comes there from this side alone
 pub record IsOnlyWay (t : Tree) (v p : ℕ) (from : Side) (h q : ℕ) : Type 0 where
   pub only : (x : ℕ) (s : Side) → Reaches t v x s h q → (x ≡ p) × (s ≡ from)
-
--- no row and no frame has changed
-pub record HasKept (old new : Rows Row) (before after : Pool) : Type 0 where
-  pub rows : slots_of new ≡ slots_of old
-  pub taken : (t : ℕ) → is_taken after t ≡ is_taken before t
-  pub accounts : Accounts old new before after
-
--- Page p of v is left out of sight. Or nothing has changed, and this holds of the page.
-abbrev pub IsCutOr : Arena → (old new : Rows Row) → (before after : Pool) → (v p : ℕ) → Type 0 → Type 0
-IsCutOr arena old new before after v p Holds = HasLeftPageOut arena old new before after v p ⊎ HasKept old new before after × Holds
 
 -- no walk from page p of v comes to page q of node h
 abbrev pub ComesNotTo : Tree → (v p h q : ℕ) → Type 0

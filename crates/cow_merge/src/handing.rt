@@ -5,11 +5,10 @@ ghost use Rattle.balanced_tree.specs.Pairs.{with_pair};
 ghost use Rattle.page_list.specs.Lists.{slots_of, row_count};
 ghost use Rattle.cow_arena.specs.declared.node.Node.{Node};
 ghost use Rattle.cow_arena.specs.Nodes.{nodes_of};
-ghost use Rattle.cow_arena.specs.Walk.{frame_in};
 ghost use Rattle.frame_pool.specs.Pool.{taken_frames};
 ghost use Rattle.cow_merge.specs.Ranges.{HasGiven};
 ghost use Rattle.cow_merge.specs.inside.Lifting.{IsLifting};
-ghost use Rattle.cow_merge.specs.inside.HandingOver.{frame_there, HasRowPut, AreSeenFrom, IsHandingOver, HasHandedOver};
+ghost use Rattle.cow_merge.specs.inside.HandingOver.{frame_there, AreSeenFrom, IsHandingOver};
 
 use crate::lifting::{lift_rows, note_place};
 use crate::places::Family;
@@ -17,7 +16,7 @@ use crate::ranges::give_back_frame;
 use crate::sharing::share_rows;
 use cow_arena::{CowArena, NodeId};
 use frame_pool::FramePool;
-use page_list::{ListId, PageLists, Slot};
+use page_list::{ListId, PageLists};
 use vm_base::PageNo;
 
 /// Reports whether a hidden node hands its list over to this child: the child sees the hidden node from page 0 on, and
@@ -66,7 +65,7 @@ pub(crate) fn hand_over(
     requires sees { (node : Node) → nodes_of arena.now family.sibling.0 ≡ Some node → node.first ≡ 0 }
     requires seen { (node parent : Node) → nodes_of arena.now family.leaf.0 ≡ Some node → nodes_of arena.now family.hidden.0 ≡ Some parent →
         AreSeenFrom (slots_of lists.old) parent family.leaf.0 node.first (node.first + node.seen) }
-    ensures { HasHandedOver arena.now lists.old lists.new frames.old frames.new family.leaf.0 family.hidden.0 family.sibling.0 }
+    ensures { IsHandingOver arena.now lists.old lists.new frames.old frames.new family.leaf.0 family.hidden.0 family.sibling.0 None }
 {
     let shared = share_rows(arena, lists, frames, family);
     let node = arena.node(family.leaf);
@@ -77,31 +76,21 @@ pub(crate) fn hand_over(
     hand_rows(arena, lists, frames, family);
 }
 
-/// Puts each row of the sibling into the list of the hidden node, in place of the row there. The VMO's node goes.
+/// Puts each row of the sibling into the list of the hidden node, in place of the row there, and sets the backlink of
+/// its frame. The VMO's node goes.
 fn hand_rows(arena: &CowArena, lists: &mut PageLists, frames: &mut FramePool, family: Family)
-    requires { IsHandingOver arena.now lists.old lists.old frames.old frames.old family.leaf.0 family.hidden.0 family.sibling.0 0 }
-    ensures { HasHandedOver arena.now lists.old lists.new frames.old frames.new family.leaf.0 family.hidden.0 family.sibling.0 }
+    requires { IsHandingOver arena.now lists.old lists.old frames.old frames.old family.leaf.0 family.hidden.0 family.sibling.0 (Some 0) }
+    ensures { IsHandingOver arena.now lists.old lists.new frames.old frames.new family.leaf.0 family.hidden.0 family.sibling.0 None }
 {
     let to = arena.node(family.hidden).list;
     let list = arena.node(family.sibling).list;
     let mut from = 0;
     while let Some((page, slot)) = lists.take_next(list, from) {
-        put_row(lists, frames, to, page, slot);
+        clear_page(lists, frames, to, page);
+        lists.insert(to, page, slot);
+        note_place(frames, slot, to, page);
         from = page;
     }
-}
-
-/// Puts a row into a list, and sets the backlink of its frame. The frame of the row that stood there is given back.
-fn put_row(lists: &mut PageLists, frames: &mut FramePool, list: ListId, page: PageNo, slot: Slot)
-    requires room { 1 ≤ lists.old.spare }
-    requires taken { (tag : ℕ) → frame_in slot ≡ Some tag → IsSome (taken_frames frames.old tag) }
-    requires under { (tag : ℕ) → frame_there (slots_of lists.old list.0 page) ≡ Some tag → IsSome (taken_frames frames.old tag) }
-    requires apart { (tag : ℕ) → frame_in slot ≡ Some tag → frame_there (slots_of lists.old list.0 page) ≡ Some tag → ⊥ }
-    ensures { HasRowPut lists.old lists.new frames.old frames.new list.0 page slot }
-{
-    clear_page(lists, frames, list, page);
-    lists.insert(list, page, slot);
-    note_place(frames, slot, list, page);
 }
 
 /// Removes the row of a page of a list, if it has one, and gives its frame back.

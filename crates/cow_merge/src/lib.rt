@@ -4,7 +4,7 @@
 //! It stands on `cow_split`, by which pages are cut off from the rows that they see, and on `frame_pool`. It goes over
 //! a range by the rows of the lists on the way upwards, through the windows, and never page by page. Of the contracts,
 //! the layer above uses that the tree stays exact over the frames that are taken, and that every other VMO shows what
-//! it showed (`HasShrunk`, `HasClosed`).
+//! it showed (`KeepsPages`, `HasGone`).
 #![tactic(auto)]
 
 mod closing;

@@ -1,18 +1,17 @@
 //! Moving the rows of a hidden node into one of its children, before the two nodes are merged.
 
-ghost use Rattle.std.specs.Prelude.{◌≡◌, ◌≤◌, ◌<◌, ◌+◌, ◌^◌, ◌↔◌, ℕ, if◌then◌else◌, Bool, true, false, not, None, Some, IsSome, IfSome, IfNone, IsTrue};
-ghost use Rattle.balanced_tree.specs.Pairs.{with_pair, IsNext};
-ghost use Rattle.vm_base.specs.declared.names.Tag.{Tag};
+ghost use Rattle.std.specs.Prelude.{◌≡◌, ◌≤◌, ◌<◌, ◌^◌, ◌↔◌, ◌==◌, ℕ, if◌then◌else◌, true, None, Some, IsSome, IfSome, IfNone, IsTrue};
+ghost use Rattle.balanced_tree.specs.Pairs.{IsNext};
 ghost use Rattle.page_list.specs.declared.row.Slot.{Slot};
-ghost use Rattle.page_list.specs.Lists.{slots_of, row_count};
+ghost use Rattle.page_list.specs.Lists.{slots_of};
 ghost use Rattle.cow_arena.specs.declared.node.Node.{Node};
-ghost use Rattle.cow_arena.specs.Nodes.{nodes_of, side_of};
+ghost use Rattle.cow_arena.specs.Nodes.{nodes_of};
 ghost use Rattle.cow_arena.specs.Forest.{IsForest};
 ghost use Rattle.cow_arena.specs.Walk.{frame_in};
 ghost use Rattle.cow_split.specs.Trees.{tree_of};
 ghost use Rattle.frame_pool.specs.Pool.{taken_frames, links_of};
-ghost use Rattle.cow_merge.specs.Ranges.{bit_on};
-ghost use Rattle.cow_merge.specs.inside.Lifting.{IsLifting, HasLifted, IsBefore, HasSettled, SeesRow, IsMoved, is_row_of_frame};
+ghost use Rattle.cow_merge.specs.Ranges.{Moves};
+ghost use Rattle.cow_merge.specs.inside.Lifting.{IsLifting, KeepsFamily, IsBefore, TellsSeen, SeesRow, IsMoved, is_row_of_frame};
 
 use crate::places::Family;
 use crate::ranges::give_back_frame;
@@ -22,11 +21,11 @@ use frame_pool::{Backlink, FramePool};
 use page_list::{ListId, PageLists, Slot};
 use vm_base::PageNo;
 
-/// A hidden node, and a child of it, which is `node`.
+/// A VMO's node with its parent, which is `above`, and the parent's other child, which is `node`.
 #[derive(Clone, Copy)]
 struct Branch {
+    family: Family,
     above: Node,
-    child: NodeId,
     node: Node,
 }
 
@@ -43,48 +42,35 @@ pub(crate) fn lift_rows(
     to: Option<PageNo>,
 )
     requires { IsLifting arena.now lists.old frames.old family.leaf.0 family.hidden.0 family.sibling.0 }
-    ensures lifted { HasLifted arena.now lists.old lists.new frames.old frames.new family.leaf.0 family.hidden.0 family.sibling.0 }
+    ensures lifting { IsLifting arena.now lists.new frames.new family.leaf.0 family.hidden.0 family.sibling.0 }
+    ensures moves { Moves arena.now lists.old lists.new frames.old frames.new family.leaf.0 0
+        (KeepsFamily arena.now family.leaf.0 family.hidden.0 family.sibling.0) }
     ensures empty { (parent : Node) → nodes_of arena.now family.hidden.0 ≡ Some parent →
         (p : ℕ) → from ≤ p → IsBefore to p → slots_of lists.new parent.list.0 p ≡ None }
-    ensures others { (parent : Node) → nodes_of arena.now family.hidden.0 ≡ Some parent →
-        (p : ℕ) (row : Slot) → slots_of lists.new parent.list.0 p ≡ Some row → slots_of lists.old parent.list.0 p ≡ Some row }
 {
     let above = arena.node(family.hidden);
+    let node = arena.node(family.sibling);
     let branch = Branch {
+        family,
         above,
-        child: family.sibling,
-        node: arena.node(family.sibling),
+        node,
     };
     let mut at = from;
-    while let Some((page, slot)) = take_below(lists, above.list, at, to) {
-        settle(arena, lists, frames, branch, page, slot);
+    while let Some(page) = next_before(lists, above.list, at, to) {
+        settle(arena, lists, frames, branch, page);
         at = page;
     }
 }
 
-/// Takes out the row of the least page of a list from `from` on, and to below `to` if there is one, and answers the
-/// page and its slot. `None` if and only if there is none.
-fn take_below(
-    lists: &mut PageLists,
-    list: ListId,
-    from: PageNo,
-    to: Option<PageNo>,
-) -> Option<(PageNo, Slot)>
-    ensures page { IfSome result (λ taken. IsNext (slots_of lists.old list.0) from (Some taken.0)) }
-    ensures slot { IfSome result (λ taken. slots_of lists.old list.0 taken.0 ≡ Some taken.1) }
-    ensures slots { IfSome result (λ taken. slots_of lists.new ≡ with_pair (slots_of lists.old) list.0 taken.0 None) }
-    ensures count { IfSome result (λ taken. row_count lists.new + 1 ≡ row_count lists.old) }
-    ensures spare { IfSome result (λ taken. lists.new.spare ≡ lists.old.spare + 1) }
-    ensures fits { IfSome result (λ taken. taken.0 < 2 ^ 64) }
-    ensures none { IfNone result (lists.new ≡ lists.old) }
-    ensures end { IfNone result ((p : ℕ) → from ≤ p → IsBefore to p → slots_of lists.old list.0 p ≡ None) }
+/// Returns the least page of a list from `from` on, and to below `to` if there is one, that has a row. `None` if and
+/// only if there is none.
+fn next_before(lists: &PageLists, list: ListId, from: PageNo, to: Option<PageNo>) -> Option<PageNo>
+    ensures next { IfSome result (λ page. IsNext (slots_of lists.now list.0) from (Some page)) }
+    ensures fits { IfSome result (λ page. page < 2 ^ 64) }
+    ensures end { IfNone result ((p : ℕ) → from ≤ p → IsBefore to p → slots_of lists.now list.0 p ≡ None) }
 {
     let page = lists.next(list, from)?;
-    if is_past(page, to) {
-        return None;
-    }
-    let slot = lists.remove(list, page);
-    Some((page, slot))
+    if is_past(page, to) { None } else { Some(page) }
 }
 
 /// Reports whether `page` is at or past `to`, if there is a `to`.
@@ -97,32 +83,35 @@ fn is_past(page: PageNo, to: Option<PageNo>) -> bool
     }
 }
 
-/// Moves a row that was taken out of the list of a hidden node into the list of its child, if it is seen through this
-/// child. Otherwise the frame of the row is given back, if it has one.
+/// Takes a row out of the list of the hidden node, and moves it into the list of the sibling, if it is seen through the
+/// sibling. Otherwise the frame of the row is given back, if it has one.
 fn settle(
     arena: &CowArena,
     lists: &mut PageLists,
     frames: &mut FramePool,
     branch: Branch,
     page: PageNo,
-    slot: Slot,
 )
-    requires forest { IsForest (nodes_of arena.now) arena.now.lists }
-    requires child { nodes_of arena.now branch.child.0 ≡ Some branch.node }
-    requires room { 1 ≤ lists.old.spare }
-    requires taken { (tag : ℕ) → frame_in slot ≡ Some tag → IsSome (taken_frames frames.old tag) }
-    requires seen { (tag : Tag) (left right : Bool) → slot ≡ Slot.Frame tag left right →
-        bit_on (side_of branch.above branch.child.0) left right ≡ false → SeesRow (slots_of lists.old) branch.node page }
-    ensures { HasSettled arena.now lists.old lists.new frames.old frames.new branch.above branch.child.0 branch.node page slot }
+    requires lifting { IsLifting arena.now lists.old frames.old branch.family.leaf.0 branch.family.hidden.0 branch.family.sibling.0 }
+    requires above { nodes_of arena.now branch.family.hidden.0 ≡ Some branch.above }
+    requires node { nodes_of arena.now branch.family.sibling.0 ≡ Some branch.node }
+    requires row { IsSome (slots_of lists.old branch.above.list.0 page) }
+    ensures lifted { IsLifting arena.now lists.new frames.new branch.family.leaf.0 branch.family.hidden.0 branch.family.sibling.0
+        × Moves arena.now lists.old lists.new frames.old frames.new branch.family.leaf.0 0
+        (KeepsFamily arena.now branch.family.leaf.0 branch.family.hidden.0 branch.family.sibling.0) }
+    ensures gone { (p : ℕ) → slots_of lists.new branch.above.list.0 p ≡
+        (if p == page then None else slots_of lists.old branch.above.list.0 p) }
 {
+    let slot = lists.remove(branch.above.list, page);
     let node = branch.node;
-    let side = branch.above.side_of(branch.child);
+    let child = branch.family.sibling;
+    let side = branch.above.side_of(child);
     if !is_seen_through(lists, side, node, page, slot) {
         give_back_frame(frames, slot);
         return;
     }
     let to = page - node.first;
-    let moved = slot_in(arena, lists, branch.child, node, to, slot);
+    let moved = slot_in(arena, lists, child, node, to, slot);
     lists.insert(node.list, to, moved);
     note_place(frames, moved, node.list, to);
 }
@@ -130,8 +119,7 @@ fn settle(
 /// Reports whether the row of a page of a hidden node is seen through the child on this side. For a row with a frame
 /// the bit of the side says so. A zero row is seen through the child if and only if the child itself sees it.
 fn is_seen_through(lists: &PageLists, side: Side, node: Node, page: PageNo, slot: Slot) -> bool
-    ensures frame { (tag : Tag) (left right : Bool) → slot ≡ Slot.Frame tag left right → result ≡ not (bit_on side left right) }
-    ensures zero { slot ≡ Slot.Zero → IsTrue result ↔ SeesRow (slots_of lists.now) node page }
+    ensures { TellsSeen (slots_of lists.now) side node page slot result }
 {
     match slot {
         Slot::Frame { left, right, .. } => match side {

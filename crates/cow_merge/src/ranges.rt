@@ -1,6 +1,6 @@
 //! Leaving a range of pages of a VMO's node out of sight.
 
-ghost use Rattle.std.specs.Prelude.{◌≡◌, ◌+◌, ◌^◌, ◌<◌, ◌≤◌, ℕ, true, Option, None, Some, IsSome, IfSome, IfNone, IsSomeAnd, option_copied};
+ghost use Rattle.std.specs.Prelude.{◌≡◌, ◌≢◌, ◌+◌, ◌^◌, ◌<◌, ◌≤◌, ℕ, Bool, true, Option, None, Some, IsSome, IfSome, IfNone, IsSomeAnd, option_copied};
 ghost use Rattle.page_list.specs.Lists.{slots_of};
 ghost use Rattle.frame_pool.specs.Pool.{taken_frames, is_taken};
 ghost use Rattle.vm_base.specs.declared.names.Tag.{Tag};
@@ -8,16 +8,16 @@ ghost use Rattle.cow_arena.specs.declared.node.Node.{Node};
 ghost use Rattle.cow_arena.specs.declared.node.NodeId.{NodeId};
 ghost use Rattle.cow_arena.specs.Nodes.{nodes_of};
 ghost use Rattle.cow_arena.specs.Walk.{frame_in};
-ghost use Rattle.cow_arena.specs.Ways.{HasRow, Reaches};
+ghost use Rattle.cow_arena.specs.Ways.{HasRow, Reaches, IsPartOf};
 ghost use Rattle.cow_split.specs.Trees.{tree_of};
 ghost use Rattle.cow_split.specs.Searching.{ComesTo};
-ghost use Rattle.cow_split.specs.Exact.{IsExact, all_in_sight};
+ghost use Rattle.cow_split.specs.Exact.{IsExact, IsOnlyOf, all_in_sight};
 ghost use Rattle.cow_split.specs.Cutting.{frame_left};
 ghost use Rattle.cow_split.specs.declared.answers.Cut.TheVariants as cut;
 ghost use Rattle.balanced_tree.specs.Pairs.{IsNext};
 ghost use Rattle.cow_jump.specs.Jumps.{MayJump};
 ghost use Rattle.cow_merge.specs.inside.Lifting.{IsFamilyOf};
-ghost use Rattle.cow_merge.specs.Ranges.{IsOutside, no_pages, IsNextOutside, bare_of, is_split, HasGiven, HasLost, IsLeftBare, IsPassing, IsOnItsWayUp, IsSparing, IsOnlyWay, IsCutOr, ComesNotTo, KeepsList, KeepsOthers, IsLeftOut, IsExactFor};
+ghost use Rattle.cow_merge.specs.Ranges.{IsOutside, no_pages, IsNextOutside, bare_of, is_split, HasGiven, Moves, IsLeftBare, IsPassing, IsOnItsWayUp, IsSparing, IsOnlyWay, HasCutOff, ComesNotTo, IsLeftOut, IsExactFor};
 
 use crate::places::{Arrival, Family, Span};
 use crate::witness::leave_out_beside;
@@ -51,7 +51,7 @@ pub(crate) fn leave_out(
     requires leaf { IsSomeAnd (nodes_of arena.now leaf.0) (λ node. IsSome node.koid) }
     requires jumps { MayJump (tree_of arena.now lists.old) (option_copied jumps) }
     ensures left { (node : Node) → nodes_of arena.now leaf.0 ≡ Some node → IsLeftOut arena.now lists.new frames.new leaf.0 node first }
-    ensures lost { HasLost arena.now lists.old lists.new frames.old frames.new leaf.0 first }
+    ensures lost { Moves arena.now lists.old lists.new frames.old frames.new leaf.0 first IsPartOf }
 {
     drop_rows(arena, lists, frames, leaf, first);
     let node = arena.node(leaf);
@@ -97,8 +97,8 @@ pub(crate) fn leave_out_above(
     requires family { IsFamilyOf arena.now family.leaf.0 family.hidden.0 family.sibling.0 }
     requires jumps { MayJump (tree_of arena.now lists.old) (option_copied jumps) }
     ensures sparing { IsSparing arena.now lists.new frames.new family.leaf.0 0 (Some family.hidden) }
-    ensures lost { HasLost arena.now lists.old lists.new frames.old frames.new family.leaf.0 0 }
-    ensures kept { (above : Node) → nodes_of arena.now family.hidden.0 ≡ Some above → KeepsList lists.old lists.new above.list.0 }
+    ensures lost { Moves arena.now lists.old lists.new frames.old frames.new family.leaf.0 0 IsPartOf }
+    ensures kept { (above : Node) → nodes_of arena.now family.hidden.0 ≡ Some above → slots_of lists.new above.list.0 ≡ slots_of lists.old above.list.0 }
 {
     drop_rows(arena, lists, frames, family.leaf, 0);
     let node = arena.node(family.leaf);
@@ -134,8 +134,8 @@ fn leave_out_further(
     ensures sparing { (spared : Option NodeId) (above : Node) → nodes_of arena.now family.hidden.0 ≡ Some above →
         IsPassing arena.now lists.old frames.old family.leaf.0 span.first no_pages spared above span.shift span.to span.to →
         IsSparing arena.now lists.new frames.new family.leaf.0 span.first spared }
-    ensures lost { HasLost arena.now lists.old lists.new frames.old frames.new family.leaf.0 span.first }
-    ensures kept { (above : Node) → nodes_of arena.now family.hidden.0 ≡ Some above → KeepsList lists.old lists.new above.list.0 }
+    ensures lost { Moves arena.now lists.old lists.new frames.old frames.new family.leaf.0 span.first IsPartOf }
+    ensures kept { (above : Node) → nodes_of arena.now family.hidden.0 ≡ Some above → slots_of lists.new above.list.0 ≡ slots_of lists.old above.list.0 }
 {
     let skip = leave_out_beside(arena, lists, frames, jumps, family, span);
     let above = arena.node(family.hidden);
@@ -166,8 +166,8 @@ fn cut_upwards(
     ensures sparing { (spared : Option NodeId) →
         IsPassing arena.now lists.old frames.old start.leaf.0 span.first skip spared start.node span.shift span.to span.to →
         IsSparing arena.now lists.new frames.new start.leaf.0 span.first spared }
-    ensures lost { HasLost arena.now lists.old lists.new frames.old frames.new start.leaf.0 span.first }
-    ensures kept { KeepsList lists.old lists.new start.node.list.0 }
+    ensures lost { Moves arena.now lists.old lists.new frames.old frames.new start.leaf.0 span.first IsPartOf }
+    ensures kept { slots_of lists.new start.node.list.0 ≡ slots_of lists.old start.node.list.0 }
 {
     let first = span.first;
     let mut at = start.at;
@@ -229,8 +229,9 @@ fn drop_rows(
     requires exact { IsExact (tree_of arena.now lists.old) all_in_sight (is_taken frames.old) }
     requires leaf { IsSomeAnd (nodes_of arena.now leaf.0) (λ node. IsSome node.koid) }
     ensures bare { IsLeftBare arena.now lists.new frames.new leaf.0 first }
-    ensures lost { HasLost arena.now lists.old lists.new frames.old frames.new leaf.0 first }
-    ensures others { (node : Node) → nodes_of arena.now leaf.0 ≡ Some node → KeepsOthers lists.old lists.new node.list.0 }
+    ensures lost { Moves arena.now lists.old lists.new frames.old frames.new leaf.0 first IsPartOf }
+    ensures others { (node : Node) → nodes_of arena.now leaf.0 ≡ Some node →
+        (l : ℕ) → l ≢ node.list.0 → slots_of lists.new l ≡ slots_of lists.old l }
 {
     let node = arena.node(leaf);
     let mut from = first;
@@ -268,8 +269,8 @@ fn cut_rows(
     ensures passing { (spared : Option NodeId) →
         IsPassing arena.now lists.old frames.old arrival.leaf.0 span.first skip spared arrival.node span.shift span.to (span.first + span.shift) →
         IsPassing arena.now lists.new frames.new arrival.leaf.0 span.first skip spared arrival.node span.shift span.to span.to }
-    ensures lost { HasLost arena.now lists.old lists.new frames.old frames.new arrival.leaf.0 span.first }
-    ensures others { KeepsOthers lists.old lists.new arrival.node.list.0 }
+    ensures lost { Moves arena.now lists.old lists.new frames.old frames.new arrival.leaf.0 span.first IsPartOf }
+    ensures others { (l : ℕ) → l ≢ arrival.node.list.0 → slots_of lists.new l ≡ slots_of lists.old l }
 {
     let list = arrival.node.list;
     let mut from = span.first + span.shift;
@@ -355,9 +356,11 @@ pub(crate) fn cut_off(
     requires row { HasRow (tree_of arena.now lists.old) row.node.0 row.page row.slot }
     requires hidden { (above : Node) → nodes_of arena.now row.node.0 ≡ Some above → above.koid ≡ None }
     requires only { IsOnlyWay (tree_of arena.now lists.old) leaf.0 own row.side row.node.0 row.page }
-    ensures passed { IsCutOr arena.now lists.old lists.new frames.old frames.new leaf.0 own
-        (ComesNotTo (tree_of arena.now lists.old) leaf.0 own row.node.0 row.page) }
-    ensures others { (above : Node) → nodes_of arena.now row.node.0 ≡ Some above → KeepsOthers lists.old lists.new above.list.0 }
+    ensures passed { (out : ℕ → ℕ → Bool) → IsExact (tree_of arena.now lists.old) out (is_taken frames.old) → IsOnlyOf out leaf.0 →
+        HasCutOff arena.now lists.old lists.new frames.old frames.new leaf.0 own
+        (ComesNotTo (tree_of arena.now lists.old) leaf.0 own row.node.0 row.page) out }
+    ensures others { (above : Node) → nodes_of arena.now row.node.0 ≡ Some above →
+        (l : ℕ) → l ≢ above.list.0 → slots_of lists.new l ≡ slots_of lists.old l }
 {
     if is_split(row.side, row.slot) {
         return;

@@ -8,7 +8,8 @@ ghost use Rattle.cow_arena.specs.declared.node.Side.{Side};
 ghost use Rattle.cow_arena.specs.Nodes.{nodes_of, side_in};
 ghost use Rattle.cow_arena.specs.Forest.{IsChild};
 ghost use Rattle.cow_split.specs.Trees.{tree_of};
-ghost use Rattle.cow_merge.specs.inside.Lifting.{IsLifting, HasLifted};
+ghost use Rattle.cow_merge.specs.Ranges.{Moves};
+ghost use Rattle.cow_merge.specs.inside.Lifting.{IsLifting, KeepsFamily};
 ghost use Rattle.cow_merge.specs.inside.Sharing.{AreReached, AreShared, IsDown};
 
 use crate::lifting::lift_rows;
@@ -30,9 +31,9 @@ pub(crate) fn share_rows(
     family: Family,
 ) -> Pages
     requires lifting { IsLifting arena.now lists.old frames.old family.leaf.0 family.hidden.0 family.sibling.0 }
-    ensures lifted { HasLifted arena.now lists.old lists.new frames.old frames.new family.leaf.0 family.hidden.0 family.sibling.0 }
-    ensures others { (parent : Node) → nodes_of arena.now family.hidden.0 ≡ Some parent →
-        (p : ℕ) (row : Slot) → slots_of lists.new parent.list.0 p ≡ Some row → slots_of lists.old parent.list.0 p ≡ Some row }
+    ensures lifting { IsLifting arena.now lists.new frames.new family.leaf.0 family.hidden.0 family.sibling.0 }
+    ensures moves { Moves arena.now lists.old lists.new frames.old frames.new family.leaf.0 0
+        (KeepsFamily arena.now family.leaf.0 family.hidden.0 family.sibling.0) }
     ensures shared { (parent node : Node) → nodes_of arena.now family.hidden.0 ≡ Some parent → nodes_of arena.now family.sibling.0 ≡ Some node →
         AreShared (tree_of arena.now lists.new) parent.list.0 family.sibling.0 node result }
 {
@@ -70,9 +71,9 @@ fn share_side(
 ) -> Pages
     requires lifting { IsLifting arena.now lists.old frames.old family.leaf.0 family.hidden.0 family.sibling.0 }
     requires below { IsChild (nodes_of arena.now) family.sibling.0 below.0 }
-    ensures lifted { HasLifted arena.now lists.old lists.new frames.old frames.new family.leaf.0 family.hidden.0 family.sibling.0 }
-    ensures others { (parent : Node) → nodes_of arena.now family.hidden.0 ≡ Some parent →
-        (p : ℕ) (row : Slot) → slots_of lists.new parent.list.0 p ≡ Some row → slots_of lists.old parent.list.0 p ≡ Some row }
+    ensures lifting { IsLifting arena.now lists.new frames.new family.leaf.0 family.hidden.0 family.sibling.0 }
+    ensures moves { Moves arena.now lists.old lists.new frames.old frames.new family.leaf.0 0
+        (KeepsFamily arena.now family.leaf.0 family.hidden.0 family.sibling.0) }
     ensures reached { (parent : Node) (side : Side) → nodes_of arena.now family.hidden.0 ≡ Some parent →
         side_in (nodes_of arena.now) below.0 ≡ Some side →
         AreReached (tree_of arena.now lists.new) parent.list.0 side family.sibling.0 seen result }
@@ -105,9 +106,9 @@ fn settle_under(
     requires lifting { IsLifting arena.now lists.old frames.old family.leaf.0 family.hidden.0 family.sibling.0 }
     requires list { (node : Node) → nodes_of arena.now way.at.0 ≡ Some node → list ≡ node.list }
     requires fits { (p : ℕ) → way.from ≤ p → p < way.to → p + way.shift + 1 < 2 ^ 64 }
-    ensures lifted { HasLifted arena.now lists.old lists.new frames.old frames.new family.leaf.0 family.hidden.0 family.sibling.0 }
-    ensures others { (parent : Node) → nodes_of arena.now family.hidden.0 ≡ Some parent →
-        (p : ℕ) (row : Slot) → slots_of lists.new parent.list.0 p ≡ Some row → slots_of lists.old parent.list.0 p ≡ Some row }
+    ensures lifting { IsLifting arena.now lists.new frames.new family.leaf.0 family.hidden.0 family.sibling.0 }
+    ensures moves { Moves arena.now lists.old lists.new frames.old frames.new family.leaf.0 0
+        (KeepsFamily arena.now family.leaf.0 family.hidden.0 family.sibling.0) }
     ensures down { (parent : Node) (side : Side) (seen : ℕ) → nodes_of arena.now family.hidden.0 ≡ Some parent →
         IsDown (tree_of arena.now lists.old) parent.list.0 family.sibling.0 seen side way way.from →
         IsDown (tree_of arena.now lists.new) parent.list.0 family.sibling.0 seen side way way.to }

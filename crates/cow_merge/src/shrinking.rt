@@ -1,15 +1,18 @@
 //! Shrinking a VMO.
 
 ghost use Rattle.std.specs.Prelude.{◌≡◌, ◌≤◌, ℕ, Some, IsSomeAnd, IsSome, option_copied};
+ghost use Rattle.vm_base.specs.Entries.{with_key};
+ghost use Rattle.page_list.specs.Lists.{slots_of};
 ghost use Rattle.cow_arena.specs.declared.node.Node.{Node};
 ghost use Rattle.cow_arena.specs.Nodes.{nodes_of};
 ghost use Rattle.cow_arena.specs.Forest.{IsForest};
 ghost use Rattle.cow_arena.specs.Counts.{hidden_count, visible_count};
+ghost use Rattle.cow_arena.specs.Ways.{IsPartOf};
 ghost use Rattle.cow_split.specs.Trees.{tree_of};
 ghost use Rattle.cow_split.specs.Exact.{IsExact, all_in_sight};
 ghost use Rattle.frame_pool.specs.Pool.{is_taken};
 ghost use Rattle.cow_jump.specs.Jumps.{AreJumps, MayJump};
-ghost use Rattle.cow_merge.specs.Merging.{HasShrunk, narrowed_nodes};
+ghost use Rattle.cow_merge.specs.Merging.{KeepsPages, narrowed_nodes, with_count};
 
 use crate::ranges::leave_out;
 use cow_arena::{CowArena, NodeId, window_first};
@@ -37,7 +40,12 @@ pub fn shrink(
 )
     requires exact { IsExact (tree_of arena.old lists.old) all_in_sight (is_taken frames.old) }
     requires leaf { IsSomeAnd (nodes_of arena.old leaf.0) (λ node. IsSome node.koid × (count ≤ node.count)) }
-    ensures { HasShrunk arena.old arena.new lists.old lists.new frames.old frames.new leaf.0 count }
+    ensures kept { KeepsPages arena.old arena.new lists.old lists.new frames.old frames.new }
+    ensures part { IsPartOf (slots_of lists.old) (slots_of lists.new) }
+    ensures nodes { (node : Node) → nodes_of arena.old leaf.0 ≡ Some node →
+        nodes_of arena.new ≡ with_key (nodes_of arena.old) leaf.0 (with_count node count) }
+    ensures hidden { hidden_count arena.new ≡ hidden_count arena.old }
+    ensures visible { visible_count arena.new ≡ visible_count arena.old }
 {
     shrink_with(arena, lists, frames, None, leaf, count);
 }
@@ -54,7 +62,12 @@ pub fn shrink_by_jumps(
     requires exact { IsExact (tree_of arena.old lists.old) all_in_sight (is_taken frames.old) }
     requires leaf { IsSomeAnd (nodes_of arena.old leaf.0) (λ node. IsSome node.koid × (count ≤ node.count)) }
     requires jumps { (next : ℕ) × AreJumps (tree_of arena.old lists.old) next jumps.now }
-    ensures { HasShrunk arena.old arena.new lists.old lists.new frames.old frames.new leaf.0 count }
+    ensures kept { KeepsPages arena.old arena.new lists.old lists.new frames.old frames.new }
+    ensures part { IsPartOf (slots_of lists.old) (slots_of lists.new) }
+    ensures nodes { (node : Node) → nodes_of arena.old leaf.0 ≡ Some node →
+        nodes_of arena.new ≡ with_key (nodes_of arena.old) leaf.0 (with_count node count) }
+    ensures hidden { hidden_count arena.new ≡ hidden_count arena.old }
+    ensures visible { visible_count arena.new ≡ visible_count arena.old }
 {
     shrink_with(arena, lists, frames, Some(jumps), leaf, count);
 }
@@ -71,7 +84,12 @@ fn shrink_with(
     requires exact { IsExact (tree_of arena.old lists.old) all_in_sight (is_taken frames.old) }
     requires leaf { IsSomeAnd (nodes_of arena.old leaf.0) (λ node. IsSome node.koid × (count ≤ node.count)) }
     requires jumps { MayJump (tree_of arena.old lists.old) (option_copied jumps) }
-    ensures { HasShrunk arena.old arena.new lists.old lists.new frames.old frames.new leaf.0 count }
+    ensures kept { KeepsPages arena.old arena.new lists.old lists.new frames.old frames.new }
+    ensures part { IsPartOf (slots_of lists.old) (slots_of lists.new) }
+    ensures nodes { (node : Node) → nodes_of arena.old leaf.0 ≡ Some node →
+        nodes_of arena.new ≡ with_key (nodes_of arena.old) leaf.0 (with_count node count) }
+    ensures hidden { hidden_count arena.new ≡ hidden_count arena.old }
+    ensures visible { visible_count arena.new ≡ visible_count arena.old }
 {
     leave_out(arena, lists, frames, jumps, leaf, count);
     narrow(arena, leaf, count);

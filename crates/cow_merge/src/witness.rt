@@ -1,6 +1,6 @@
 //! Pages of a VMO's node that go out of sight at once, since another VMO, below the sibling, shows them too.
 
-ghost use Rattle.std.specs.Prelude.{◌≡◌, ◌+◌, ◌^◌, ◌<◌, ◌≤◌, ℕ, Option, None, Some, IsSome, IsSomeAnd, option_copied};
+ghost use Rattle.std.specs.Prelude.{◌≡◌, ◌+◌, ◌^◌, ◌<◌, ◌≤◌, ℕ, Bool, Option, None, Some, IsSome, IsSomeAnd, option_copied};
 ghost use Rattle.page_list.specs.Lists.{slots_of};
 ghost use Rattle.cow_arena.specs.declared.node.Node.{Node};
 ghost use Rattle.cow_arena.specs.declared.node.NodeId.{NodeId};
@@ -8,9 +8,12 @@ ghost use Rattle.cow_arena.specs.declared.node.Side.{Side};
 ghost use Rattle.cow_arena.specs.Nodes.{nodes_of};
 ghost use Rattle.cow_arena.specs.Forest.{IsForest, IsChild};
 ghost use Rattle.cow_split.specs.Trees.{tree_of};
+ghost use Rattle.cow_split.specs.Exact.{IsExact, IsOnlyOf};
+ghost use Rattle.frame_pool.specs.Pool.{is_taken};
 ghost use Rattle.cow_jump.specs.Jumps.{MayJump};
+ghost use Rattle.cow_arena.specs.Ways.{IsPartOf};
 ghost use Rattle.cow_merge.specs.inside.Lifting.{IsFamilyOf};
-ghost use Rattle.cow_merge.specs.Ranges.{no_pages, HasLost, IsPassing, IsOnItsWayUp, IsExactFor, KeepsList, IsCutOr};
+ghost use Rattle.cow_merge.specs.Ranges.{no_pages, Moves, IsPassing, IsOnItsWayUp, IsExactFor, HasCutOff};
 ghost use Rattle.cow_merge.specs.inside.Witness.{IsGoingDown, IsBeside, IsEntered, ShowsOnlyOf};
 
 use crate::places::{Family, Span, Window};
@@ -61,8 +64,8 @@ pub(crate) fn leave_out_beside(
     ensures passing { (spared : Option NodeId) (above : Node) → nodes_of arena.now family.hidden.0 ≡ Some above →
         IsPassing arena.now lists.old frames.old family.leaf.0 span.first no_pages spared above span.shift span.to span.to →
         IsPassing arena.now lists.new frames.new family.leaf.0 span.first result spared above span.shift span.to span.to }
-    ensures lost { HasLost arena.now lists.old lists.new frames.old frames.new family.leaf.0 span.first }
-    ensures kept { (above : Node) → nodes_of arena.now family.hidden.0 ≡ Some above → KeepsList lists.old lists.new above.list.0 }
+    ensures lost { Moves arena.now lists.old lists.new frames.old frames.new family.leaf.0 span.first IsPartOf }
+    ensures kept { (above : Node) → nodes_of arena.now family.hidden.0 ≡ Some above → slots_of lists.new above.list.0 ≡ slots_of lists.old above.list.0 }
 {
     let window = Window {
         leaf: family.leaf,
@@ -174,8 +177,8 @@ fn cut_under(
     ensures beside { (first : ℕ) (spared : Option NodeId) (above : Node) (to : ℕ) (s : Side) →
         IsBeside arena.now lists.old frames.old window.leaf.0 first spared window.hidden.0 above window.shift to s way way.from →
         IsBeside arena.now lists.new frames.new window.leaf.0 first spared window.hidden.0 above window.shift to s way way.to
-        × HasLost arena.now lists.old lists.new frames.old frames.new window.leaf.0 first }
-    ensures kept { (above : Node) → nodes_of arena.now window.hidden.0 ≡ Some above → KeepsList lists.old lists.new above.list.0 }
+        × Moves arena.now lists.old lists.new frames.old frames.new window.leaf.0 first IsPartOf }
+    ensures kept { (above : Node) → nodes_of arena.now window.hidden.0 ≡ Some above → slots_of lists.new above.list.0 ≡ slots_of lists.old above.list.0 }
 {
     let list = arena.node(way.at).list;
     let mut from = way.from;
@@ -199,9 +202,10 @@ fn cut_page(
     requires exact { IsExactFor arena.now lists.old frames.old window.leaf.0 }
     requires bare { (node : Node) → nodes_of arena.now window.leaf.0 ≡ Some node → slots_of lists.old node.list.0 own ≡ None }
     requires jumps { MayJump (tree_of arena.now lists.old) (option_copied jumps) }
-    ensures cut { IsCutOr arena.now lists.old lists.new frames.old frames.new window.leaf.0 own
-        (ShowsOnlyOf (tree_of arena.now lists.old) window.leaf.0 own window.hidden.0) }
-    ensures kept { (above : Node) → nodes_of arena.now window.hidden.0 ≡ Some above → KeepsList lists.old lists.new above.list.0 }
+    ensures cut { (out : ℕ → ℕ → Bool) → IsExact (tree_of arena.now lists.old) out (is_taken frames.old) → IsOnlyOf out window.leaf.0 →
+        HasCutOff arena.now lists.old lists.new frames.old frames.new window.leaf.0 own
+        (ShowsOnlyOf (tree_of arena.now lists.old) window.leaf.0 own window.hidden.0) out }
+    ensures kept { (above : Node) → nodes_of arena.now window.hidden.0 ≡ Some above → slots_of lists.new above.list.0 ≡ slots_of lists.old above.list.0 }
 {
     let found = above_with(arena, lists, jumps, window.leaf, own);
     if let Holder::Above {

@@ -1,18 +1,8 @@
 -- Laws of a climb from a page of a node, which has no row of its own there, to the row that shows it.
-use Rattle.std.proofs.Common.{◌≡◌, ℕ, ◌+◌, ◌<◌, ◌≤◌, Option, None, Some, refl, sym, ap, ◌∙◌, subst, arith}
-use Rattle.std.specs.Prelude.{IsSomeAnd}
-use Rattle.vm_base.proofs.EntryLaws.{some_same}
-use Rattle.page_list.specs.declared.row.Slot.{Slot}
-use Rattle.cow_arena.specs.declared.node.NodeId.{NodeId}
-use Rattle.cow_arena.specs.declared.node.Node.{Node}
-use Rattle.cow_arena.specs.declared.node.Side.{Side}
-use Rattle.cow_arena.specs.Nodes.{side_of, side_in}
-use Rattle.cow_arena.specs.Walk.{Tree, from_side, walk}
-use Rattle.cow_arena.specs.Forest.{IsForest}
-use Rattle.cow_arena.specs.Ways.{Climbs, Arrives, Reaches}
+use Rattle.cow_split.proofs.Words.{◌≡◌, ℕ, ◌+◌, ◌<◌, ◌≤◌, Option, None, Some, refl, sym, ap, ◌∙◌, subst, arith, IsSomeAnd, some_same, Slot}
+use Rattle.cow_split.proofs.Words.{NodeId, Node, Side, side_of, side_in, Tree, from_side, walk, IsForest, Climbs, Arrives, Reaches, depth}
 use Rattle.cow_arena.proofs.WalkLaws.{walk-past}
 use Rattle.cow_arena.proofs.ReachLaws.{walk-arrives, walk-from, reach-after}
-use Rattle.cow_split.specs.Cost.{depth}
 use Rattle.cow_split.proofs.CostLaws.{depth-up}
 
 -- A climb from page p of node k has come to page q of this node h, whose list has no row there.
@@ -24,12 +14,7 @@ pub record IsClimbing (t : Tree) (k p h q : ℕ) (node : Node) : Type 0 where
 
 pub climb-start : (t : Tree) (k p : ℕ) (node : Node) → t.nodes k ≡ Some node → IsSomeAnd (t.nodes k) (λ n. t.slots n.list.0 p ≡ None) →
     IsClimbing t k p k p node
-climb-start t k p node at bare = record {
-  from = None;
-  there = at;
-  way = (refl, refl);
-  free = rw at at bare;
-}
+climb-start t k p node at bare = record { from = None; there = at; way = (refl, refl); free = rw at at bare }
 
 module _ (t : Tree) (f : IsForest t.nodes t.lists) (k p h q : ℕ) (node : Node) (c : IsClimbing t k p h q node) where
   -- the walk ends with nothing at this node

@@ -1,12 +1,6 @@
 -- Laws of the nodes from one up to its root: how many there are, and what they weigh together.
-use Rattle.std.proofs.Common.{◌≡◌, ℕ, zero, suc, ◌+◌, ◌<◌, ◌≤◌, Option, None, Some, refl, sym, ap, ◌∙◌, subst, arith}
-use Rattle.std.specs.Prelude.{IsSome}
-use Rattle.cow_arena.specs.declared.node.NodeId.{NodeId}
-use Rattle.cow_arena.specs.declared.node.Node.{Node}
-use Rattle.cow_arena.specs.Nodes.{Nodes, link_to, parent_node_in}
-use Rattle.cow_arena.specs.Forest.{IsForest}
-use Rattle.cow_split.specs.Cost.{nodes_up, depth}
-use Rattle.cow_split.specs.Searching.{sum_up}
+use Rattle.cow_split.proofs.Words.{◌≡◌, ℕ, zero, suc, ◌+◌, ◌<◌, ◌≤◌, Option, None, Some, refl, sym, ap, ◌∙◌, subst, arith, IsSome, NodeId}
+use Rattle.cow_split.proofs.Words.{Node, Nodes, link_to, parent_node_in, IsForest, nodes_up, depth, sum_up}
 
 -- the number of nodes is their sum, where each weighs one
 up-sum : (nodes : Nodes) (n : ℕ) (at : Option NodeId) → nodes_up nodes n at ≡ sum_up nodes (λ k. 1) n at

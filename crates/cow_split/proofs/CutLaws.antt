@@ -1,51 +1,33 @@
 -- What a cut leaves of the rows of a clone tree, and what it answers.
-use Rattle.std.proofs.Common.{◌≡◌, ◌⊎◌, ◌↔◌, ℕ, ◌<◌, Bool, true, false, if◌then◌else◌, Option, None, Some}
-use Rattle.std.proofs.Common.{refl, sym, ap, subst, ◌∙◌, inl, inr, arith}
-use Rattle.std.specs.Prelude.{◌==◌, is_some}
-use Rattle.std.specs.Option.{option_map}
-use Rattle.std.proofs.lemmas.Bool.{cases_Bool, cases_lt}
-use Rattle.balanced_tree.specs.Pairs.{with_pair}
-use Rattle.vm_base.specs.Entries.{passes}
-use Rattle.vm_base.specs.declared.names.Tag.{Tag}
-use Rattle.vm_base.proofs.EntryLaws.{some_same}
-use Rattle.vm_base.proofs.SearchLaws.{eqb_is, eqb_same}
-use Rattle.page_list.specs.declared.row.Slot.{Slot}
-use Rattle.page_list.specs.declared.row.Slot.TheVariants as slot
-use Rattle.cow_arena.specs.declared.node.Node.{Node}
-use Rattle.cow_arena.specs.declared.node.Side.{Side}
-use Rattle.cow_arena.specs.declared.node.Side.TheVariants as side
-use Rattle.cow_arena.specs.Nodes.{IsVisible, link_to, leads_to, other_side}
-use Rattle.cow_arena.specs.Walk.{Slots, Tree, Found, walk, frame_in, frame_found, frame_shown}
-use Rattle.cow_arena.specs.Forest.{IsForest}
-use Rattle.cow_arena.specs.Ways.{HasRow, Arrives, SameFrames}
+use Rattle.cow_split.proofs.Words.{◌≡◌, ◌⊎◌, ◌↔◌, ℕ, ◌<◌, Bool, true, false, if◌then◌else◌, Option, None, Some, refl, sym, ap, subst, ◌∙◌}
+use Rattle.cow_split.proofs.Words.{inl, inr, arith, ◌==◌, is_some, option_map, cases_Bool, cases_lt, with_pair, passes, Tag, some_same}
+use Rattle.cow_split.proofs.Words.{eqb_is, eqb_same, Slot, Node, Side, IsVisible, link_to, leads_to, other_side, Slots, Tree, Found, walk}
+use Rattle.cow_split.proofs.Words.{frame_in, frame_found, frame_shown, IsForest, HasRow, Arrives, SameFrames, Cut, with_row, list_in}
+use Rattle.cow_split.proofs.Words.{reached_from, IsPage, Sees, IsSeenFrom, IsLastViewer, ShowsSame, IsNotPage, Denies, AreSplitBits}
+use Rattle.cow_split.proofs.Words.{IsExact, IsOnlyOf, leaving_out, without_frame, split_on, answer_on, slots_from, answer_from, slots_after}
+use Rattle.cow_split.proofs.Words.{answer_after, cut_slots, cut_answer, frame_left}
 use Rattle.cow_arena.proofs.WalkLaws.{walk-past}
 use Rattle.cow_arena.proofs.ReachLaws.{reach-once, reach-hidden, walk-ends, walk-arrives}
 use Rattle.cow_arena.proofs.AlikeLaws.{with_pair-same, with_pair-other, walk-elsewhere, frames-back, found-alike, frame-alike}
-use Rattle.cow_split.specs.declared.answers.Cut.{Cut}
-use Rattle.cow_split.specs.declared.answers.Cut.TheVariants as cut
-use Rattle.cow_split.specs.Trees.{with_row, list_in}
-use Rattle.cow_split.specs.Search.{reached_from}
-use Rattle.cow_split.specs.Sight.{IsPage, Sees, IsSeenFrom, IsLastViewer, ShowsSame, IsNotPage}
-use Rattle.cow_split.specs.Exact.{Denies, AreSplitBits, IsExact, IsOnlyOf, leaving_out, without_frame}
-use Rattle.cow_split.specs.Cutting.{split_on, answer_on, slots_from, answer_from, slots_after, answer_after, cut_slots, cut_answer, frame_left}
 use Rattle.cow_split.proofs.SearchLaws.{reached-seen, seen-reached, IsSeenBut}
-use Rattle.cow_split.proofs.ExactLaws.{cases_place, same_node, with_row-changes, frame-stays, frame-gone, exact-changed, exact-seen_alike, FollowFrame, frame_of}
+use Rattle.cow_split.proofs.ExactLaws.{cases_place, same_node, with_row-changes, frame-stays, frame-gone, exact-changed, exact-seen_alike}
+use Rattle.cow_split.proofs.ExactLaws.{FollowFrame, frame_of}
 use Rattle.cow_split.proofs.RowLaws.{left_out-in_sight, left_out-other, without_frame-none, exact-out_of_sight, frame-shown, frame-once}
 
 -- page p of the visible node v sees the frame of page q of the hidden node h from this side
 pub record SeesFrame (t : Tree) (v p : ℕ) (side : Side) (h q : ℕ) (node : Node) (tag : Tag) (left right : Bool) : Type 0 where
   pub page : IsPage t v p
-  pub found : walk t v p ≡ Some (record { node = h; page = q; side = Some side; slot = slot.Frame tag left right })
+  pub found : walk t v p ≡ Some (record { node = h; page = q; side = Some side; slot = Slot.Frame tag left right })
   pub at : t.nodes h ≡ Some node
   pub hidden : node.koid ≡ None
-  pub row : t.slots node.list.0 q ≡ Some (slot.Frame tag left right)
+  pub row : t.slots node.list.0 q ≡ Some (Slot.Frame tag left right)
 
 -- The rows after a cut of page p of v, and what is answered, in each case. Where no other node on the leaf's side sees the
 -- frame, the row is split.
 pub data CutBy (t : Tree) (v p : ℕ) : Slots → Cut → Type 0 where
-  sees_nothing : frame_shown t v p ≡ None → CutBy t v p t.slots cut.NothingThere
+  sees_nothing : frame_shown t v p ≡ None → CutBy t v p t.slots Cut.NothingThere
   sees_shared : (side : Side) (h q : ℕ) (node : Node) (tag : Tag) (left right : Bool) → SeesFrame t v p side h q node tag left right →
-      reached_from t (link_to v) side h q ≡ true → CutBy t v p t.slots cut.StillSeen
+      reached_from t (link_to v) side h q ≡ true → CutBy t v p t.slots Cut.StillSeen
   sees_alone : (side : Side) (h q : ℕ) (node : Node) (tag : Tag) (left right : Bool) → SeesFrame t v p side h q node tag left right →
       reached_from t (link_to v) side h q ≡ false →
       CutBy t v p (with_pair t.slots node.list.0 q (split_on side tag left right)) (answer_on side tag left right)
@@ -60,8 +42,8 @@ module _ (t : Tree) (forest : IsForest t.nodes t.lists) (v p : ℕ) (node : Node
   ]
 
   sees-frame : (side : Side) (h q : ℕ) (tag : Tag) (left right : Bool) →
-      walk t v p ≡ Some (record { node = h; page = q; side = Some side; slot = slot.Frame tag left right }) →
-      (at : HasRow t h q (slot.Frame tag left right)) → SeesFrame t v p side h q at.node tag left right
+      walk t v p ≡ Some (record { node = h; page = q; side = Some side; slot = Slot.Frame tag left right }) →
+      (at : HasRow t h q (Slot.Frame tag left right)) → SeesFrame t v p side h q at.node tag left right
   sees-frame side h q tag left right found at = record {
     page = record { node = node; visible = visible; below = omega (arith, forest.by.seen v node visible.at, inside _ found) };
     found = found;
@@ -84,11 +66,11 @@ module _ (t : Tree) (forest : IsForest t.nodes t.lists) (v p : ℕ) (node : Node
   unfolding cut_slots cut_answer
   cut-by = by_walk (walk t v p) refl
     where
-      by_search : (side : Side) (h q : ℕ) (tag : Tag) (left right : Bool) (at : HasRow t h q (slot.Frame tag left right)) →
+      by_search : (side : Side) (h q : ℕ) (tag : Tag) (left right : Bool) (at : HasRow t h q (Slot.Frame tag left right)) →
           SeesFrame t v p side h q at.node tag left right → (seen : Bool) → reached_from t (link_to v) side h q ≡ seen →
           CutBy t v p
           (if seen then t.slots else with_pair t.slots (list_in (t.nodes h)) q (split_on side tag left right))
-          (if seen then cut.StillSeen else answer_on side tag left right)
+          (if seen then Cut.StillSeen else answer_on side tag left right)
       by_search side h q tag left right at sees true is = sees_shared side h q at.node tag left right sees is
       by_search side h q tag left right at sees false is =
           subst
@@ -99,9 +81,9 @@ module _ (t : Tree) (forest : IsForest t.nodes t.lists) (v p : ℕ) (node : Node
       by_slot : (h q : ℕ) (row : Slot) (from : Option Side) →
           walk t v p ≡ Some (record { node = h; page = q; side = from; slot = row }) →
           CutBy t v p (slots_from t v h q row from) (answer_from t v h q row from)
-      by_slot h q slot.Zero from is = sees_nothing (ap frame_found is)
-      by_slot h q (slot.Frame tag left right) None is = absurd (no-own h q _ is)
-      by_slot h q (slot.Frame tag left right) (Some side) is =
+      by_slot h q Slot.Zero from is = sees_nothing (ap frame_found is)
+      by_slot h q (Slot.Frame tag left right) None is = absurd (no-own h q _ is)
+      by_slot h q (Slot.Frame tag left right) (Some side) is =
           let at = (walk-ends t forest v p _ is).row in
           by_search side h q tag left right at (sees-frame side h q tag left right is at) (reached_from t (link_to v) side h q) refl
 
@@ -116,14 +98,14 @@ abbrev IsAlone : Tree → (v p : ℕ) → Side → (h q : ℕ) → Type 0
 IsAlone t v p side h q = (w r : ℕ) → Sees t w r (Some side) h q → (w ≡ v) × (r ≡ p)
 
 one-of-sides : (side other : Side) → (other ≡ side) ⊎ (other ≡ other_side side)
-one-of-sides side.Left side.Left = inl refl
-one-of-sides side.Left side.Right = inr refl
-one-of-sides side.Right side.Left = inr refl
-one-of-sides side.Right side.Right = inl refl
+one-of-sides Side.Left Side.Left = inl refl
+one-of-sides Side.Left Side.Right = inr refl
+one-of-sides Side.Right Side.Left = inr refl
+one-of-sides Side.Right Side.Right = inl refl
 
 apart : (side : Side) → other_side side ≡ side → ⊥
-apart side.Left e = cc
-apart side.Right e = cc
+apart Side.Left e = cc
+apart Side.Right e = cc
 
 -- a link to a node leads to no other
 leads-past : (v w : ℕ) → leads_to (link_to v) w ≡ false → w ≡ v → ⊥
@@ -145,7 +127,7 @@ module _ (t : Tree) (forest : IsForest t.nodes t.lists) where
   module _ (v p : ℕ) (side : Side) (h q : ℕ) (node : Node) (tag : Tag) (left right : Bool)
       (it : SeesFrame t v p side h q node tag left right) where
     sees-it : Sees t v p (Some side) h q
-    sees-it = record { page = it.page; slot = slot.Frame tag left right; found = it.found }
+    sees-it = record { page = it.page; slot = Slot.Frame tag left right; found = it.found }
 
     -- it sees no other row
     only-there : (other : Side) (k r : ℕ) → Sees t v p (Some other) k r → (k ≡ h) × (r ≡ q) × (other ≡ side)
@@ -320,12 +302,12 @@ module _ (t : Tree) (out : ℕ → ℕ → Bool) (in_use : ℕ → Bool) (exact 
     -- the row changes, and all others are seen as before
     exact-row : (after : Option Slot) (in_use_now : ℕ → Bool) → OthersAlike t (with_pair t.slots node.list.0 q after) v p →
         FollowFrame (Some tag.0) (frame_of after) in_use in_use_now →
-        ((tag : Tag) (left right : Bool) → after ≡ Some (slot.Frame tag left right) →
+        ((tag : Tag) (left right : Bool) → after ≡ Some (Slot.Frame tag left right) →
         AreSplitBits (with_row t node.list.0 q after) (leaving_out out v p) h q left right) →
         IsExact (with_row t node.list.0 q after) (leaving_out out v p) in_use_now
     exact-row after in_use_now others follow own =
         exact-changed t (with_row t node.list.0 q after) out (leaving_out out v p) in_use in_use_now h q node
-        (Some (slot.Frame tag left right)) after exact it.at (with_row-changes t node.list.0 q _ after it.row) follow
+        (Some (Slot.Frame tag left right)) after exact it.at (with_row-changes t node.list.0 q _ after it.row) follow
         (λ shown. let hidden = ap is_some it.hidden in absurd (cc))
         (record {
           alike = λ k r n tag' left' right' at hidden row differs other. (
@@ -339,22 +321,22 @@ module _ (t : Tree) (out : ℕ → ℕ → Bool) (in_use : ℕ → Bool) (exact 
         (λ hidden. own)
 
     others-kept : (set_left set_right : Bool) →
-        OthersAlike t (with_pair t.slots node.list.0 q (Some (slot.Frame tag set_left set_right))) v p
+        OthersAlike t (with_pair t.slots node.list.0 q (Some (Slot.Frame tag set_left set_right))) v p
     others-kept set_left set_right = same-frames t _ v p exact.forest (record { same = same })
       where
-        same : (l r : ℕ) → option_map frame_in (with_pair t.slots node.list.0 q (Some (slot.Frame tag set_left set_right)) l r)
+        same : (l r : ℕ) → option_map frame_in (with_pair t.slots node.list.0 q (Some (Slot.Frame tag set_left set_right)) l r)
             ≡ option_map frame_in (t.slots l r)
         same l r = elim (cases_place node.list.0 q l r) [
-          | inl here ↦ rw (here.0, here.1, with_pair-same t.slots node.list.0 q (Some (slot.Frame tag set_left set_right)), it.row) refl
+          | inl here ↦ rw (here.0, here.1, with_pair-same t.slots node.list.0 q (Some (Slot.Frame tag set_left set_right)), it.row) refl
           | inr differs ↦ ap (option_map frame_in) (with_pair-other t.slots node.list.0 q _ l r (λ list page. differs (list, page)))
         ]
 
     -- the row gets other bits, which are exact
     exact-kept : (set_left set_right : Bool) →
-        AreSplitBits (with_row t node.list.0 q (Some (slot.Frame tag set_left set_right))) (leaving_out out v p) h q set_left set_right →
-        IsExact (with_row t node.list.0 q (Some (slot.Frame tag set_left set_right))) (leaving_out out v p) in_use
+        AreSplitBits (with_row t node.list.0 q (Some (Slot.Frame tag set_left set_right))) (leaving_out out v p) h q set_left set_right →
+        IsExact (with_row t node.list.0 q (Some (Slot.Frame tag set_left set_right))) (leaving_out out v p) in_use
     exact-kept set_left set_right own =
-        exact-row (Some (slot.Frame tag set_left set_right)) in_use (others-kept set_left set_right)
+        exact-row (Some (Slot.Frame tag set_left set_right)) in_use (others-kept set_left set_right)
         (frame-stays (Some tag.0) in_use (λ tag' e. exact.used node.list.0 q _ tag' it.row e))
         (λ tag' l r e.
         let left_is : set_left ≡ l = cc in
@@ -367,9 +349,9 @@ module _ (t : Tree) (out : ℕ → ℕ → Bool) (in_use : ℕ → Bool) (exact 
       others-gone = same-walks t _ v p (λ w r page differs.
           walk-elsewhere t exact.forest node.list.0 q None w r (λ from k n at list way.
           let there = same_node t h k node n exact.forest it.at at list in
-          let row : HasRow t h q (slot.Frame tag left right) = record { node = node; at = it.at; row = it.row } in
+          let row : HasRow t h q (Slot.Frame tag left right) = record { node = node; at = it.at; row = it.row } in
           let found = walk-arrives t exact.forest w r from h q _ (subst (λ x. Arrives t w r from x q) there.0 way) row in
-          differs (alone-at t exact.forest v p side h q node tag left right it alone none w r from (record { page = page; slot = slot.Frame tag left right; found = found }))))
+          differs (alone-at t exact.forest v p side h q node tag left right it alone none w r from (record { page = page; slot = Slot.Frame tag left right; found = found }))))
 
       exact-gone : IsExact (with_row t node.list.0 q None) (leaving_out out v p) (without_frame in_use (Some tag.0))
       exact-gone = exact-row None (without_frame in_use (Some tag.0)) others-gone (frame-gone (Some tag.0) in_use) (λ tag l r e. absurd (cc))
@@ -387,8 +369,8 @@ module _ (t : Tree) (out : ℕ → ℕ → Bool) (in_use : ℕ → Bool) (exact 
   record Keeps (slots : Slots) (answer : Cut) : Type 0 where
     others : OthersAlike t slots v p
     exactly : IsExact (record t { slots = slots }) (leaving_out out v p) (without_frame in_use (frame_left answer))
-    last : (tag : Tag) → answer ≡ cut.LastViewer tag → (frame_shown t v p ≡ Some tag.0) × IsLastViewer t v tag.0
-    is_last : (tag : Tag) → frame_shown t v p ≡ Some tag.0 → IsLastViewer t v tag.0 → answer ≡ cut.LastViewer tag
+    last : (tag : Tag) → answer ≡ Cut.LastViewer tag → (frame_shown t v p ≡ Some tag.0) × IsLastViewer t v tag.0
+    is_last : (tag : Tag) → frame_shown t v p ≡ Some tag.0 → IsLastViewer t v tag.0 → answer ≡ Cut.LastViewer tag
 
   module _ (side : Side) (h q : ℕ) (node : Node) (tag : Tag) (left right : Bool) (it : SeesFrame t v p side h q node tag left right) where
     same-tag : (other : Tag) → frame_shown t v p ≡ Some other.0 → tag ≡ other
@@ -398,7 +380,7 @@ module _ (t : Tree) (out : ℕ → ℕ → Bool) (in_use : ℕ → Bool) (exact 
     last-tag : (other : Tag) → frame_shown t v p ≡ Some other.0 → IsLastViewer t v other.0 → IsLastViewer t v tag.0
     last-tag other shown last = subst (λ (x : Tag). IsLastViewer t v x.0) (sym (same-tag other shown)) last
 
-    keeps-shared : reached_from t (link_to v) side h q ≡ true → Keeps t.slots cut.StillSeen
+    keeps-shared : reached_from t (link_to v) side h q ≡ true → Keeps t.slots Cut.StillSeen
     keeps-shared is = record {
       others = same-walks t t.slots v p (λ w r page other. refl);
       exactly = subst (IsExact t (leaving_out out v p)) (sym (without_frame-none in_use)) (exact-shared side h q node tag left right it is);
@@ -411,7 +393,7 @@ module _ (t : Tree) (out : ℕ → ℕ → Bool) (in_use : ℕ → Bool) (exact 
     }
 
     keeps-gone : IsAlone t v p side h q → (IsSeenFrom t out (other_side side) h q → ⊥) →
-        Keeps (with_pair t.slots node.list.0 q None) (cut.LastViewer tag)
+        Keeps (with_pair t.slots node.list.0 q None) (Cut.LastViewer tag)
     keeps-gone alone unseen =
         let none = nobody t exact.forest v p side h q node tag left right it out only unseen in
         record {
@@ -421,16 +403,16 @@ module _ (t : Tree) (out : ℕ → ℕ → Bool) (in_use : ℕ → Bool) (exact 
               let same : tag ≡ other = cc in
               subst (λ (x : Tag). (frame_shown t v p ≡ Some x.0) × IsLastViewer t v x.0) same
               (ap frame_found it.found, is-last side h q node tag left right it alone none);
-          is_last = λ other shown last. ap cut.LastViewer (same-tag other shown);
+          is_last = λ other shown last. ap Cut.LastViewer (same-tag other shown);
         }
 
     keeps-kept : (set_left set_right : Bool) →
-        AreSplitBits (with_row t node.list.0 q (Some (slot.Frame tag set_left set_right))) (leaving_out out v p) h q set_left set_right →
+        AreSplitBits (with_row t node.list.0 q (Some (Slot.Frame tag set_left set_right))) (leaving_out out v p) h q set_left set_right →
         IsSeenFrom t out (other_side side) h q →
-        Keeps (with_pair t.slots node.list.0 q (Some (slot.Frame tag set_left set_right))) cut.StillSeen
+        Keeps (with_pair t.slots node.list.0 q (Some (Slot.Frame tag set_left set_right))) Cut.StillSeen
     keeps-kept set_left set_right bits seen = record {
       others = others-kept side h q node tag left right it set_left set_right;
-      exactly = subst (IsExact (with_row t node.list.0 q (Some (slot.Frame tag set_left set_right))) (leaving_out out v p)) (sym (without_frame-none in_use))
+      exactly = subst (IsExact (with_row t node.list.0 q (Some (Slot.Frame tag set_left set_right))) (leaving_out out v p)) (sym (without_frame-none in_use))
           (exact-kept side h q node tag left right it set_left set_right bits);
       last = λ other e. absurd (cc);
       is_last = λ other shown last.
@@ -441,12 +423,12 @@ module _ (t : Tree) (out : ℕ → ℕ → Bool) (in_use : ℕ → Bool) (exact 
 
     -- the bit of the side is set, and the other stays false
     bits-set : (set_left set_right : Bool) → IsAlone t v p side h q →
-        Denies true (IsSeenFrom (with_row t node.list.0 q (Some (slot.Frame tag set_left set_right))) (leaving_out out v p) side h q)
+        Denies true (IsSeenFrom (with_row t node.list.0 q (Some (Slot.Frame tag set_left set_right))) (leaving_out out v p) side h q)
     bits-set set_left set_right alone =
         denies-true _ (seen-no-more t _ out v p (others-kept side h q node tag left right it set_left set_right) side h q alone)
 
     bits-stay : (set_left set_right : Bool) → IsSeenFrom t out (other_side side) h q →
-        Denies false (IsSeenFrom (with_row t node.list.0 q (Some (slot.Frame tag set_left set_right))) (leaving_out out v p) (other_side side) h q)
+        Denies false (IsSeenFrom (with_row t node.list.0 q (Some (Slot.Frame tag set_left set_right))) (leaving_out out v p) (other_side side) h q)
     bits-stay set_left set_right seen =
         denies-false _
         (seen-now t _ out v p (others-kept side h q node tag left right it set_left set_right) (other_side side) h q
@@ -455,23 +437,23 @@ module _ (t : Tree) (out : ℕ → ℕ → Bool) (in_use : ℕ → Bool) (exact 
   keeps-alone : (side : Side) (h q : ℕ) (node : Node) (tag : Tag) (left right : Bool) → SeesFrame t v p side h q node tag left right →
       IsAlone t v p side h q → AreSplitBits t out h q left right →
       Keeps (with_pair t.slots node.list.0 q (split_on side tag left right)) (answer_on side tag left right)
-  keeps-alone side.Left h q node tag left true it alone bits = keeps-gone side.Left h q node tag left true it alone (bits.right_bit.is_true refl)
-  keeps-alone side.Left h q node tag left false it alone bits =
+  keeps-alone Side.Left h q node tag left true it alone bits = keeps-gone Side.Left h q node tag left true it alone (bits.right_bit.is_true refl)
+  keeps-alone Side.Left h q node tag left false it alone bits =
       let seen = bits.right_bit.is_false refl in
-      keeps-kept side.Left h q node tag left false it true false
+      keeps-kept Side.Left h q node tag left false it true false
       (record {
-        left_bit = bits-set side.Left h q node tag left false it true false alone;
-        right_bit = bits-stay side.Left h q node tag left false it true false seen;
+        left_bit = bits-set Side.Left h q node tag left false it true false alone;
+        right_bit = bits-stay Side.Left h q node tag left false it true false seen;
         is_seen = refl;
       })
       seen
-  keeps-alone side.Right h q node tag true right it alone bits = keeps-gone side.Right h q node tag true right it alone (bits.left_bit.is_true refl)
-  keeps-alone side.Right h q node tag false right it alone bits =
+  keeps-alone Side.Right h q node tag true right it alone bits = keeps-gone Side.Right h q node tag true right it alone (bits.left_bit.is_true refl)
+  keeps-alone Side.Right h q node tag false right it alone bits =
       let seen = bits.left_bit.is_false refl in
-      keeps-kept side.Right h q node tag false right it false true
+      keeps-kept Side.Right h q node tag false right it false true
       (record {
-        left_bit = bits-stay side.Right h q node tag false right it false true seen;
-        right_bit = bits-set side.Right h q node tag false right it false true alone;
+        left_bit = bits-stay Side.Right h q node tag false right it false true seen;
+        right_bit = bits-set Side.Right h q node tag false right it false true alone;
         is_seen = refl;
       })
       seen
@@ -506,14 +488,14 @@ own-by t forest v p slots answer (sees_shared side h q node tag left right it is
 own-by t forest v p slots answer (sees_alone side h q node tag left right it is) w r own visible =
     with_pair-other t.slots node.list.0 q _ own.list.0 r (λ list page. row-apart t forest w h own node visible it.at it.hidden list)
 
-something : (side : Side) (tag : Tag) (left right : Bool) → answer_on side tag left right ≡ cut.NothingThere → ⊥
-something side.Left tag left true e = cc
-something side.Left tag left false e = cc
-something side.Right tag true right e = cc
-something side.Right tag false right e = cc
+something : (side : Side) (tag : Tag) (left right : Bool) → answer_on side tag left right ≡ Cut.NothingThere → ⊥
+something Side.Left tag left true e = cc
+something Side.Left tag left false e = cc
+something Side.Right tag true right e = cc
+something Side.Right tag false right e = cc
 
 nothing-by : (t : Tree) (v p : ℕ) (slots : Slots) (answer : Cut) → CutBy t v p slots answer →
-    (answer ≡ cut.NothingThere) ↔ (frame_shown t v p ≡ None)
+    (answer ≡ Cut.NothingThere) ↔ (frame_shown t v p ≡ None)
 nothing-by t v p slots answer (sees_nothing none) = (λ e. none, λ e. refl)
 nothing-by t v p slots answer (sees_shared side h q node tag left right it is) =
     (λ e. absurd (cc), λ e. let shown = ap frame_found it.found in absurd (cc))
@@ -524,7 +506,7 @@ nothing-by t v p slots answer (sees_alone side h q node tag left right it is) =
 module _ (t : Tree) (forest : IsForest t.nodes t.lists) (v p : ℕ) (node : Node) (visible : IsVisible t.nodes v node)
     (none : t.slots node.list.0 p ≡ None) where
   -- it answers that nothing was there exactly where the page showed no frame
-  pub cut-nothing : (cut_answer t v p ≡ cut.NothingThere) ↔ (frame_shown t v p ≡ None)
+  pub cut-nothing : (cut_answer t v p ≡ Cut.NothingThere) ↔ (frame_shown t v p ≡ None)
   cut-nothing = nothing-by t v p _ _ (cut-by t forest v p node visible none)
 
   -- the rows of visible nodes stay, and rows stand in lists of nodes alone
@@ -542,7 +524,7 @@ module _ (t : Tree) (out : ℕ → ℕ → Bool) (in_use : ℕ → Bool) (exact 
   exact-cut = cut-keeps.exactly
 
   -- it answers that v was the last viewer exactly where v was, and with the frame that it saw
-  pub cut-last : (tag : Tag) → (cut_answer t v p ≡ cut.LastViewer tag) ↔ ((frame_shown t v p ≡ Some tag.0) × IsLastViewer t v tag.0)
+  pub cut-last : (tag : Tag) → (cut_answer t v p ≡ Cut.LastViewer tag) ↔ ((frame_shown t v p ≡ Some tag.0) × IsLastViewer t v tag.0)
   cut-last tag = (cut-keeps.last tag, λ both. cut-keeps.is_last tag both.0 both.1)
 
   -- each other page of a visible node shows what it showed

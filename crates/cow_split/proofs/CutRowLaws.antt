@@ -1,32 +1,11 @@
 -- What a cut at a row leaves and answers, where the page comes to the row, and where no page in sight does.
-use Rattle.std.proofs.Common.{◌≡◌, ℕ, ◌≤◌, Bool, true, false, if◌then◌else◌, None, Some, inl, inr, refl, sym, ap, ◌∙◌, subst}
-use Rattle.std.proofs.lemmas.Bool.{cases_Bool}
-use Rattle.balanced_tree.specs.Rows.{Rows}
-use Rattle.balanced_tree.specs.Pairs.{with_pair}
-use Rattle.vm_base.specs.Entries.{passes}
-use Rattle.vm_base.specs.declared.names.Tag.{Tag}
-use Rattle.vm_base.proofs.EntryLaws.{some_same}
-use Rattle.vm_base.proofs.SearchLaws.{eqb_is}
-use Rattle.page_list.specs.declared.row.Row.{Row}
-use Rattle.page_list.specs.declared.row.Slot.{Slot}
-use Rattle.page_list.specs.declared.row.Slot.TheVariants as slot
-use Rattle.page_list.specs.Lists.{slots_of, row_count}
-use Rattle.cow_arena.specs.declared.node.Node.{Node}
-use Rattle.cow_arena.specs.declared.node.Side.{Side}
-use Rattle.cow_arena.specs.declared.node.Side.TheVariants as side
-use Rattle.cow_arena.specs.Nodes.{Arena, nodes_of, link_to, leads_to}
-use Rattle.cow_arena.specs.Walk.{Slots, Tree, walk}
-use Rattle.cow_arena.specs.Forest.{IsForest}
-use Rattle.cow_arena.specs.Ways.{HasRow, Reaches}
+use Rattle.cow_split.proofs.Words.{◌≡◌, ℕ, ◌≤◌, Bool, true, false, if◌then◌else◌, None, Some, inl, inr, refl, sym, ap, ◌∙◌, subst}
+use Rattle.cow_split.proofs.Words.{cases_Bool, Rows, with_pair, passes, Tag, some_same, eqb_is, Row, Slot, slots_of, row_count, Node, Side}
+use Rattle.cow_split.proofs.Words.{Arena, nodes_of, link_to, leads_to, Slots, Tree, walk, IsForest, HasRow, Reaches, Cut, tree_of, list_in}
+use Rattle.cow_split.proofs.Words.{reached_from, IsSeenFrom, AreSplitBits, IsExact, split_on, answer_on, slots_from, answer_from}
+use Rattle.cow_split.proofs.Words.{slots_after, answer_after, cut_slots, cut_answer, frame_left, HasCut, IsUnseenBy}
 use Rattle.cow_arena.proofs.ReachLaws.{found-of-reach, walk-ends}
 use Rattle.cow_arena.proofs.AlikeLaws.{with_pair-same, with_pair-other}
-use Rattle.cow_split.specs.declared.answers.Cut.{Cut}
-use Rattle.cow_split.specs.declared.answers.Cut.TheVariants as cut
-use Rattle.cow_split.specs.Trees.{tree_of, list_in}
-use Rattle.cow_split.specs.Search.{reached_from}
-use Rattle.cow_split.specs.Sight.{IsSeenFrom}
-use Rattle.cow_split.specs.Exact.{AreSplitBits, IsExact}
-use Rattle.cow_split.specs.Cutting.{split_on, answer_on, slots_from, answer_from, slots_after, answer_after, cut_slots, cut_answer, frame_left, HasCut, IsUnseenBy}
 use Rattle.cow_split.proofs.SearchLaws.{seen-reached}
 use Rattle.cow_split.proofs.ExactLaws.{cases_place}
 
@@ -37,12 +16,12 @@ module _ (t : Tree) (k h q : ℕ) (side : Side) (tag : Tag) (left right : Bool) 
   rows-for seen = if seen then t.slots else with_pair t.slots (list_in (t.nodes h)) q (split_on side tag left right)
 
   abbrev answer-for : Bool → Cut
-  answer-for seen = if seen then cut.StillSeen else answer_on side tag left right
+  answer-for seen = if seen then Cut.StillSeen else answer_on side tag left right
 
-  slots-for : (seen : Bool) → reached_from t (link_to k) side h q ≡ seen → rows-for seen ≡ slots_from t k h q (slot.Frame tag left right) (Some side)
+  slots-for : (seen : Bool) → reached_from t (link_to k) side h q ≡ seen → rows-for seen ≡ slots_from t k h q (Slot.Frame tag left right) (Some side)
   slots-for seen is = ap rows-for (sym is)
 
-  answered-for : (seen : Bool) → reached_from t (link_to k) side h q ≡ seen → answer-for seen ≡ answer_from t k h q (slot.Frame tag left right) (Some side)
+  answered-for : (seen : Bool) → reached_from t (link_to k) side h q ≡ seen → answer-for seen ≡ answer_from t k h q (Slot.Frame tag left right) (Some side)
   answered-for seen is = ap answer-for (sym is)
 
 -- ---- the page comes to the row
@@ -66,16 +45,16 @@ module _ (arena : Arena) (old new : Rows Row) (k p h q : ℕ) (side : Side) (f :
       }
 
   -- a row that says that the page is zero stays
-  pub cut-zero : (row : Slot) → ((tag : Tag) (left right : Bool) → row ≡ slot.Frame tag left right → ⊥) → HasRow t h q row →
-      slots_of new ≡ slots_of old → HasCut arena old new k p cut.NothingThere
-  cut-zero slot.Zero other at same = cut-at slot.Zero cut.NothingThere at same refl
-  cut-zero (slot.Frame tag left right) other at same = absurd (other tag left right refl)
+  pub cut-zero : (row : Slot) → ((tag : Tag) (left right : Bool) → row ≡ Slot.Frame tag left right → ⊥) → HasRow t h q row →
+      slots_of new ≡ slots_of old → HasCut arena old new k p Cut.NothingThere
+  cut-zero Slot.Zero other at same = cut-at Slot.Zero Cut.NothingThere at same refl
+  cut-zero (Slot.Frame tag left right) other at same = absurd (other tag left right refl)
 
-  module _ (tag : Tag) (left right : Bool) (at : HasRow t h q (slot.Frame tag left right)) where
+  module _ (tag : Tag) (left right : Bool) (at : HasRow t h q (Slot.Frame tag left right)) where
     -- so does one that others see
-    pub cut-shared_row : reached_from t (link_to k) side h q ≡ true → slots_of new ≡ slots_of old → HasCut arena old new k p cut.StillSeen
+    pub cut-shared_row : reached_from t (link_to k) side h q ≡ true → slots_of new ≡ slots_of old → HasCut arena old new k p Cut.StillSeen
     cut-shared_row is same =
-        cut-at (slot.Frame tag left right) cut.StillSeen at (same ∙ slots-for t k h q side tag left right true is)
+        cut-at (Slot.Frame tag left right) Cut.StillSeen at (same ∙ slots-for t k h q side tag left right true is)
         (answered-for t k h q side tag left right true is)
 
     -- any other is split
@@ -83,7 +62,7 @@ module _ (arena : Arena) (old new : Rows Row) (k p h q : ℕ) (side : Side) (f :
         slots_of new ≡ with_pair (slots_of old) node.list.0 q (split_on side tag left right) → HasCut arena old new k p (answer_on side tag left right)
     cut-own_row node there is split =
         let list : node.list.0 ≡ list_in (t.nodes h) = ap list_in (sym there) in
-        cut-at (slot.Frame tag left right) (answer_on side tag left right) at
+        cut-at (Slot.Frame tag left right) (answer_on side tag left right) at
         (split ∙ (ap (λ l. with_pair (slots_of old) l q (split_on side tag left right)) list ∙ slots-for t k h q side tag left right false is))
         (answered-for t k h q side tag left right false is)
 
@@ -103,13 +82,13 @@ with_pair-again slots l q = λ i m r. each m r i
 
 -- the bit of a side from which nobody sees the row is set: to set it again changes nothing
 split-again : (t : Tree) (out : ℕ → ℕ → Bool) (h q : ℕ) (tag : Tag) (from : Side) (left right : Bool) → AreSplitBits t out h q left right →
-    (IsSeenFrom t out from h q → ⊥) → (split_on from tag left right ≡ Some (slot.Frame tag left right)) × (frame_left (answer_on from tag left right) ≡ None)
-split-again t out h q tag side.Left false right bits none = absurd (none (bits.left_bit.is_false refl))
-split-again t out h q tag side.Left true true bits none = absurd (let some = bits.is_seen in cc)
-split-again t out h q tag side.Left true false bits none = (refl, refl)
-split-again t out h q tag side.Right left false bits none = absurd (none (bits.right_bit.is_false refl))
-split-again t out h q tag side.Right true true bits none = absurd (let some = bits.is_seen in cc)
-split-again t out h q tag side.Right false true bits none = (refl, refl)
+    (IsSeenFrom t out from h q → ⊥) → (split_on from tag left right ≡ Some (Slot.Frame tag left right)) × (frame_left (answer_on from tag left right) ≡ None)
+split-again t out h q tag Side.Left false right bits none = absurd (none (bits.left_bit.is_false refl))
+split-again t out h q tag Side.Left true true bits none = absurd (let some = bits.is_seen in cc)
+split-again t out h q tag Side.Left true false bits none = (refl, refl)
+split-again t out h q tag Side.Right left false bits none = absurd (none (bits.right_bit.is_false refl))
+split-again t out h q tag Side.Right true true bits none = absurd (let some = bits.is_seen in cc)
+split-again t out h q tag Side.Right false true bits none = (refl, refl)
 
 module _ (t : Tree) (out : ℕ → ℕ → Bool) (in_use : ℕ → Bool) (exact : IsExact t out in_use) (k h q : ℕ) (from : Side)
     (unseen : IsUnseenBy t out k from h q) (nobody : reached_from t (link_to k) from h q ≡ false) where
@@ -124,11 +103,11 @@ module _ (t : Tree) (out : ℕ → ℕ → Bool) (in_use : ℕ → Bool) (exact 
     | inr other ↦ absurd (let found = seen-reached t exact.forest (link_to k) seen.v seen.p from h q seen.sees other in cc)
   ]
 
-  pub cut-unseen : (tag : Tag) (left right : Bool) → HasRow t h q (slot.Frame tag left right) → (node : Node) → t.nodes h ≡ Some node →
+  pub cut-unseen : (tag : Tag) (left right : Bool) → HasRow t h q (Slot.Frame tag left right) → (node : Node) → t.nodes h ≡ Some node →
       (with_pair t.slots node.list.0 q (split_on from tag left right) ≡ t.slots) × (frame_left (answer_on from tag left right) ≡ None)
   cut-unseen tag left right at node there =
-      let row : t.slots node.list.0 q ≡ Some (slot.Frame tag left right) =
-      subst (λ (n : Node). t.slots n.list.0 q ≡ Some (slot.Frame tag left right)) (some_same (sym at.at ∙ there)) at.row in
+      let row : t.slots node.list.0 q ≡ Some (Slot.Frame tag left right) =
+      subst (λ (n : Node). t.slots n.list.0 q ≡ Some (Slot.Frame tag left right)) (some_same (sym at.at ∙ there)) at.row in
       let hidden = ap (λ (n : Node). n.koid) (some_same (sym there ∙ unseen.at)) ∙ unseen.hidden in
       let again = split-again t out h q tag from left right (exact.bits h q node tag left right there hidden row) no-one in
       (ap (with_pair t.slots node.list.0 q) (again.0 ∙ sym row) ∙ with_pair-again t.slots node.list.0 q, again.1)

@@ -1,18 +1,12 @@
 -- No way up from a node has more nodes than one and the hidden ones of the arena.
-use Rattle.std.proofs.Common.{◌≡◌, ℕ, zero, suc, ◌+◌, ◌<◌, ◌≤◌, Bool, true, false, ◌&&◌, ◌||◌, ◌==◌, Option, None, Some, refl, ap, ◌∙◌, inl, inr, arith}
-use Rattle.std.specs.Prelude.{IsSome, is_some, is_none, nat_lt}
-use Rattle.std.proofs.lemmas.Bool.{and_parts, and_from, or_cases, lt-ltb, ltb-true, false_from_ne_true}
+use Rattle.cow_split.proofs.Words.{◌≡◌, ℕ, zero, suc, ◌+◌, ◌<◌, ◌≤◌, Bool, true, false, ◌&&◌, ◌||◌, ◌==◌, Option, None, Some, refl, ap, ◌∙◌}
+use Rattle.cow_split.proofs.Words.{inl, inr, arith, IsSome, is_some, is_none, nat_lt, and_parts, and_from, or_cases, lt-ltb, ltb-true}
+use Rattle.cow_split.proofs.Words.{false_from_ne_true, passes, entry_count, eqb_same, eqb_apart, eqb_is, count_below_less}
+use Rattle.cow_split.proofs.Words.{count_below_one_more, passes-some, NodeId, Node, Arena, Nodes, nodes_of, link_to, parent_node_in}
+use Rattle.cow_split.proofs.Words.{IsForest, IsForestBy, nodes_up, depth}
 use Rattle.vm_base.specs.Search.{count_below}
-use Rattle.vm_base.specs.Entries.{passes, entry_count}
-use Rattle.vm_base.proofs.SearchLaws.{eqb_same, eqb_apart, eqb_is, count_below_less, count_below_one_more}
-use Rattle.vm_base.proofs.EntryLaws.{passes-some}
-use Rattle.cow_arena.specs.declared.node.NodeId.{NodeId}
-use Rattle.cow_arena.specs.declared.node.Node.{Node}
-use Rattle.cow_arena.specs.Nodes.{Arena, Nodes, nodes_of, link_to, parent_node_in}
-use Rattle.cow_arena.specs.Forest.{IsForest, IsForestBy}
 use Rattle.cow_arena.specs.Counts.{hidden_count}
 use Rattle.cow_arena.proofs.CountLaws.{is_hidden}
-use Rattle.cow_split.specs.Cost.{nodes_up, depth}
 
 -- where one test passes only if another does, and not at k, where the other does, fewer pass it
 count-fewer : (n k : ℕ) (p q : ℕ → Bool) → k < n → p k ≡ false → q k ≡ true → ((j : ℕ) → p j ≡ true → q j ≡ true) → count_below n p < count_below n q

@@ -1,22 +1,10 @@
 -- A change of one row of a clone tree, and what it keeps of the tree's exactness.
-use Rattle.std.proofs.Common.{◌≡◌, ◌⊎◌, ◌↔◌, ℕ, ◌<◌, Bool, true, false, Option, None, Some, IsSome}
-use Rattle.std.proofs.Common.{refl, sym, ap, subst, ◌∙◌, inl, inr}
-use Rattle.std.specs.Prelude.{not, ◌==◌}
-use Rattle.std.proofs.lemmas.Bool.{cases_eq, both_ways, and_parts, and_from, or_left, or_right, or_cases, not-true, not_from_false, eq-eqb}
-use Rattle.vm_base.proofs.SearchLaws.{eqb_is, eqb_apart}
-use Rattle.vm_base.proofs.EntryLaws.{some_same}
-use Rattle.vm_base.specs.declared.names.Tag.{Tag}
-use Rattle.page_list.specs.declared.row.Slot.{Slot}
-use Rattle.page_list.specs.declared.row.Slot.TheVariants as slot
-use Rattle.cow_arena.specs.declared.node.Node.{Node}
-use Rattle.cow_arena.specs.declared.node.Side.{Side}
-use Rattle.cow_arena.specs.declared.node.Side.TheVariants as side
-use Rattle.cow_arena.specs.Forest.{IsForest}
-use Rattle.cow_arena.specs.Walk.{Tree, walk, frame_in}
+use Rattle.cow_split.proofs.Words.{◌≡◌, ◌⊎◌, ◌↔◌, ℕ, ◌<◌, Bool, true, false, Option, None, Some, IsSome, refl, sym, ap, subst, ◌∙◌, inl}
+use Rattle.cow_split.proofs.Words.{inr, not, ◌==◌, cases_eq, both_ways, and_parts, and_from, or_left, or_right, or_cases, not-true}
+use Rattle.cow_split.proofs.Words.{not_from_false, eq-eqb, eqb_is, eqb_apart, some_same, Tag, Slot, Node, Side, IsForest, Tree, walk}
+use Rattle.cow_split.proofs.Words.{frame_in, with_row, IsPage, Sees, IsSeenFrom, IsExact, AreSplitBits, Denies, StandsInRow, with_frame}
+use Rattle.cow_split.proofs.Words.{without_frame}
 use Rattle.cow_arena.proofs.AlikeLaws.{with_pair-same, with_pair-other}
-use Rattle.cow_split.specs.Trees.{with_row}
-use Rattle.cow_split.specs.Sight.{Sees, IsSeenFrom}
-use Rattle.cow_split.specs.Exact.{IsExact, AreSplitBits, Denies, StandsInRow, with_frame, without_frame}
 
 -- the frame of a row, where there is one
 abbrev pub frame_of : Option Slot → Option ℕ
@@ -42,13 +30,13 @@ pub record FollowFrame (before after : Option ℕ) (in_use in_use_now : ℕ → 
 -- a row fits a visible node at this page
 pub record Fits (node : Node) (q : ℕ) (row : Option Slot) : Type 0 where
   pub below : (slot : Slot) → row ≡ Some slot → q < node.count
-  pub plain : (tag : Tag) (left right : Bool) → row ≡ Some (slot.Frame tag left right) → (left ≡ false) × (right ≡ false)
+  pub plain : (tag : Tag) (left right : Bool) → row ≡ Some (Slot.Frame tag left right) → (left ≡ false) × (right ≡ false)
 
 -- Each frame row of a hidden node, but the row of page q of list l, is seen from each side in one tree exactly where in
 -- the other.
 pub record SeenAlike (old new : Tree) (out out_now : ℕ → ℕ → Bool) (l q : ℕ) : Type 0 where
   pub alike : (k r : ℕ) (node : Node) (tag : Tag) (left right : Bool) → old.nodes k ≡ Some node → node.koid ≡ None →
-      old.slots node.list.0 r ≡ Some (slot.Frame tag left right) → ((node.list.0 ≡ l) × (r ≡ q) → ⊥) → (side : Side) →
+      old.slots node.list.0 r ≡ Some (Slot.Frame tag left right) → ((node.list.0 ≡ l) × (r ≡ q) → ⊥) → (side : Side) →
       IsSeenFrom old out side k r ↔ IsSeenFrom new out_now side k r
 
 -- an optional row that has this frame is a row
@@ -70,9 +58,15 @@ cases_place l q m r = elim (cases_eq m l) [
 
 -- what a bit denies is the same where this is alike
 pub denies-alike : (bit : Bool) (P Q : Type 0) → P ↔ Q → Denies bit P → Denies bit Q
-denies-alike bit P Q alike denies = record {
-  is_true = λ e it. denies.is_true e (alike.1 it);
-  is_false = λ e. alike.0 (denies.is_false e);
+denies-alike bit P Q alike denies = record { is_true = λ e it. denies.is_true e (alike.1 it); is_false = λ e. alike.0 (denies.is_false e) }
+
+-- the bits of a row are exact where it is seen from each side exactly where it was
+pub bits-alike : {t u : Tree} {out out_now : ℕ → ℕ → Bool} {h q k r : ℕ} {left right : Bool} →
+    ((s : Side) → IsSeenFrom t out s h q ↔ IsSeenFrom u out_now s k r) → AreSplitBits t out h q left right → AreSplitBits u out_now k r left right
+bits-alike alike bits = record {
+  left_bit = denies-alike _ _ _ (alike Side.Left) bits.left_bit;
+  right_bit = denies-alike _ _ _ (alike Side.Right) bits.right_bit;
+  is_seen = bits.is_seen;
 }
 
 module _ (old new : Tree) (l q : ℕ) (before after : Option Slot) (changes : ChangesRow old new l q before after) where
@@ -152,7 +146,7 @@ pub exact-changed : (old new : Tree) (out out_now : ℕ → ℕ → Bool) (in_us
     FollowFrame (frame_of before) (frame_of after) in_use in_use_now →
     (IsSome node.koid → Fits node q after) →
     SeenAlike old new out out_now node.list.0 q →
-    (node.koid ≡ None → (tag : Tag) (left right : Bool) → after ≡ Some (slot.Frame tag left right) →
+    (node.koid ≡ None → (tag : Tag) (left right : Bool) → after ≡ Some (Slot.Frame tag left right) →
     AreSplitBits new out_now h q left right) →
     IsExact new out_now in_use_now
 exact-changed old new out out_now in_use in_use_now h q node before after exact at changes follow fits alike own = record {
@@ -169,26 +163,20 @@ exact-changed old new out out_now in_use in_use_now h q node before after exact 
         rw (here.1, one.1) ((fits (subst (λ (x : Node). IsSome x.koid) one.1 visible.koid)).below row here.2)
     | inr stayed ↦ exact.below v p n row (record { at = sym (now v) ∙ visible.at; koid = visible.koid }) stayed.1
   ];
-  plain = λ v p n tag left right visible e. elim (origin_here n.list.0 p (slot.Frame tag left right) e) [
+  plain = λ v p n tag left right visible e. elim (origin_here n.list.0 p (Slot.Frame tag left right) e) [
     | inl here ↦ (fits (subst (λ (x : Node). IsSome x.koid) (same v n visible.at here.0).1 visible.koid)).plain tag left right here.2
     | inr stayed ↦ exact.plain v p n tag left right (record { at = sym (now v) ∙ visible.at; koid = visible.koid }) stayed.1
   ];
   stands = stands-now old new node.list.0 q before after changes in_use in_use_now follow out exact;
   used = used-now old new node.list.0 q before after changes in_use in_use_now follow out exact;
   once = once-now old new node.list.0 q before after changes in_use in_use_now follow out exact;
-  bits = λ k r n tag left right there hidden e. elim (origin_here n.list.0 r (slot.Frame tag left right) e) [
+  bits = λ k r n tag left right there hidden e. elim (origin_here n.list.0 r (Slot.Frame tag left right) e) [
     | inl here ↦
         let one = same k n there here.0 in
         rw (one.0, here.1) (own (subst (λ (x : Node). x.koid ≡ None) one.1 hidden) tag left right here.2)
     | inr stayed ↦
         let was = sym (now k) ∙ there in
-        let bits = exact.bits k r n tag left right was hidden stayed.1 in
-        let seen = alike.alike k r n tag left right was hidden stayed.1 stayed.0 in
-        record {
-          left_bit = denies-alike _ _ _ (seen side.Left) bits.left_bit;
-          right_bit = denies-alike _ _ _ (seen side.Right) bits.right_bit;
-          is_seen = bits.is_seen;
-        }
+        bits-alike (alike.alike k r n tag left right was hidden stayed.1 stayed.0) (exact.bits k r n tag left right was hidden stayed.1)
   ];
 }
   where
@@ -217,7 +205,7 @@ with_row-changes t l q before after was = record {
 -- exact.
 pub exact-seen_alike : (t : Tree) (out out_now : ℕ → ℕ → Bool) (in_use : ℕ → Bool) → IsExact t out in_use →
     ((k r : ℕ) (node : Node) (tag : Tag) (left right : Bool) → t.nodes k ≡ Some node → node.koid ≡ None →
-    t.slots node.list.0 r ≡ Some (slot.Frame tag left right) → (side : Side) →
+    t.slots node.list.0 r ≡ Some (Slot.Frame tag left right) → (side : Side) →
     IsSeenFrom t out side k r ↔ IsSeenFrom t out_now side k r) →
     IsExact t out_now in_use
 exact-seen_alike t out out_now in_use exact alike = record {
@@ -229,36 +217,36 @@ exact-seen_alike t out out_now in_use exact alike = record {
   used = exact.used;
   once = exact.once;
   bits = λ k r node tag left right at hidden e.
-      let was = exact.bits k r node tag left right at hidden e in
-      let seen = alike k r node tag left right at hidden e in
-      record {
-        left_bit = denies-alike left _ _ (seen side.Left) was.left_bit;
-        right_bit = denies-alike right _ _ (seen side.Right) was.right_bit;
-        is_seen = was.is_seen;
-      };
+      bits-alike (alike k r node tag left right at hidden e) (exact.bits k r node tag left right at hidden e);
 }
 
--- A row is seen from a side in another tree too, where each page that saw it is in sight there and its walk is the same.
-pub seen-carried : (old new : Tree) (out out_now : ℕ → ℕ → Bool) (side : Side) (h q : ℕ) → new.nodes ≡ old.nodes →
-    ((v p : ℕ) → Sees old v p (Some side) h q → out v p ≡ false → (walk new v p ≡ walk old v p) × (out_now v p ≡ false)) →
+-- what is to be said of a page that saw a row, so that it sees it in another tree
+pub record IsCarried (old new : Tree) (out : ℕ → ℕ → Bool) (v p : ℕ) : Type 0 where
+  pub page : IsPage new v p
+  pub same : walk new v p ≡ walk old v p
+  pub in_sight : out v p ≡ false
+
+-- a row is seen from a side in another tree too, where this can be said of each page that saw it
+pub seen-moved : (old new : Tree) (out out_now : ℕ → ℕ → Bool) (side : Side) (h q : ℕ) →
+    ((v p : ℕ) → Sees old v p (Some side) h q → out v p ≡ false → IsCarried old new out_now v p) →
     IsSeenFrom old out side h q → IsSeenFrom new out_now side h q
-seen-carried old new out out_now side h q nodes carry seen =
+seen-moved old new out out_now side h q carry seen =
     let now = carry seen.v seen.p seen.sees seen.in_sight in
-    let page = seen.sees.page in
     record {
       v = seen.v;
       p = seen.p;
-      sees = record {
-        page = record {
-          node = page.node;
-          visible = rw nodes page.visible;
-          below = page.below;
-        };
-        slot = seen.sees.slot;
-        found = now.0 ∙ seen.sees.found;
-      };
-      in_sight = now.1;
+      sees = record { page = now.page; slot = seen.sees.slot; found = now.same ∙ seen.sees.found };
+      in_sight = now.in_sight;
     }
+
+-- so it is under the same nodes, where each page that saw it is in sight there and its walk is the same
+pub seen-carried : (old new : Tree) (out out_now : ℕ → ℕ → Bool) (side : Side) (h q : ℕ) → new.nodes ≡ old.nodes →
+    ((v p : ℕ) → Sees old v p (Some side) h q → out v p ≡ false → (walk new v p ≡ walk old v p) × (out_now v p ≡ false)) →
+    IsSeenFrom old out side h q → IsSeenFrom new out_now side h q
+seen-carried old new out out_now side h q nodes carry = seen-moved old new out out_now side h q (λ v p sees in_sight.
+    let now = carry v p sees in_sight in
+    let page = sees.page in
+    record { page = record { node = page.node; visible = rw nodes page.visible; below = page.below }; same = now.0; in_sight = now.1 })
 
 -- ---- the frames in use
 
@@ -280,12 +268,7 @@ frame-stays frame in_use used = record {
 -- a row goes
 pub frame-gone : (frame : Option ℕ) (in_use : ℕ → Bool) → FollowFrame frame None in_use (without_frame in_use frame)
 unfolding without_frame
-frame-gone None in_use = record {
-  here = λ tag e. absurd (cc);
-  fresh = λ tag e. absurd (cc);
-  kept = λ tag e differs. e;
-  came = λ tag e. inr (e, λ none. absurd (cc));
-}
+frame-gone None in_use = frame-stays None in_use (λ tag e. absurd (cc))
 frame-gone (Some a) in_use = record {
   here = λ tag e. absurd (cc);
   fresh = λ tag e. absurd (cc);
@@ -300,12 +283,7 @@ frame-gone (Some a) in_use = record {
 pub frame-comes : (frame : Option ℕ) (in_use : ℕ → Bool) → ((tag : ℕ) → frame ≡ Some tag → in_use tag ≡ false) →
     FollowFrame None frame in_use (with_frame in_use frame)
 unfolding with_frame
-frame-comes None in_use unused = record {
-  here = λ tag e. absurd (cc);
-  fresh = λ tag e. absurd (cc);
-  kept = λ tag e differs. e;
-  came = λ tag e. inr (e, λ none. absurd (cc));
-}
+frame-comes None in_use unused = frame-stays None in_use (λ tag e. absurd (cc))
 frame-comes (Some a) in_use unused = record {
   here = λ tag e. or_left (tag == a) (in_use tag) (eq-eqb tag a (sym (some_same e)));
   fresh = λ tag e. inr (unused tag e);

@@ -1,21 +1,9 @@
 -- Laws of the search for anyone: whom it leaves to the turn of the parent, and what is ahead of it.
-use Rattle.std.proofs.Common.{◌≡◌, ℕ, ◌<◌, ◌^◌, true, List, [], ◌∷◌, ◌++◌, Option, None, Some, refl, sym, ap, ◌∙◌, subst}
-use Rattle.std.specs.Prelude.{IsSome, is_some}
-use Rattle.std.proofs.lemmas.List.{append-nil}
-use Rattle.vm_base.specs.declared.names.Koid.{Koid}
-use Rattle.vm_base.proofs.EntryLaws.{some_same}
-use Rattle.cow_arena.specs.declared.node.NodeId.{NodeId}
-use Rattle.cow_arena.specs.declared.node.Node.{Node}
-use Rattle.cow_arena.specs.declared.node.Side.{Side}
-use Rattle.cow_arena.specs.declared.node.Side.TheVariants as side
-use Rattle.cow_arena.specs.Nodes.{link_to, child_on}
-use Rattle.cow_arena.specs.Walk.{Tree}
-use Rattle.cow_arena.specs.Forest.{IsForest}
+use Rattle.cow_split.proofs.Words.{some_is, ◌≡◌, ℕ, ◌<◌, ◌^◌, true, List, [], ◌∷◌, ◌++◌, Option, None, Some, refl, sym, ap, ◌∙◌, subst}
+use Rattle.cow_split.proofs.Words.{IsSome, is_some, append-nil, some_same, NodeId, Node, Side, link_to, child_on, Tree, IsForest}
+use Rattle.cow_split.proofs.Words.{viewers_from, has_some, viewers_at, FoundBelow, IsOnward, at_start, IsPassed, GoesOn, IsAhead, hidden_at}
+use Rattle.cow_split.proofs.Words.{IsOnwardBelow, Cursor}
 use Rattle.cow_arena.proofs.ReachLaws.{hidden-of-child, child-there}
-use Rattle.cow_split.specs.Search.{viewers_from, has_some}
-use Rattle.cow_split.specs.Searching.{viewers_at, FoundBelow, IsOnward, at_start, IsPassed, GoesOn, IsAhead}
-use Rattle.cow_split.specs.inside.Existing.{hidden_at, IsOnwardBelow}
-use Rattle.cow_split.specs.declared.viewers.Cursor.{Cursor}
 use Rattle.cow_split.proofs.WayLaws.{found-through}
 
 -- who is in one of two lists is in both together
@@ -30,26 +18,14 @@ module _ (t : Tree) (except : Option NodeId) where
   hidden-same k q node at none = rw (at, none) refl
 
   pub visible-none : (k q : ℕ) (node : Node) → t.nodes k ≡ Some node → IsSome node.koid → hidden_at t except (link_to k) q ≡ []
-  visible-none k q node at some = with_koid node.koid refl some
-    where
-      with_koid : (o : Option Koid) → node.koid ≡ o → IsSome o → hidden_at t except (link_to k) q ≡ []
-      with_koid None e some = absurd (cc)
-      with_koid (Some koid) e some = rw (at, e) refl
+  visible-none k q node at some = rw (at, (some_is node.koid some).1) refl
 
 module _ (t : Tree) (f : IsForest t.nodes t.lists) (except : Option NodeId) where
-  -- a node without a right child is visible
-  pub visible-leaf : (k : ℕ) (node : Node) → t.nodes k ≡ Some node → node.right ≡ None → IsSome node.koid
-  visible-leaf k node at leaf = with_koid node.koid refl
-    where
-      with_koid : (o : Option Koid) → node.koid ≡ o → IsSome o
-      with_koid (Some koid) e = refl
-      with_koid None e = absurd (let pair = f.by.pairs k node at e in let right = pair.right_is in cc)
-
-  -- one with a right child is hidden
+  -- a node with a right child is hidden
   pub hidden-right : (k q : ℕ) (node : Node) (r : NodeId) → t.nodes k ≡ Some node → node.right ≡ Some r →
       hidden_at t except (link_to k) q ≡ viewers_at t except (link_to k) q
   hidden-right k q node r at right =
-      sym (hidden-same t except k q node at (hidden-of-child t.nodes t.lists f k r.0 node side.Right at right))
+      sym (hidden-same t except k q node at (hidden-of-child t.nodes t.lists f k r.0 node Side.Right at right))
 
   pub child-some : (k c : ℕ) (node : Node) (s : Side) → t.nodes k ≡ Some node → child_on node s ≡ link_to c → IsSome (t.nodes c)
   child-some k c node s at child = ap is_some (child-there t.nodes t.lists f k c node s at child).at
@@ -61,7 +37,7 @@ module _ (t : Tree) (f : IsForest t.nodes t.lists) (except : Option NodeId) wher
     right-is = ap (λ (n : Node). n.right) (some_same (sym on.through.at ∙ at)) ∙ right
 
     pub left-some : IsSome (t.nodes l.0)
-    left-some = child-some k l.0 on.node side.Left on.through.at on.left
+    left-some = child-some k l.0 on.node Side.Left on.through.at on.left
 
     both-children : hidden_at t except (link_to k) q ≡ viewers_at t except (link_to l.0) p ++ viewers_at t except (link_to r.0) p
     both-children =
@@ -87,13 +63,11 @@ module _ (t : Tree) (f : IsForest t.nodes t.lists) (except : Option NodeId) wher
 
   pub hidden-begins : (start q : ℕ) → q < 2 ^ 64 → IsSome (t.nodes start) →
       GoesOn t (hidden_at t except) start start q (hidden_at t except (link_to start) q)
-  hidden-begins start q fits some = with_node (t.nodes start) refl some
-    where
-      with_node : (o : Option Node) → t.nodes start ≡ o → IsSome o → GoesOn t (hidden_at t except) start start q (hidden_at t except (link_to start) q)
-      with_node None e none = absurd (cc)
-      with_node (Some node) e some = record {
+  hidden-begins start q fits some =
+      let it = some_is (t.nodes start) some in
+      record {
         after = [];
-        passed = record { whole = q; fits = fits; way = at_start start q [] node e refl refl refl };
+        passed = record { whole = q; fits = fits; way = at_start start q [] it.0 it.1 refl refl refl };
         ahead_is = sym (append-nil (hidden_at t except (link_to start) q));
       }
 

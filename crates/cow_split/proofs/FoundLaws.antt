@@ -1,19 +1,9 @@
 -- Laws of a search that goes on: who was found so far, how many they are, and the least of their koids.
-use Rattle.std.proofs.Common.{◌≡◌, ℕ, ◌+◌, ◌<◌, ◌≤◌, Bool, true, false, List, [], ◌∷◌, ◌++◌, length, Option, None, Some, inl, inr, refl, sym, ap, ◌∙◌, subst, append_assoc, arith}
-use Rattle.std.specs.Prelude.{IsSome, MatchOption, nat_lt, if◌then◌else◌}
-use Rattle.std.specs.List.{Contains}
-use Rattle.std.proofs.lemmas.Bool.Decides.{nat_tests}
-use Rattle.std.proofs.lemmas.List.{append-nil, length-append}
-use Rattle.std.proofs.lemmas.List.Elements.{Contains-append_left, Contains-push, Contains-push_cases}
-use Rattle.vm_base.specs.declared.names.Koid.{Koid}
-use Rattle.vm_base.proofs.EntryLaws.{some_same}
-use Rattle.cow_arena.specs.declared.node.NodeId.{NodeId}
-use Rattle.cow_arena.specs.declared.node.Node.{Node}
-use Rattle.cow_arena.specs.Nodes.{Nodes}
-use Rattle.cow_arena.specs.Walk.{Tree}
-use Rattle.cow_split.specs.declared.viewers.Cursor.{Cursor}
-use Rattle.cow_split.specs.Viewers.{HasKoid, HasLesser, IsBelowAll, IsLeastKoid, lesser_of}
-use Rattle.cow_split.specs.Searching.{Finds, FindsFirst, IsAmid, HasCounted, HasLeast, HasNoneLess}
+use Rattle.cow_split.proofs.Words.{some_is, ◌≡◌, ℕ, ◌+◌, ◌<◌, ◌≤◌, Bool, true, false, List, [], ◌∷◌, ◌++◌, length, Option, None, Some, inl}
+use Rattle.cow_split.proofs.Words.{inr, refl, sym, ap, ◌∙◌, subst, append_assoc, arith, IsSome, MatchOption, nat_lt, if◌then◌else◌}
+use Rattle.cow_split.proofs.Words.{Contains, nat_tests, append-nil, length-append, Contains-append_left, Contains-push, Contains-push_cases}
+use Rattle.cow_split.proofs.Words.{Koid, some_same, NodeId, Node, Nodes, Tree, Cursor, HasKoid, HasLesser, IsBelowAll, IsLeastKoid}
+use Rattle.cow_split.proofs.Words.{lesser_of, Finds, FindsFirst, IsAmid, HasCounted, HasLeast, HasNoneLess}
 use Rattle.cow_split.proofs.SearchLaws.{contains-none}
 
 module _ (t : Tree) (except : Option NodeId) (all : List ℕ) where
@@ -64,8 +54,7 @@ module _ (nodes : Nodes) (found : List ℕ) (v : ℕ) (koid : Koid) (has : HasKo
   below-more least before now w other inside other_has = elim (Contains-push_cases found v w inside) [
     | inl there ↦ before w other there other_has
     | inr same ↦ (
-        let one = ap (λ (k : Koid). k.0) (koid-once nodes w koid other (subst (λ k. HasKoid nodes k koid) same has) other_has) in
-        omega arith)
+        omega (arith, ap (λ (k : Koid). k.0) (koid-once nodes w koid other (subst (λ k. HasKoid nodes k koid) same has) other_has)))
   ]
 
   least-new : (list : List ℕ) → list ≡ found ++ v ∷ [] →
@@ -96,13 +85,10 @@ module _ (t : Tree) (except : Option NodeId) (all : List ℕ) where
   least-next least from next v node h first at some = record {
     found = h.found ++ v ∷ [];
     amid = amid-next t except all h.found from next v h.amid first;
-    least_is = with_koid node.koid refl some;
+    least_is =
+        let koid = some_is node.koid some in
+        rw koid.1 (least-more t.nodes h.found v koid.0 (record { node = node; at = at; koid_is = koid.1 }) least h.least_is);
   }
-    where
-      with_koid : (o : Option Koid) → node.koid ≡ o → IsSome o →
-          MatchOption (lesser_of least o) (h.found ++ v ∷ [] ≡ []) (λ koid. IsLeastKoid t.nodes (h.found ++ v ∷ []) koid)
-      with_koid None e s = absurd (cc)
-      with_koid (Some koid) e s = least-more t.nodes h.found v koid (record { node = node; at = at; koid_is = e }) least h.least_is
 
   -- ---- a koid that is less than another
 
@@ -114,14 +100,12 @@ module _ (t : Tree) (except : Option NodeId) (all : List ℕ) where
   pub none_less-next : (koid : Koid) (from next : Option Cursor) (v : ℕ) (node : Node) → HasNoneLess t except all koid from →
       ((ahead : List ℕ) → Finds t except from ahead → FindsFirst t except v next ahead) → t.nodes v ≡ Some node → IsSome node.koid →
       ((other : Koid) → node.koid ≡ Some other → koid.0 ≤ other.0) → HasNoneLess t except all koid next
-  none_less-next koid from next v node h first at some most = with_koid node.koid refl some
-    where
-      with_koid : (o : Option Koid) → node.koid ≡ o → IsSome o → HasNoneLess t except all koid next
-      with_koid None e s = absurd (cc)
-      with_koid (Some other) e s = record {
+  none_less-next koid from next v node h first at some most =
+      let other = some_is node.koid some in
+      record {
         found = h.found ++ v ∷ [];
         amid = amid-next t except all h.found from next v h.amid first;
-        none = below-more t.nodes h.found v other (record { node = node; at = at; koid_is = e }) koid h.none (most other e);
+        none = below-more t.nodes h.found v other.0 (record { node = node; at = at; koid_is = other.1 }) koid h.none (most other.0 other.1);
       }
 
   pub none_less-found : (koid less : Koid) (from next : Option Cursor) (v : ℕ) (node : Node) → HasNoneLess t except all koid from →

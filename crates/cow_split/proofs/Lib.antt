@@ -1,3 +1,4 @@
+pub mod Words
 pub mod CostLaws
 pub mod DepthLaws
 pub mod ClimbLaws

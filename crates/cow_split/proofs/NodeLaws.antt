@@ -1,18 +1,8 @@
 -- A change of the nodes of a clone tree under the same rows, and what it keeps of the tree's exactness.
-use Rattle.std.proofs.Common.{◌≡◌, ◌↔◌, ℕ, ◌<◌, Bool, false, Some}
-use Rattle.std.proofs.Common.{sym, ap, subst, ◌∙◌, arith}
-use Rattle.std.specs.Prelude.{IsSome}
+use Rattle.cow_split.proofs.Words.{◌≡◌, ◌↔◌, ℕ, ◌<◌, Bool, Some, sym, ap, subst, ◌∙◌, arith, IsSome, Slot, Node, Side, Nodes, IsVisible}
+use Rattle.cow_split.proofs.Words.{Tree, IsForest, HasListedRows, IsPage, IsSeenFrom, StaysVisible, CameFrom, IsExact}
 use Rattle.page_list.specs.declared.row.ListId.{ListId}
-use Rattle.page_list.specs.declared.row.Slot.{Slot}
-use Rattle.cow_arena.specs.declared.node.Node.{Node}
-use Rattle.cow_arena.specs.declared.node.Side.{Side}
-use Rattle.cow_arena.specs.declared.node.Side.TheVariants as side
-use Rattle.cow_arena.specs.Nodes.{Nodes, IsVisible}
-use Rattle.cow_arena.specs.Walk.{Tree, walk}
-use Rattle.cow_arena.specs.Forest.{IsForest, HasListedRows}
-use Rattle.cow_split.specs.Sight.{IsPage, Sees, IsSeenFrom, StaysVisible, CameFrom}
-use Rattle.cow_split.specs.Exact.{IsExact}
-use Rattle.cow_split.proofs.ExactLaws.{denies-alike}
+use Rattle.cow_split.proofs.ExactLaws.{bits-alike}
 
 pub came-visible : (old new : Nodes) (j : ℕ) (now : Node) (c : CameFrom old j now) → IsVisible new j now → IsVisible old j c.node
 came-visible old new j now c visible = record { at = c.at; koid = subst IsSome c.koid visible.koid }
@@ -27,25 +17,6 @@ stays-page t u j p page stays = record {
   visible = record { at = stays.at; koid = subst IsSome (sym stays.koid) page.visible.koid };
   below = let count = stays.count in let below = page.below in omega arith;
 }
-
--- what is to be said of a page that saw a row, so that it sees it in another tree
-pub record IsCarried (old new : Tree) (out : ℕ → ℕ → Bool) (v p : ℕ) : Type 0 where
-  pub page : IsPage new v p
-  pub same : walk new v p ≡ walk old v p
-  pub in_sight : out v p ≡ false
-
--- A row is seen from a side in another tree too, where each page that saw it is in sight there and its walk is the same.
-pub seen-moved : (old new : Tree) (out out_now : ℕ → ℕ → Bool) (side : Side) (h q : ℕ) →
-    ((v p : ℕ) → Sees old v p (Some side) h q → out v p ≡ false → IsCarried old new out_now v p) →
-    IsSeenFrom old out side h q → IsSeenFrom new out_now side h q
-seen-moved old new out out_now side h q carry seen =
-    let now = carry seen.v seen.p seen.sees seen.in_sight in
-    record {
-      v = seen.v;
-      p = seen.p;
-      sees = record { page = now.page; slot = seen.sees.slot; found = now.same ∙ seen.sees.found };
-      in_sight = now.in_sight;
-    }
 
 -- Each node was there with its koid and its list, the rows of visible ones fit their counts, and each row is seen from each
 -- side exactly where it was. Then the tree stays exact.
@@ -69,10 +40,5 @@ exact-moved t nodes out out_now in_use exact forest listed came below alike = re
   once = exact.once;
   bits = λ h q now tag left right at hidden e.
       let c = came h now at in
-      let was = exact.bits h q c.node tag left right c.at (sym c.koid ∙ hidden) (came-row t h q now c ∙ e) in
-      record {
-        left_bit = denies-alike left _ _ (alike side.Left h q) was.left_bit;
-        right_bit = denies-alike right _ _ (alike side.Right h q) was.right_bit;
-        is_seen = was.is_seen;
-      };
+      bits-alike (λ s. alike s h q) (exact.bits h q c.node tag left right c.at (sym c.koid ∙ hidden) (came-row t h q now c ∙ e));
 }

@@ -1,24 +1,8 @@
 -- Rows may be gone or split, and those that are left have the frames that they had.
-use Rattle.std.proofs.Common.{◌≡◌, ℕ, Bool, true, false, Option, None, Some, inl, inr, refl, sym, ap, subst, ◌∙◌}
-use Rattle.vm_base.specs.declared.names.Tag.{Tag}
-use Rattle.vm_base.proofs.EntryLaws.{some_same}
-use Rattle.balanced_tree.specs.Rows.{Rows}
-use Rattle.balanced_tree.specs.Pairs.{with_pair}
-use Rattle.page_list.specs.declared.row.Row.{Row}
-use Rattle.page_list.specs.declared.row.Slot.{Slot}
-use Rattle.page_list.specs.declared.row.Slot.TheVariants as slot
-use Rattle.page_list.specs.Lists.{slots_of}
-use Rattle.cow_arena.specs.declared.node.Node.{Node}
-use Rattle.cow_arena.specs.declared.node.Side.{Side}
-use Rattle.cow_arena.specs.declared.node.Side.TheVariants as side
-use Rattle.cow_arena.specs.Nodes.{Arena, nodes_of, IsVisible}
-use Rattle.cow_arena.specs.Walk.{Slots, Tree, frame_in}
-use Rattle.cow_arena.specs.Forest.{IsForest}
-use Rattle.cow_arena.specs.Ways.{HadRow, IsPartOf, KeepsBare}
+use Rattle.cow_split.proofs.Words.{◌≡◌, ℕ, Bool, true, false, Option, None, Some, inl, inr, refl, sym, ap, subst, ◌∙◌, Tag, some_same, Rows}
+use Rattle.cow_split.proofs.Words.{with_pair, Row, Slot, slots_of, Node, Side, Arena, nodes_of, IsVisible, Slots, Tree, frame_in, IsForest}
+use Rattle.cow_split.proofs.Words.{HadRow, IsPartOf, KeepsBare, Cut, tree_of, split_on, cut_slots, cut_answer, HasCut}
 use Rattle.cow_arena.proofs.AlikeLaws.{with_pair-same, with_pair-other}
-use Rattle.cow_split.specs.declared.answers.Cut.{Cut}
-use Rattle.cow_split.specs.Trees.{tree_of}
-use Rattle.cow_split.specs.Cutting.{split_on, cut_slots, cut_answer, HasCut}
 use Rattle.cow_split.proofs.ExactLaws.{cases_place}
 use Rattle.cow_split.proofs.CutLaws.{CutBy, sees_nothing, sees_shared, sees_alone, cut-by}
 
@@ -55,16 +39,16 @@ part-none old new part l q none = go (new l q) refl
     go (Some row) is = let had = part.had l q row is in let at = had.at in absurd (cc)
 
 -- the row that is split by a cut has its frame
-split-had : (slots : Slots) (l q : ℕ) (from : Side) (tag : Tag) (left right : Bool) → slots l q ≡ Some (slot.Frame tag left right) →
+split-had : (slots : Slots) (l q : ℕ) (from : Side) (tag : Tag) (left right : Bool) → slots l q ≡ Some (Slot.Frame tag left right) →
     (row : Slot) → split_on from tag left right ≡ Some row → HadRow slots l q row
 split-had slots l q from tag left right at row is =
-    record { row = slot.Frame tag left right; at = at; frame = frame from left right is }
+    record { row = Slot.Frame tag left right; at = at; frame = frame from left right is }
   where
     frame : (from : Side) (left right : Bool) → split_on from tag left right ≡ Some row → frame_in row ≡ Some tag.0
-    frame side.Left left true e = absurd (cc)
-    frame side.Left left false e = ap frame_in (some_same (sym e))
-    frame side.Right true right e = absurd (cc)
-    frame side.Right false right e = ap frame_in (some_same (sym e))
+    frame Side.Left left true e = absurd (cc)
+    frame Side.Left left false e = ap frame_in (some_same (sym e))
+    frame Side.Right true right e = absurd (cc)
+    frame Side.Right false right e = ap frame_in (some_same (sym e))
 
 part-by : (t : Tree) (v p : ℕ) (slots : Slots) (answer : Cut) → CutBy t v p slots answer → IsPartOf t.slots slots
 part-by t v p slots answer (sees_nothing none) = part-same t.slots

@@ -1,16 +1,8 @@
 -- A tree under other list numbers is as exact as it was.
-use Rattle.std.proofs.Common.{◌≡◌, ◌↔◌, ℕ, ◌<◌, Bool, false, None, Some, IsSome, sym, ap, subst, ◌∙◌}
-use Rattle.page_list.specs.declared.row.Slot.TheVariants as slot
-use Rattle.cow_arena.specs.declared.node.Node.{Node}
-use Rattle.cow_arena.specs.declared.node.Side.{Side}
-use Rattle.cow_arena.specs.declared.node.Side.TheVariants as side
-use Rattle.cow_arena.specs.Walk.{Tree}
-use Rattle.cow_arena.specs.Renamed.{renamed_node, renamed, IsExchange}
+use Rattle.cow_split.proofs.Words.{◌≡◌, ◌↔◌, ℕ, ◌<◌, Bool, false, None, Some, IsSome, sym, ap, subst, ◌∙◌, Slot, Node, Side, Tree}
+use Rattle.cow_split.proofs.Words.{renamed_node, renamed, IsExchange, IsPage, IsSeenFrom, AreSplitBits, IsExact}
 use Rattle.cow_arena.proofs.RenamedLaws.{renamed-at, renamed-was, renamed-each, forest-renamed_by, row-renamed, walk-renamed}
-use Rattle.cow_split.specs.Sight.{IsPage, IsSeenFrom}
-use Rattle.cow_split.specs.Exact.{AreSplitBits, IsExact}
-use Rattle.cow_split.proofs.ExactLaws.{denies-alike}
-use Rattle.cow_split.proofs.NodeLaws.{seen-moved}
+use Rattle.cow_split.proofs.ExactLaws.{bits-alike, seen-moved}
 
 -- a page of a VMO is one
 pub renamed-page : (name : ℕ → ℕ) (t : Tree) (v p : ℕ) → IsPage t v p → IsPage (renamed name t) v p
@@ -48,19 +40,9 @@ module _ (name : ℕ → ℕ) (t : Tree) (exchange : IsExchange name t.lists) (o
     }),
   )
 
-  bits-renamed : (h q : ℕ) (left right : Bool) → AreSplitBits t out h q left right → AreSplitBits now out h q left right
-  bits-renamed h q left right bits = record {
-    left_bit = denies-alike left _ _ (seen-renamed side.Left h q) bits.left_bit;
-    right_bit = denies-alike right _ _ (seen-renamed side.Right h q) bits.right_bit;
-    is_seen = bits.is_seen;
-  }
-
   pub exact-renamed : IsExact (renamed name t) out in_use
   exact-renamed = record {
-    forest = record {
-      rank = exact.forest.rank;
-      by = forest-renamed_by name t.lists exchange t.nodes exact.forest.rank exact.forest.by;
-    };
+    forest = record { rank = exact.forest.rank; by = forest-renamed_by name t.lists exchange t.nodes exact.forest.rank exact.forest.by };
     listed = record {
       listed = λ l p row at.
           let it = exact.listed.listed (name l) p row at in
@@ -76,7 +58,7 @@ module _ (name : ℕ → ℕ) (t : Tree) (exchange : IsExchange name t.lists) (o
         exact.below v p node row (record { at = at; koid = koid }) (sym (row-renamed name exchange.twice t exact.forest node p) ∙ has))
         v node visible.at visible.koid;
     plain = λ v p node tag left right visible. renamed-each name t.nodes
-        (λ v node. IsSome node.koid → now.slots node.list.0 p ≡ Some (slot.Frame tag left right) → (left ≡ false) × (right ≡ false))
+        (λ v node. IsSome node.koid → now.slots node.list.0 p ≡ Some (Slot.Frame tag left right) → (left ≡ false) × (right ≡ false))
         (λ v node at koid has.
         exact.plain v p node tag left right (record { at = at; koid = koid }) (sym (row-renamed name exchange.twice t exact.forest node p) ∙ has))
         v node visible.at visible.koid;
@@ -88,8 +70,8 @@ module _ (name : ℕ → ℕ) (t : Tree) (exchange : IsExchange name t.lists) (o
         let both = exact.once (name l) q (name m) r tag row other one two frame again in
         (sym (exchange.twice l) ∙ (ap name both.0 ∙ exchange.twice m), both.1);
     bits = λ h q node tag left right. renamed-each name t.nodes
-        (λ h node. node.koid ≡ None → now.slots node.list.0 q ≡ Some (slot.Frame tag left right) → AreSplitBits now out h q left right)
-        (λ h node at hidden has. bits-renamed h q left right
+        (λ h node. node.koid ≡ None → now.slots node.list.0 q ≡ Some (Slot.Frame tag left right) → AreSplitBits now out h q left right)
+        (λ h node at hidden has. bits-alike (λ s. seen-renamed s h q)
         (exact.bits h q node tag left right at hidden (sym (row-renamed name exchange.twice t exact.forest node q) ∙ has)))
         h node;
   }

@@ -1,26 +1,13 @@
 -- Own rows of a visible node come and go, and pages that see no frame are in sight or not: what stays exact, and who shows
 -- what then.
-use Rattle.std.proofs.Common.{◌≡◌, ◌↔◌, ℕ, ◌<◌, Bool, true, false, Option, None, Some}
-use Rattle.std.proofs.Common.{refl, sym, ap, subst, ◌∙◌, inl, inr}
-use Rattle.std.specs.Prelude.{◌&&◌, ◌||◌, ◌==◌, cond, is_some}
-use Rattle.std.proofs.lemmas.Bool.{cases_eq, both_ways, and_parts, and_from, or_parts, or_cases, ne_eqb, eq-eqb, and_left, and_right}
-use Rattle.vm_base.proofs.EntryLaws.{some_same}
-use Rattle.vm_base.proofs.SearchLaws.{eqb_same, eqb_is}
-use Rattle.balanced_tree.specs.Pairs.{with_pair}
-use Rattle.vm_base.specs.declared.names.Tag.{Tag}
-use Rattle.page_list.specs.declared.row.Slot.{Slot}
-use Rattle.page_list.specs.declared.row.Slot.TheVariants as slot
-use Rattle.cow_arena.specs.declared.node.Node.{Node}
-use Rattle.cow_arena.specs.declared.node.Side.{Side}
-use Rattle.cow_arena.specs.Nodes.{IsVisible}
-use Rattle.cow_arena.specs.Forest.{IsForest}
-use Rattle.cow_arena.specs.Walk.{Tree, Found, walk, frame_in, frame_found, frame_shown}
+use Rattle.cow_split.proofs.Words.{◌≡◌, ◌↔◌, ℕ, ◌<◌, Bool, true, false, Option, None, Some, refl, sym, ap, subst, ◌∙◌, inl, inr, ◌&&◌, ◌||◌}
+use Rattle.cow_split.proofs.Words.{◌==◌, cond, is_some, cases_eq, both_ways, and_parts, and_from, or_parts, or_cases, ne_eqb, eq-eqb}
+use Rattle.cow_split.proofs.Words.{and_left, and_right, some_same, eqb_same, eqb_is, with_pair, Tag, Slot, Node, Side, IsVisible, IsForest}
+use Rattle.cow_split.proofs.Words.{Tree, Found, walk, frame_in, frame_found, frame_shown, with_row, IsPage, Sees, IsSeenFrom, ShowsSame}
+use Rattle.cow_split.proofs.Words.{IsNotPage, IsExact, IsOnlyOf, all_in_sight, leaving_out, with_frame, without_frame}
 use Rattle.cow_arena.proofs.WalkLaws.{walk-own}
 use Rattle.cow_arena.proofs.ReachLaws.{walk-ends}
 use Rattle.cow_arena.proofs.AlikeLaws.{with_pair-same, walk-beside}
-use Rattle.cow_split.specs.Trees.{with_row}
-use Rattle.cow_split.specs.Sight.{IsPage, Sees, IsSeenFrom, ShowsSame, IsNotPage}
-use Rattle.cow_split.specs.Exact.{IsExact, IsOnlyOf, all_in_sight, leaving_out, with_frame, without_frame}
 use Rattle.cow_split.proofs.ExactLaws.{with_row-changes, exact-changed, exact-seen_alike, seen-carried, frame-gone, frame-comes}
 
 -- ---- pages out of sight
@@ -78,41 +65,31 @@ exact-in_use_alike t out in_use in_use_now same exact = subst (IsExact t out) (�
 -- No frame row is seen by this page, so that it may be left out of sight, and be in sight again.
 module _ (t : Tree) (out : ℕ → ℕ → Bool) (in_use : ℕ → Bool) (v p : ℕ)
     (other : (w q : ℕ) (side : Side) (k r : ℕ) (node : Node) (tag : Tag) (left right : Bool) → t.nodes k ≡ Some node →
-    t.slots node.list.0 r ≡ Some (slot.Frame tag left right) → Sees t w q (Some side) k r → (w ≡ v) × (q ≡ p) → ⊥) where
+    t.slots node.list.0 r ≡ Some (Slot.Frame tag left right) → Sees t w q (Some side) k r → (w ≡ v) × (q ≡ p) → ⊥) where
+  seen-either : (k r : ℕ) (node : Node) (tag : Tag) (left right : Bool) → t.nodes k ≡ Some node → t.slots node.list.0 r ≡ Some (Slot.Frame tag left right) →
+      (side : Side) → IsSeenFrom t out side k r ↔ IsSeenFrom t (leaving_out out v p) side k r
+  seen-either k r node tag left right at row side = (
+    seen-carried t t out (leaving_out out v p) side k r refl
+        (λ w q sees in_sight. (refl, left_out-other out v p w q (other w q side k r node tag left right at row sees) ∙ in_sight)),
+    seen-carried t t (leaving_out out v p) out side k r refl (λ w q sees in_sight. (refl, (left_out-in_sight out v p w q in_sight).1)),
+  )
+
   exact-out_by : IsExact t out in_use → IsExact t (leaving_out out v p) in_use
   exact-out_by exact = exact-seen_alike t out (leaving_out out v p) in_use exact
-      (λ k r node tag left right at hidden row side. (
-        seen-carried t t out (leaving_out out v p) side k r refl
-            (λ w q sees in_sight. (
-              refl,
-              left_out-other out v p w q
-                  (other w q side k r node tag left right at row sees) ∙ in_sight,
-            )),
-        seen-carried t t (leaving_out out v p) out side k r refl
-            (λ w q sees in_sight. (refl, (left_out-in_sight out v p w q in_sight).1)),
-      ))
+      (λ k r node tag left right at hidden row. seen-either k r node tag left right at row)
 
   exact-in_by : IsExact t (leaving_out out v p) in_use → IsExact t out in_use
   exact-in_by exact = exact-seen_alike t (leaving_out out v p) out in_use exact
-      (λ k r node tag left right at hidden row side. (
-        seen-carried t t (leaving_out out v p) out side k r refl
-            (λ w q sees in_sight. (refl, (left_out-in_sight out v p w q in_sight).1)),
-        seen-carried t t out (leaving_out out v p) side k r refl
-            (λ w q sees in_sight. (
-              refl,
-              left_out-other out v p w q
-                  (other w q side k r node tag left right at row sees) ∙ in_sight,
-            )),
-      ))
+      (λ k r node tag left right at hidden row side. let both = seen-either k r node tag left right at row side in (both.1, both.0))
 
 module _ (t : Tree) (out : ℕ → ℕ → Bool) (in_use : ℕ → Bool) (v p : ℕ) (nothing : ShowsNothing t v p) where
   -- whoever sees a frame row does it by another page
   sees-other : IsForest t.nodes t.lists → (w q : ℕ) (side : Option Side) (k r : ℕ) (node : Node) (tag : Tag) (left right : Bool) →
-      t.nodes k ≡ Some node → t.slots node.list.0 r ≡ Some (slot.Frame tag left right) → Sees t w q side k r → (w ≡ v) × (q ≡ p) → ⊥
+      t.nodes k ≡ Some node → t.slots node.list.0 r ≡ Some (Slot.Frame tag left right) → Sees t w q side k r → (w ≡ v) × (q ≡ p) → ⊥
   sees-other forest w q side k r node tag left right at row sees both =
       let ends = walk-ends t forest w q _ sees.found in
       let same : ends.row.node ≡ node = some_same (sym ends.row.at ∙ at) in
-      let slot_is : sees.slot ≡ slot.Frame tag left right = some_same (sym ends.row.row ∙ (ap (λ (n : Node). t.slots n.list.0 r) same ∙ row)) in
+      let slot_is : sees.slot ≡ Slot.Frame tag left right = some_same (sym ends.row.row ∙ (ap (λ (n : Node). t.slots n.list.0 r) same ∙ row)) in
       let shows : frame_shown t w q ≡ Some tag.0 = ap frame_found sees.found ∙ ap frame_in slot_is in
       let none : frame_shown t w q ≡ None = subst (λ i. frame_shown t i q ≡ None) (sym both.0) (subst (λ i. frame_shown t v i ≡ None) (sym both.1)
       (nothing (subst (IsPage t v) both.1 (subst (λ i. IsPage t i q) both.0 sees.page)))) in
@@ -128,8 +105,8 @@ module _ (t : Tree) (out : ℕ → ℕ → Bool) (in_use : ℕ → Bool) (v p : 
 
 -- a row of a visible node says nothing of sides
 abbrev pub IsPlain : Slot → Type 0
-IsPlain (slot.Frame tag left right) = (left ≡ false) × (right ≡ false)
-IsPlain slot.Zero = Unit
+IsPlain (Slot.Frame tag left right) = (left ≡ false) × (right ≡ false)
+IsPlain Slot.Zero = Unit
 
 -- The trees differ at page p of the visible node v alone, where one of them has a row. Whoever sees a row from a side in
 -- the other, but by this page, sees it in this one too, and the other way round.
@@ -215,10 +192,7 @@ module _ (t : Tree) (v p : ℕ) (node : Node) (visible : IsVisible t.nodes v nod
   exact-own_comes out in_use row exact free below plain unused =
       exact-changed t (with_row t node.list.0 p (Some row)) (leaving_out out v p) out in_use (with_frame in_use (frame_in row)) v p node
       None (Some row) exact visible.at (with_row-changes t node.list.0 p None (Some row) free) (frame-comes (frame_in row) in_use unused)
-      (λ shown. record {
-        below = λ slot e. below;
-        plain = λ tag left right e. subst IsPlain (some_same e) plain;
-      })
+      (λ shown. record { below = λ slot e. below; plain = λ tag left right e. subst IsPlain (some_same e) plain })
       (record {
         alike = λ k r at tag left right there hidden stands differs side.
             seen-own t (with_row t node.list.0 p (Some row)) out v p node row refl exact.forest visible.at
@@ -242,12 +216,12 @@ module _ (t : Tree) (v p : ℕ) (node : Node) (visible : IsVisible t.nodes v nod
 
   -- A zero row becomes a row of a frame that no row has.
   pub exact-own_filled : (out : ℕ → ℕ → Bool) (in_use : ℕ → Bool) (tag : Tag) → IsExact t out in_use →
-      t.slots node.list.0 p ≡ Some slot.Zero → in_use tag.0 ≡ false →
-      IsExact (with_row t node.list.0 p (Some (slot.Frame tag false false))) out (with_frame in_use (Some tag.0))
+      t.slots node.list.0 p ≡ Some Slot.Zero → in_use tag.0 ≡ false →
+      IsExact (with_row t node.list.0 p (Some (Slot.Frame tag false false))) out (with_frame in_use (Some tag.0))
   exact-own_filled out in_use tag exact own unused = subst
-      (λ used. IsExact (with_row t node.list.0 p (Some (slot.Frame tag false false))) out (with_frame used (Some tag.0)))
+      (λ used. IsExact (with_row t node.list.0 p (Some (Slot.Frame tag false false))) out (with_frame used (Some tag.0)))
       (without_frame-none in_use)
-      (exact-own_replaced out in_use slot.Zero (slot.Frame tag false false) exact own (refl, refl)
+      (exact-own_replaced out in_use Slot.Zero (Slot.Frame tag false false) exact own (refl, refl)
       (λ other e. subst (λ used. used other ≡ false) (sym (without_frame-none in_use))
       (subst (λ n. in_use n ≡ false) (some_same e) unused)))
 

@@ -1,27 +1,12 @@
 -- The search downwards is the sight: it finds the visible nodes that see a row.
-use Rattle.std.proofs.Common.{◌≡◌, ℕ, zero, suc, ◌+◌, ◌-◌, ◌<◌, ◌≤◌, Bool, true, false, List, [], ◌∷◌, ◌++◌, Option, None, Some, ◌⊎◌, inl, inr, refl, sym, ap, ◌∙◌, subst, arith}
-use Rattle.std.specs.Prelude.{IsSome, if◌then◌else◌}
-use Rattle.std.specs.List.{Contains}
-use Rattle.std.proofs.lemmas.Bool.{lt-ltb, le-leb}
-use Rattle.std.proofs.lemmas.Bool.Decides.{nat_tests}
-use Rattle.std.proofs.lemmas.List.Elements.{Contains-append_left, Contains-append_right, Contains-append_cases, Contains-push, Contains-push_cases}
-use Rattle.vm_base.specs.declared.names.Koid.{Koid}
-use Rattle.vm_base.specs.Entries.{passes}
-use Rattle.vm_base.proofs.EntryLaws.{some_same}
-use Rattle.vm_base.proofs.SearchLaws.{eqb_same}
-use Rattle.page_list.specs.declared.row.Slot.{Slot}
-use Rattle.cow_arena.specs.declared.node.NodeId.{NodeId}
-use Rattle.cow_arena.specs.declared.node.Node.{Node}
-use Rattle.cow_arena.specs.declared.node.Side.{Side}
-use Rattle.cow_arena.specs.declared.node.Side.TheVariants as side
-use Rattle.cow_arena.specs.Nodes.{Nodes, link_to, leads_to, child_on, side_in}
-use Rattle.cow_arena.specs.Walk.{Slots, Tree}
-use Rattle.cow_arena.specs.Forest.{IsForest}
-use Rattle.cow_arena.specs.Ways.{Climbs, Reaches}
-use Rattle.cow_arena.proofs.ReachLaws.{hidden-of-child, reach-one, reach-each, reach-on, child-there, climb-from-child, side-of-child, climb-side, found-of-reach, walk-ends}
-use Rattle.cow_split.specs.Search.{in_window, ends, meets, viewers_over, viewers_from, has_some, reached_from}
-use Rattle.cow_split.specs.Searching.{viewers_at, IsLeafOn}
-use Rattle.cow_split.specs.Sight.{IsPage, Sees}
+use Rattle.cow_split.proofs.Words.{some_is, ◌≡◌, ℕ, zero, suc, ◌+◌, ◌-◌, ◌<◌, ◌≤◌, Bool, true, false, List, [], ◌∷◌, ◌++◌, Option, None}
+use Rattle.cow_split.proofs.Words.{Some, ◌⊎◌, inl, inr, refl, sym, ap, ◌∙◌, subst, arith, IsSome, if◌then◌else◌, Contains, lt-ltb, le-leb}
+use Rattle.cow_split.proofs.Words.{nat_tests, Contains-append_left, Contains-append_right, Contains-append_cases, Contains-push}
+use Rattle.cow_split.proofs.Words.{Contains-push_cases, Koid, passes, some_same, eqb_same, Slot, NodeId, Node, Side, Nodes, link_to}
+use Rattle.cow_split.proofs.Words.{leads_to, child_on, side_in, Slots, Tree, IsForest, Climbs, Reaches, in_window, ends, meets}
+use Rattle.cow_split.proofs.Words.{viewers_over, viewers_from, has_some, reached_from, viewers_at, IsLeafOn, IsPage, Sees}
+use Rattle.cow_arena.proofs.ReachLaws.{hidden-of-child, reach-one, reach-each, reach-on, child-there, climb-from-child, side-of-child}
+use Rattle.cow_arena.proofs.ReachLaws.{climb-side, found-of-reach, walk-ends}
 
 -- ---- lists of nodes
 
@@ -88,8 +73,8 @@ module _ (nodes : Nodes) (slots : Slots) (lists : ℕ) (f : IsForest nodes lists
       with_koid (Some koid) e = refl
       with_koid None e =
           let pair = f.by.pairs k node at e in
-          let l : g node.left p ≡ h node.left p = subst (λ c. g c p ≡ h c p) (sym pair.left_is) (below side.Left pair.left pair.left_is) in
-          let r : g node.right p ≡ h node.right p = subst (λ c. g c p ≡ h c p) (sym pair.right_is) (below side.Right pair.right pair.right_is) in
+          let l : g node.left p ≡ h node.left p = subst (λ c. g c p ≡ h c p) (sym pair.left_is) (below Side.Left pair.left pair.left_is) in
+          let r : g node.right p ≡ h node.right p = subst (λ c. g c p ≡ h c p) (sym pair.right_is) (below Side.Right pair.right pair.right_is) in
           ap (λ list. list ++ g node.right p) l ∙ ap (λ list. h node.left p ++ list) r
 
   -- the rank of a child
@@ -184,8 +169,8 @@ module _ (t : Tree) (f : IsForest t.nodes t.lists) (except : Option NodeId) wher
       on_side opened none way =
           let pair = f.by.pairs k node at none in
           elim way [
-            | inl l ↦ further_down opened none side.Left pair.left pair.left_is (subst (λ c. Contains (found c (q - node.first)) v) pair.left_is l)
-            | inr r ↦ further_down opened none side.Right pair.right pair.right_is (subst (λ c. Contains (found c (q - node.first)) v) pair.right_is r)
+            | inl l ↦ further_down opened none Side.Left pair.left pair.left_is (subst (λ c. Contains (found c (q - node.first)) v) pair.left_is l)
+            | inr r ↦ further_down opened none Side.Right pair.right pair.right_is (subst (λ c. Contains (found c (q - node.first)) v) pair.right_is r)
           ]
 
       with_except : IsOpen t.slots node q → IsSome node.koid → (b : Bool) → leads_to except k ≡ b → Contains (if b then [] else k ∷ []) v → Enters k q node v
@@ -205,21 +190,9 @@ module _ (t : Tree) (f : IsForest t.nodes t.lists) (except : Option NodeId) wher
       with_window false e in_list = absurd (contains-none v in_list)
       with_window true e in_list = with_row (window-of-true node q e) (t.slots node.list.0 (q - node.first)) refl in_list
 
-  -- what is met at a node on the way, which has no row there
-  pub met-viewed : (k p : ℕ) (node : Node) → IsSome node.koid → leads_to except k ≡ false → t.slots node.list.0 p ≡ None → met k p node ≡ k ∷ []
-  met-viewed k p node some counts free = rw free (with_koid node.koid some)
-    where
-      with_koid : (o : Option Koid) → IsSome o → ends t.nodes t.slots except found k node p o ≡ k ∷ []
-      with_koid (Some koid) s = rw counts refl
-      with_koid None s = absurd (cc)
-
-  -- nobody, where the node is excepted
-  pub met-excepted : (k p : ℕ) (node : Node) → IsSome node.koid → leads_to except k ≡ true → t.slots node.list.0 p ≡ None → met k p node ≡ []
-  met-excepted k p node some counts free = rw free (with_koid node.koid some)
-    where
-      with_koid : (o : Option Koid) → IsSome o → ends t.nodes t.slots except found k node p o ≡ []
-      with_koid (Some koid) s = rw counts refl
-      with_koid None s = absurd (cc)
+  -- what is met at a visible node on the way, which has no row there: the node, or nobody, where it is excepted
+  pub met-leaf : (k p : ℕ) (node : Node) → IsSome node.koid → t.slots node.list.0 p ≡ None → met k p node ≡ (if leads_to except k then [] else k ∷ [])
+  met-leaf k p node some free = rw (free, (some_is node.koid some).1) refl
 
   -- what is met at a hidden node is what is found below its children
   pub met-through : (k p : ℕ) (node : Node) → node.koid ≡ None → t.slots node.list.0 p ≡ None → met k p node ≡ found node.left p ++ found node.right p
@@ -231,8 +204,8 @@ module _ (t : Tree) (f : IsForest t.nodes t.lists) (except : Option NodeId) wher
   met-below k p v node s c none child holds free = subst (λ list. Contains list v) (sym (met-through k p node none free)) (on_side s child)
     where
       on_side : (s : Side) → child_on node s ≡ link_to c → Contains (found node.left p ++ found node.right p) v
-      on_side side.Left e = Contains-append_left (found node.left p) (found node.right p) v (subst (λ o. Contains (found o p) v) (sym e) holds)
-      on_side side.Right e = Contains-append_right (found node.left p) (found node.right p) v (subst (λ o. Contains (found o p) v) (sym e) holds)
+      on_side Side.Left e = Contains-append_left (found node.left p) (found node.right p) v (subst (λ o. Contains (found o p) v) (sym e) holds)
+      on_side Side.Right e = Contains-append_right (found node.left p) (found node.right p) v (subst (λ o. Contains (found o p) v) (sym e) holds)
 
   -- who is met at a page is found at its parent
   found-of-met : (k p h q v : ℕ) (c : Climbs t k p h q) → Contains (met k p c.node) v → Contains (found (link_to k) q) v
@@ -347,7 +320,7 @@ module _ (t : Tree) (f : IsForest t.nodes t.lists) (except : Option NodeId) wher
   pub found-of-reached : (side : Side) (h q v : ℕ) → IsReachedBy t except side h q v → Contains (viewers_from t except side h q) v
   found-of-reached side h q v way =
       reach-each t side h q (LeadsTo side h q v) (leads-last side h q v) (leads-more side h q v) v way.p way.way way.page.node way.page.visible.at
-      (λ free. subst (λ list. Contains list v) (sym (met-viewed t f except v way.p way.page.node way.page.visible.koid way.counts free)) (contains-first v []))
+      (λ free. subst (λ list. Contains list v) (sym (met-leaf t f except v way.p way.page.node way.page.visible.koid free ∙ ap (λ (b : Bool). if b then [] else v ∷ []) way.counts)) (contains-first v []))
 
   -- what the search finds out is seen
   pub reached-seen : (side : Side) (h q : ℕ) (node : Node) (row : Slot) → t.nodes h ≡ Some node → t.slots node.list.0 q ≡ Some row →
@@ -432,11 +405,7 @@ leaf-alone t f k h q s leaf =
   where
     met : (row : Option Slot) → meets t.nodes t.slots (link_to k) (viewers_over t.nodes t.slots (link_to k) t.lists) k leaf.node (q - leaf.node.first) row ≡ []
     met (Some slot) = refl
-    met None = with_koid leaf.node.koid leaf.visible.koid
-      where
-        with_koid : (o : Option Koid) → IsSome o → ends t.nodes t.slots (link_to k) (viewers_over t.nodes t.slots (link_to k) t.lists) k leaf.node (q - leaf.node.first) o ≡ []
-        with_koid (Some koid) some = ap (λ b. if b then [] else k ∷ []) (leads_here k)
-        with_koid None none = absurd (cc)
+    met None = rw (some_is leaf.node.koid leaf.visible.koid).1 (ap (λ b. if b then [] else k ∷ []) (leads_here k))
 
     outside : {list : List ℕ} (inside : Bool) → list ≡ [] → (if inside then list else []) ≡ []
     outside true none = none

@@ -1,23 +1,10 @@
 -- Laws of who sees a row, as the two questions ask it.
-use Rattle.std.proofs.Common.{◌≡◌, ◌≢◌, ℕ, ◌+◌, ◌<◌, ◌≤◌, ◌==◌, ◌&&◌, true, Option, None, Some, refl, sym, ap, ◌∙◌, subst, inl, inr, arith}
-use Rattle.std.proofs.lemmas.Bool.Decides.{nat_tests}
-use Rattle.std.specs.Option.{is_some}
-use Rattle.vm_base.specs.Entries.{passes}
-use Rattle.vm_base.proofs.EntryLaws.{some_same}
-use Rattle.page_list.specs.declared.row.Slot.{Slot}
-use Rattle.cow_arena.specs.declared.node.Node.{Node}
-use Rattle.cow_arena.specs.declared.node.Side.{Side}
-use Rattle.cow_arena.specs.Walk.{Tree, Found, walk}
-use Rattle.cow_arena.specs.Forest.{IsForest}
-use Rattle.cow_arena.specs.Ways.{HasRow, Climbs, Reaches, Arrives}
+use Rattle.cow_split.proofs.Words.{◌≡◌, ◌≢◌, ℕ, ◌+◌, ◌<◌, ◌≤◌, ◌==◌, ◌&&◌, true, Option, None, Some, refl, sym, ap, ◌∙◌, subst, inl, inr}
+use Rattle.cow_split.proofs.Words.{arith, nat_tests, is_some, passes, some_same, Slot, Node, Side, Tree, Found, walk, IsForest, HasRow}
+use Rattle.cow_split.proofs.Words.{Climbs, Reaches, Arrives, link_to, reached_from, all_in_sight, IsPage, IsSeenBy, IsSeenFrom, holder_of}
+use Rattle.cow_split.proofs.Words.{ComesTo, is_row_of}
 use Rattle.cow_arena.proofs.ReachLaws.{reach-cases, reach-each, reach-deeper, walk-ends}
 use Rattle.cow_arena.proofs.WalkLaws.{link_same}
-use Rattle.cow_arena.specs.Nodes.{link_to}
-use Rattle.cow_split.specs.Search.{reached_from}
-use Rattle.cow_split.specs.Exact.{all_in_sight}
-use Rattle.cow_split.specs.Sight.{IsPage, IsSeenBy, IsSeenFrom}
-use Rattle.cow_split.specs.Trees.{holder_of}
-use Rattle.cow_split.specs.Searching.{ComesTo, is_row_of}
 use Rattle.cow_split.proofs.SearchLaws.{reached-seen, seen-reached}
 
 module _ (t : Tree) (f : IsForest t.nodes t.lists) (side : Side) (h q : ℕ) where

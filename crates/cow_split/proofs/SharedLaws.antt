@@ -1,22 +1,10 @@
 -- Laws of pages that another VMO shows too: who comes to the page of a leaf's parent to which the leaf comes sees each row
 -- further up that the leaf sees there. So such pages are left out of sight at once, and no row changes.
-use Rattle.std.proofs.Common.{◌≡◌, ℕ, Bool, true, false, None, Some, inl, inr, sym, ap, ◌∙◌, subst, arith}
-use Rattle.std.specs.Prelude.{is_some}
-use Rattle.std.proofs.lemmas.Bool.{cases_Bool}
-use Rattle.vm_base.proofs.EntryLaws.{some_same}
-use Rattle.vm_base.specs.declared.names.Tag.{Tag}
-use Rattle.page_list.specs.declared.row.Slot.{Slot}
-use Rattle.page_list.specs.declared.row.Slot.TheVariants as slot
-use Rattle.cow_arena.specs.declared.node.Node.{Node}
-use Rattle.cow_arena.specs.declared.node.Side.{Side}
-use Rattle.cow_arena.specs.Walk.{Tree}
-use Rattle.cow_arena.specs.Forest.{IsForest}
-use Rattle.cow_arena.specs.Ways.{HasRow, Climbs, Reaches}
+use Rattle.cow_split.proofs.Words.{◌≡◌, ℕ, Bool, true, false, None, Some, inl, inr, sym, ap, ◌∙◌, subst, arith, is_some, cases_Bool}
+use Rattle.cow_split.proofs.Words.{some_same, Tag, Slot, Node, Side, Tree, IsForest, HasRow, Climbs, Reaches, IsSeenFrom, Sees, IsExact}
 use Rattle.cow_arena.proofs.ReachLaws.{reach-cases, climbs-same}
-use Rattle.cow_split.specs.Sight.{IsSeenFrom, Sees}
-use Rattle.cow_split.specs.Exact.{IsExact}
 use Rattle.cow_split.proofs.ExactLaws.{exact-seen_alike}
-use Rattle.cow_split.proofs.OthersLaws.{reach-joined}
+use Rattle.cow_arena.proofs.RisesLaws.{reach-then}
 
 -- Page x of k comes to page q of its parent h, which has no row there. Who comes there too comes to the row to which k goes on.
 pub beside-way : (t : Tree) (f : IsForest t.nodes t.lists) (k x h q : ℕ) (above : Node) → t.nodes h ≡ Some above → t.slots above.list.0 q ≡ None →
@@ -31,7 +19,7 @@ beside-way t f k x h q above at free step w p s from g r slot way up row = elim 
   | inr on ↦
       let same = climbs-same t f k x h q x on.0 on.1 step on.2 in
       let page : on.1 ≡ q = omega (arith, same.1) in
-      reach-joined t w p s h q from g r way
+      reach-then t w p s h q from g r way
       (subst (λ i. Reaches t i q from g r) (sym same.0) (subst (λ y. Reaches t on.0 y from g r) page on.3))
 ]
 
@@ -39,7 +27,7 @@ beside-way t f k x h q above at free step w p s from g r slot way up row = elim 
 pub exact-shared : (t : Tree) (out now : ℕ → ℕ → Bool) (in_use : ℕ → Bool) → IsExact t out in_use →
     ((v x : ℕ) → out v x ≡ true → now v x ≡ true) →
     ((v x : ℕ) (from : Side) (g r : ℕ) (node : Node) (tag : Tag) (left right : Bool) → out v x ≡ false → now v x ≡ true → t.nodes g ≡ Some node →
-    t.slots node.list.0 r ≡ Some (slot.Frame tag left right) → Sees t v x (Some from) g r → IsSeenFrom t now from g r) →
+    t.slots node.list.0 r ≡ Some (Slot.Frame tag left right) → Sees t v x (Some from) g r → IsSeenFrom t now from g r) →
     IsExact t now in_use
 exact-shared t out now in_use exact more shared = exact-seen_alike t out now in_use exact
     (λ k r node tag left right at hidden row side. (

@@ -1,30 +1,16 @@
 -- Who is found by a search: the visible nodes that see a row from a side, each of them once.
-use Rattle.std.proofs.Common.{◌≡◌, ℕ, zero, suc, ◌+◌, ◌-◌, ◌<◌, ◌≤◌, Bool, true, false, List, [], ◌∷◌, ◌++◌, length, Option, None, Some, refl, sym, ◌∙◌, subst, arith}
+use Rattle.cow_split.proofs.Words.{◌≡◌, ℕ, zero, suc, ◌+◌, ◌-◌, ◌<◌, ◌≤◌, Bool, true, false, List, [], ◌∷◌, ◌++◌, length, Option, None}
+use Rattle.cow_split.proofs.Words.{Some, refl, sym, ◌∙◌, subst, arith, ◌↔◌, IsSome, if◌then◌else◌, All, Contains, IsDistinct, All-append}
+use Rattle.cow_split.proofs.Words.{All-weaker, All-contains_itself, All-from_recursion, recursion_from_All, IsDistinct-cons}
+use Rattle.cow_split.proofs.Words.{IsDistinct-head, IsDistinct-tail, ne_eqb, eqb-true, passes, Koid, some_same, Slot, NodeId, Node, Side}
+use Rattle.cow_split.proofs.Words.{IsVisible, link_to, leads_to, child_on, Tree, IsForest, HasRow, in_window, ends, meets, viewers_from}
+use Rattle.cow_split.proofs.Words.{viewers_at, Sees}
 use Rattle.std.proofs.Math.Dec.{eqb}
-use Rattle.std.specs.Prelude.{◌↔◌, IsSome, if◌then◌else◌}
-use Rattle.std.specs.List.{All, Contains, IsDistinct}
-use Rattle.std.proofs.lemmas.List.Elements.{All-append, All-weaker, All-contains_itself, All-from_recursion, recursion_from_All}
-use Rattle.std.proofs.lemmas.Map.Keys.{IsDistinct-cons, IsDistinct-head, IsDistinct-tail}
-use Rattle.std.proofs.lemmas.Bool.{ne_eqb, eqb-true}
 use Rattle.std.proofs.lemmas.Map.Views.{Contains-from_any}
 use Rattle.std.proofs.lemmas.Map.Steps.{length-le_from_distinct_below}
-use Rattle.vm_base.specs.Entries.{passes}
-use Rattle.vm_base.specs.declared.names.Koid.{Koid}
-use Rattle.vm_base.proofs.EntryLaws.{some_same}
-use Rattle.page_list.specs.declared.row.Slot.{Slot}
-use Rattle.cow_arena.specs.declared.node.NodeId.{NodeId}
-use Rattle.cow_arena.specs.declared.node.Node.{Node}
-use Rattle.cow_arena.specs.declared.node.Side.{Side}
-use Rattle.cow_arena.specs.declared.node.Side.TheVariants as side
-use Rattle.cow_arena.specs.Nodes.{IsVisible, link_to, leads_to, child_on}
-use Rattle.cow_arena.specs.Walk.{Tree}
-use Rattle.cow_arena.specs.Forest.{IsForest}
-use Rattle.cow_arena.specs.Ways.{HasRow}
 use Rattle.cow_arena.proofs.ReachLaws.{reach-once, found-of-reach}
-use Rattle.cow_split.specs.Search.{in_window, ends, meets, viewers_from}
-use Rattle.cow_split.specs.Searching.{viewers_at}
-use Rattle.cow_split.specs.Sight.{Sees}
-use Rattle.cow_split.proofs.SearchLaws.{contains-first, contains-later, down-none, down-absent, down-step, deeper-child, way-down, reached-of-found, seen-found}
+use Rattle.cow_split.proofs.SearchLaws.{contains-first, contains-later, down-none, down-absent, down-step, deeper-child, way-down}
+use Rattle.cow_split.proofs.SearchLaws.{reached-of-found, seen-found}
 
 -- two lists without a common element, in each of which no element stands twice
 pub distinct-append : (xs ys : List ℕ) → IsDistinct eqb xs → IsDistinct eqb ys → ((v : ℕ) → Contains xs v → Contains ys v → ⊥) → IsDistinct eqb (xs ++ ys)
@@ -70,11 +56,11 @@ module _ (t : Tree) (f : IsForest t.nodes t.lists) where
   )
 
   -- nobody is found on both sides
-  pub viewer-side : (h q v : ℕ) → Contains (viewers_from t None side.Left h q) v → Contains (viewers_from t None side.Right h q) v → ⊥
+  pub viewer-side : (h q v : ℕ) → Contains (viewers_from t None Side.Left h q) v → Contains (viewers_from t None Side.Right h q) v → ⊥
   viewer-side h q v left right =
-      let one = reached-of-found t f None side.Left h q v left in
-      let two = reached-of-found t f None side.Right h q v right in
-      let sides = (reach-once t f v one.p two.p side.Left side.Right h q one.way two.way).1 in
+      let one = reached-of-found t f None Side.Left h q v left in
+      let two = reached-of-found t f None Side.Right h q v right in
+      let sides = (reach-once t f v one.p two.p Side.Left Side.Right h q one.way two.way).1 in
       cc
 
   module _ (except : Option NodeId) where
@@ -85,9 +71,9 @@ module _ (t : Tree) (f : IsForest t.nodes t.lists) where
     below-apart : (k p l r v : ℕ) (node : Node) → t.nodes k ≡ Some node → node.left ≡ link_to l → node.right ≡ link_to r →
         Contains (found (link_to l) p) v → Contains (found (link_to r) p) v → ⊥
     below-apart k p l r v node at left right in_left in_right =
-        let one = way-down t f except k l p v node side.Left at left in_left in
-        let two = way-down t f except k r p v node side.Right at right in_right in
-        let sides = (reach-once t f v one.p two.p side.Left side.Right k p one.way two.way).1 in
+        let one = way-down t f except k l p v node Side.Left at left in_left in
+        let two = way-down t f except k r p v node Side.Right at right in_right in
+        let sides = (reach-once t f v one.p two.p Side.Left Side.Right k p one.way two.way).1 in
         cc
 
     -- nobody is found twice below a node
@@ -108,8 +94,8 @@ module _ (t : Tree) (f : IsForest t.nodes t.lists) where
         with_koid node at further (Some koid) e p = with_except (leads_to except k)
         with_koid node at further None e p =
             let pair = f.by.pairs k node at e in
-            let l = deeper-child t.nodes t.slots t.lists f except k pair.left node side.Left at pair.left_is in
-            let r = deeper-child t.nodes t.slots t.lists f except k pair.right node side.Right at pair.right_is in
+            let l = deeper-child t.nodes t.slots t.lists f except k pair.left node Side.Left at pair.left_is in
+            let r = deeper-child t.nodes t.slots t.lists f except k pair.right node Side.Right at pair.right_is in
             let both = distinct-append (found (link_to pair.left) p) (found (link_to pair.right) p) (further pair.left p l) (further pair.right p r)
             (λ v in_left in_right. below-apart k p pair.left pair.right v node at pair.left_is pair.right_is in_left in_right) in
             subst (λ c. IsDistinct eqb (found c p ++ found node.right p)) (sym pair.left_is)

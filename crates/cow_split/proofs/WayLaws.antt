@@ -1,24 +1,13 @@
 -- Laws of a search below a node: what it meets at a node, and where it goes on.
-use Rattle.std.proofs.Common.{◌≡◌, ◌≢◌, ℕ, ◌+◌, ◌-◌, ◌<◌, ◌≤◌, ◌^◌, Bool, true, false, List, [], ◌++◌, Option, None, Some, ◌⊎◌, inl, inr, refl, sym, ap, ◌∙◌, subst, append_assoc, arith}
-use Rattle.std.specs.Prelude.{IsSome}
-use Rattle.std.specs.Option.{is_some}
-use Rattle.std.proofs.lemmas.List.{append-nil}
-use Rattle.vm_base.specs.declared.names.Koid.{Koid}
-use Rattle.vm_base.proofs.EntryLaws.{some_same}
-use Rattle.page_list.specs.declared.row.Slot.{Slot}
-use Rattle.cow_arena.specs.declared.node.NodeId.{NodeId}
-use Rattle.cow_arena.specs.declared.node.Node.{Node}
-use Rattle.cow_arena.specs.declared.node.Side.{Side}
-use Rattle.cow_arena.specs.declared.node.Side.TheVariants as side
-use Rattle.cow_arena.specs.Nodes.{link_to, leads_to, child_on, side_of, side_in}
-use Rattle.cow_arena.specs.Walk.{Tree}
-use Rattle.cow_arena.specs.Forest.{IsForest}
+use Rattle.cow_split.proofs.Words.{◌≡◌, ◌≢◌, ℕ, ◌+◌, ◌-◌, ◌<◌, ◌≤◌, ◌^◌, Bool, true, false, List, [], ◌++◌, Option, None, Some, ◌⊎◌, inl}
+use Rattle.cow_split.proofs.Words.{inr, refl, sym, ap, ◌∙◌, subst, append_assoc, arith, IsSome, is_some, append-nil, Koid, some_same, Slot}
+use Rattle.cow_split.proofs.Words.{if◌then◌else◌, ◌∷◌, NodeId, Node, Side, link_to, leads_to, child_on, side_of, side_in, Tree, IsForest}
+use Rattle.cow_split.proofs.Words.{HasPair, viewers_from, Cursor, viewers_at, IsThrough, IsOnward, OnWay, at_start, to_left, to_right}
+use Rattle.cow_split.proofs.Words.{FoundBelow, IsPassed, GoesOn, IsAhead, IsMet, viewer_met}
 use Rattle.cow_arena.proofs.WalkLaws.{link_same}
 use Rattle.cow_arena.proofs.ReachLaws.{hidden-of-child, child-there, side-of-child}
-use Rattle.cow_split.specs.Search.{viewers_from}
-use Rattle.cow_split.specs.declared.viewers.Cursor.{Cursor}
-use Rattle.cow_split.specs.Searching.{viewers_at, IsThrough, IsOnward, OnWay, at_start, to_left, to_right, FoundBelow, IsPassed, GoesOn, IsAhead, IsMet, viewer_met}
-use Rattle.cow_split.proofs.SearchLaws.{IsOpen, viewed, further_down, enters-of-found, found-within, met-viewed, met-excepted, met-through, none-in, down-none, deeper-child}
+use Rattle.cow_split.proofs.SearchLaws.{IsOpen, viewed, further_down, enters-of-found, found-within, met-leaf, met-through, none-in}
+use Rattle.cow_split.proofs.SearchLaws.{down-none, deeper-child}
 
 module _ (t : Tree) (f : IsForest t.nodes t.lists) (except : Option NodeId) where
   -- ---- what is met at a node
@@ -43,29 +32,35 @@ module _ (t : Tree) (f : IsForest t.nodes t.lists) (except : Option NodeId) wher
       let none : is_some o ≡ false = ap is_some (is ∙ free) in
       cc)
 
-  -- a node without children is visible
-  visible-leaf : (k : ℕ) (node : Node) → t.nodes k ≡ Some node → node.left ≡ None → IsSome node.koid
-  visible-leaf k node at leaf = with_koid node.koid refl
+  -- a node that lacks a child is visible
+  pub visible-leaf : (k : ℕ) (node : Node) (s : Side) → t.nodes k ≡ Some node → child_on node s ≡ None → IsSome node.koid
+  visible-leaf k node s at leaf = with_koid node.koid refl
     where
+      lacks : (s : Side) → child_on node s ≡ None → HasPair t.nodes k node → ⊥
+      lacks Side.Left none pair = absurd (let left = pair.left_is in cc)
+      lacks Side.Right none pair = absurd (let right = pair.right_is in cc)
+
       with_koid : (o : Option Koid) → node.koid ≡ o → IsSome o
       with_koid (Some koid) e = refl
-      with_koid None e = absurd (let pair = f.by.pairs k node at e in let left = pair.left_is in cc)
+      with_koid None e = absurd (lacks s leaf (f.by.pairs k node at e))
 
   pub met-viewer : (k q p : ℕ) (node : Node) → t.nodes k ≡ Some node → q ≡ p + node.first → p < node.seen → t.slots node.list.0 p ≡ None →
       node.left ≡ None → IsMet t except k q (viewer_met (leads_to except k))
   met-viewer k q p node at page inside free leaf = with_test (leads_to except k) refl
     where
+      met : viewers_at t except (link_to k) q ≡ (if leads_to except k then [] else k ∷ [])
+      met = ap (viewers_at t except (link_to k)) page
+          ∙ (found-within t f except k p node at inside ∙ met-leaf t f except k p node (visible-leaf k node Side.Left at leaf) free)
+
       with_test : (b : Bool) → leads_to except k ≡ b → IsMet t except k q (viewer_met b)
-      with_test false e = ap (viewers_at t except (link_to k)) page ∙ (found-within t f except k p node at inside
-          ∙ met-viewed t f except k p node (visible-leaf k node at leaf) e free)
-      with_test true e = ap (viewers_at t except (link_to k)) page ∙ (found-within t f except k p node at inside
-          ∙ met-excepted t f except k p node (visible-leaf k node at leaf) e free)
+      with_test false e = met ∙ ap (λ (b : Bool). if b then [] else k ∷ []) e
+      with_test true e = met ∙ ap (λ (b : Bool). if b then [] else k ∷ []) e
 
   pub met-below : (k q p : ℕ) (node : Node) (left : NodeId) → t.nodes k ≡ Some node → q ≡ p + node.first → p < node.seen →
       t.slots node.list.0 p ≡ None → node.left ≡ Some left → IsOnward t k q left.0 p
   met-below k q p node left at page inside free is = record {
     node = node;
-    through = record { at = at; hidden = hidden-of-child t.nodes t.lists f k left.0 node side.Left at is; inside = inside; free = free };
+    through = record { at = at; hidden = hidden-of-child t.nodes t.lists f k left.0 node Side.Left at is; inside = inside; free = free };
     page = page;
     left = is;
   }
@@ -100,8 +95,8 @@ module _ (t : Tree) (f : IsForest t.nodes t.lists) (below : FoundBelow) where
       -- the node is there, and its page fits where the first one does
       way-there : (k q : ℕ) (after : List ℕ) → Way k q after → (node : Node) × (t.nodes k ≡ Some node)
       way-there k q after (at_start k' q' after' node at is page last) = (node, at)
-      way-there l p after (to_left l' p' after' k node rest way o left more) = let it = child-there t.nodes t.lists f k l node side.Left o.at left in (it.node, it.at)
-      way-there r p after (to_right r' p' after' k node way o right) = let it = child-there t.nodes t.lists f k r node side.Right o.at right in (it.node, it.at)
+      way-there l p after (to_left l' p' after' k node rest way o left more) = let it = child-there t.nodes t.lists f k l node Side.Left o.at left in (it.node, it.at)
+      way-there r p after (to_right r' p' after' k node way o right) = let it = child-there t.nodes t.lists f k r node Side.Right o.at right in (it.node, it.at)
 
       way-page : (k q : ℕ) (after : List ℕ) → Way k q after → q ≤ whole
       way-page k q after (at_start k' q' after' node at is page last) = omega arith
@@ -112,22 +107,18 @@ module _ (t : Tree) (f : IsForest t.nodes t.lists) (below : FoundBelow) where
       way-ranks : (k q : ℕ) (after : List ℕ) → Way k q after → f.rank start ≤ f.rank k
       way-ranks k q after (at_start k' q' after' node at is page last) = let same = ap f.rank is in omega arith
       way-ranks l p after (to_left l' p' after' k node rest way o left more) =
-          let deeper = deeper-child t.nodes t.slots t.lists f None k l node side.Left o.at left in
-          let above = way-ranks k (p + node.first) rest way in
-          omega arith
+          omega (arith, deeper-child t.nodes t.slots t.lists f None k l node Side.Left o.at left, way-ranks k (p + node.first) rest way)
       way-ranks r p after (to_right r' p' after' k node way o right) =
-          let deeper = deeper-child t.nodes t.slots t.lists f None k r node side.Right o.at right in
-          let above = way-ranks k (p + node.first) after way in
-          omega arith
+          omega (arith, deeper-child t.nodes t.slots t.lists f None k r node Side.Right o.at right, way-ranks k (p + node.first) after way)
 
       -- it is the first one, after which nothing comes, or further down
       way-deeper : (k q : ℕ) (after : List ℕ) → Way k q after → (after ≡ []) ⊎ (f.rank start < f.rank k)
       way-deeper k q after (at_start k' q' after' node at is page last) = inl last
       way-deeper l p after (to_left l' p' after' k node rest way o left more) =
-          let deeper = deeper-child t.nodes t.slots t.lists f None k l node side.Left o.at left in
+          let deeper = deeper-child t.nodes t.slots t.lists f None k l node Side.Left o.at left in
           inr (let above = way-ranks k (p + node.first) rest way in omega arith)
       way-deeper r p after (to_right r' p' after' k node way o right) =
-          let deeper = deeper-child t.nodes t.slots t.lists f None k r node side.Right o.at right in
+          let deeper = deeper-child t.nodes t.slots t.lists f None k r node Side.Right o.at right in
           inr (let above = way-ranks k (p + node.first) after way in omega arith)
 
       -- a node that was passed, but for the first one, is a child of a node on the way
@@ -183,8 +174,8 @@ module _ (t : Tree) (f : IsForest t.nodes t.lists) (below : FoundBelow) where
     pub passed-parent : (k q : ℕ) (after : List ℕ) (node : Node) → IsPassed t below start k q after → k ≢ start → t.nodes k ≡ Some node → node.parent ≡ None → ⊥
     passed-parent k q after node h apart at none =
         elim (came h.whole k q after h.way apart) [
-          | from_left j a rest way o left more ↦ no_parent j a side.Left o.at left
-          | from_right j a way o right ↦ no_parent j a side.Right o.at right
+          | from_left j a rest way o left more ↦ no_parent j a Side.Left o.at left
+          | from_right j a way o right ↦ no_parent j a Side.Right o.at right
         ]
       where
         no_parent : (j : ℕ) (a : Node) (s : Side) → t.nodes j ≡ Some a → child_on a s ≡ link_to k → ⊥
@@ -197,11 +188,11 @@ module _ (t : Tree) (f : IsForest t.nodes t.lists) (below : FoundBelow) where
     module _ (k q : ℕ) (after : List ℕ) (h : IsPassed t below start k q after) (apart : k ≢ start) (parent : ℕ) (node above : Node)
         (at : t.nodes k ≡ Some node) (parent_is : node.parent ≡ link_to parent) (above_at : t.nodes parent ≡ Some above) where
       -- after a left child comes the right one, which is there
-      pub passed-left : (r : ℕ) → side_of above k ≡ side.Left → above.right ≡ link_to r → GoesOn t below start r q after
+      pub passed-left : (r : ℕ) → side_of above k ≡ Side.Left → above.right ≡ link_to r → GoesOn t below start r q after
       passed-left r is right =
           elim (came h.whole k q after h.way apart) [
             | from_left j a rest way o left more ↦ (
-                let one = one-parent k j parent node a above side.Left o.at left at parent_is above_at in
+                let one = one-parent k j parent node a above Side.Left o.at left at parent_is above_at in
                 let right_is : a.right ≡ link_to r = ap (λ (n : Node). n.right) one.1 ∙ right in
                 record {
                   after = rest;
@@ -209,12 +200,12 @@ module _ (t : Tree) (f : IsForest t.nodes t.lists) (below : FoundBelow) where
                   ahead_is = more ∙ ap (λ o. below o q ++ rest) right_is;
                 })
             | from_right j a way o child ↦ (
-                let one = one-parent k j parent node a above side.Right o.at child at parent_is above_at in
-                let sides : side.Left ≡ side.Right = sym is ∙ one.2 in
+                let one = one-parent k j parent node a above Side.Right o.at child at parent_is above_at in
+                let sides : Side.Left ≡ Side.Right = sym is ∙ one.2 in
                 absurd (cc))
           ]
 
-      pub passed-pair : side_of above k ≡ side.Left → above.right ≡ None → ⊥
+      pub passed-pair : side_of above k ≡ Side.Left → above.right ≡ None → ⊥
       passed-pair is none =
           let hidden = (f.by.below parent k node at parent_is) in
           let same : hidden.above ≡ above = some_same (sym hidden.at ∙ above_at) in
@@ -223,15 +214,15 @@ module _ (t : Tree) (f : IsForest t.nodes t.lists) (below : FoundBelow) where
           cc
 
       -- after a right child both children were passed
-      pub passed-right : side_of above k ≡ side.Right → IsPassed t below start parent (q + above.first) after
+      pub passed-right : side_of above k ≡ Side.Right → IsPassed t below start parent (q + above.first) after
       passed-right is =
           elim (came h.whole k q after h.way apart) [
             | from_left j a rest way o child more ↦ (
-                let one = one-parent k j parent node a above side.Left o.at child at parent_is above_at in
-                let sides : side.Left ≡ side.Right = sym one.2 ∙ is in
+                let one = one-parent k j parent node a above Side.Left o.at child at parent_is above_at in
+                let sides : Side.Left ≡ Side.Right = sym one.2 ∙ is in
                 absurd (cc))
             | from_right j a way o child ↦ (
-                let one = one-parent k j parent node a above side.Right o.at child at parent_is above_at in
+                let one = one-parent k j parent node a above Side.Right o.at child at parent_is above_at in
                 let both : IsPassed t below start j (q + a.first) after = record { whole = h.whole; fits = h.fits; way = way } in
                 subst (λ (n : Node). IsPassed t below start parent (q + n.first) after) one.1
                 (subst (λ i. IsPassed t below start i (q + a.first) after) one.0 both))

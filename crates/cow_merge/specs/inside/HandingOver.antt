@@ -1,41 +1,29 @@
 -- The list of a hidden node goes over to one of its children: the hidden node's rows stay in the list, and the child's
 -- rows come to them.
-use Rattle.std.specs.Prelude.{◌≡◌, ℕ, ◌+◌, ◌<◌, ◌≤◌, Bool, false, if◌then◌else◌, Option, None, Some, IsSome}
-use Rattle.balanced_tree.specs.Pairs.{with_pair}
+use Rattle.std.specs.Prelude.{◌≡◌, ℕ, ◌<◌, ◌≤◌, Bool, false, Option, None, Some, IsSome}
 use Rattle.balanced_tree.specs.Rows.{Rows}
 use Rattle.vm_base.specs.declared.names.Tag.{Tag}
 use Rattle.page_list.specs.declared.row.Row.{Row}
 use Rattle.page_list.specs.declared.row.Slot.{Slot}
 use Rattle.page_list.specs.declared.row.Slot.TheVariants as slot
-use Rattle.page_list.specs.Lists.{slots_of, row_count}
-use Rattle.frame_pool.specs.Pool.{Pool, is_taken, links_of}
+use Rattle.page_list.specs.Lists.{slots_of}
+use Rattle.frame_pool.specs.Pool.{Pool}
 use Rattle.cow_arena.specs.declared.node.Node.{Node}
 use Rattle.cow_arena.specs.declared.node.Side.{Side}
 use Rattle.cow_arena.specs.Nodes.{Arena, nodes_of, side_of}
-use Rattle.cow_arena.specs.Renamed.{exchanged, AreExchanged}
+use Rattle.cow_arena.specs.Renamed.{exchanged}
 use Rattle.cow_arena.specs.Walk.{Slots, tree_with, frame_in}
 use Rattle.cow_arena.specs.Ways.{KeepsBelow}
 use Rattle.cow_split.specs.Trees.{tree_of}
-use Rattle.cow_split.specs.Exact.{without_frame}
 use Rattle.cow_split.specs.Sight.{ShowsSame}
-use Rattle.cow_merge.specs.Ranges.{bit_on, Accounts, GivesBack, IsNotFrom}
-use Rattle.cow_merge.specs.inside.Lifting.{IsFamilyOf, AreLifted, is_row_of_frame}
+use Rattle.cow_merge.specs.Ranges.{bit_on, Accounts, IsNotFrom}
+use Rattle.cow_merge.specs.inside.Lifting.{IsFamilyOf, AreLifted, IsBefore}
 use Rattle.cow_merge.specs.inside.Sharing.{IsReached}
 
 -- the frame of the row that a page has, if it has one
 abbrev pub frame_there : Option Slot → Option ℕ
 frame_there None = None
 frame_there (Some row) = frame_in row
-
--- the page of the list has this row, the backlink of the row's frame leads to it, and the frame of the row that it had
--- is free
-pub record HasRowPut (old new : Rows Row) (before after : Pool) (l q : ℕ) (row : Slot) : Type 0 where
-  pub slots : slots_of new ≡ with_pair (slots_of old) l q (Some row)
-  pub taken : (t : ℕ) → is_taken after t ≡ without_frame (is_taken before) (frame_there (slots_of old l q)) t
-  pub gives : GivesBack before after
-  pub links : (t : ℕ) → links_of after t ≡ (if is_row_of_frame t row then record { list = l; page = q } else links_of before t)
-  pub spare : old.spare ≤ new.spare + 1
-  pub count : row_count new ≤ row_count old + 1
 
 -- no row of the pages `first` to below `end` of the parent, if it has a frame, says that nobody sees it from the side
 -- of the child k
@@ -44,9 +32,10 @@ pub record AreSeenFrom (slots : Slots) (parent : Node) (k first end : ℕ) : Typ
       bit_on (side_of parent k) left right ≡ false
 
 -- The list of h, the parent of the VMO's node k, goes over to the other child s of h. `slots` is what the rows would be
--- if each row of h below page `from` had moved into the list of s. The tree is exact with `slots`. In fact those rows
--- are still in the list of h, and the rows of s at these pages are too: below `from` the two lists are exchanged.
-pub record IsHandingOver (arena : Arena) (old new : Rows Row) (before after : Pool) (k h s from : ℕ) : Type 0 where
+-- if each row of h below page `from` had moved into the list of s, or each row without a `from`. The tree is exact with
+-- `slots`. In fact those rows are still in the list of h, and the rows of s at these pages are too: before `from` the two
+-- lists are exchanged.
+pub record IsHandingOver (arena : Arena) (old new : Rows Row) (before after : Pool) (k h s : ℕ) (from : Option ℕ) : Type 0 where
   pub of : IsFamilyOf arena k h s
   pub slots : Slots
   pub lifted : AreLifted arena slots after k h of.node
@@ -55,29 +44,10 @@ pub record IsHandingOver (arena : Arena) (old new : Rows Row) (before after : Po
   pub first : of.sibling.first ≡ 0
   pub shared : of.sibling.koid ≡ None → (q : ℕ) → IsSome (slots of.parent.list.0 q) → (side : Side) →
       IsReached (tree_with (nodes_of arena) arena.lists slots) side s q
-  pub passed : (l p : ℕ) → p < from → slots_of new l p ≡ slots (exchanged of.parent.list.0 of.sibling.list.0 l) p
-  pub ahead : (l p : ℕ) → from ≤ p → slots_of new l p ≡ slots l p
-  pub empty : (p : ℕ) → p < from → slots of.parent.list.0 p ≡ None
+  pub passed : (l p : ℕ) → IsBefore from p → slots_of new l p ≡ slots (exchanged of.parent.list.0 of.sibling.list.0 l) p
+  pub ahead : (l p : ℕ) → (IsBefore from p → ⊥) → slots_of new l p ≡ slots l p
+  pub empty : (p : ℕ) → IsBefore from p → slots of.parent.list.0 p ≡ None
   -- both children see the rows of h that are left, unless s has a row of its own there
   pub inside : (q : ℕ) → IsSome (slots of.parent.list.0 q) → q < of.sibling.seen
   pub seen : (end : ℕ) → AreSeenFrom slots of.parent k 0 end
-  pub accounts : Accounts old new before after
-
--- The same, with all rows of s below some page at or past `from` gone from its list.
-pub record IsHandedUpTo (arena : Arena) (old new : Rows Row) (before after : Pool) (k h s from : ℕ) : Type 0 where
-  pub at : ℕ
-  pub handing : IsHandingOver arena old new before after k h s at
-  pub low : from ≤ at
-  pub none : (p : ℕ) → from ≤ p → p < at → slots_of new handing.of.sibling.list.0 p ≡ None
-
--- All rows of h have gone over. The tree is exact with `slots`, in which h has no rows. The rows are `slots` with the
--- lists of h and s exchanged.
-pub record HasHandedOver (arena : Arena) (old new : Rows Row) (before after : Pool) (k h s : ℕ) : Type 0 where
-  pub of : IsFamilyOf arena k h s
-  pub slots : Slots
-  pub lifted : AreLifted arena slots after k h of.node
-  pub shows : ShowsSame (tree_of arena old) (tree_with (nodes_of arena) arena.lists slots) (IsNotFrom k 0)
-  pub below : KeepsBelow (slots_of old) slots of.parent of.sibling
-  pub empty : (p : ℕ) → slots of.parent.list.0 p ≡ None
-  pub rows : AreExchanged slots (slots_of new) of.parent.list.0 of.sibling.list.0
   pub accounts : Accounts old new before after

@@ -1,23 +1,22 @@
 -- The rows of a hidden node of which one child goes: each row goes too, or moves into the list of the other child.
-use Rattle.std.specs.Prelude.{◌≡◌, ◌↔◌, ℕ, ◌+◌, ◌-◌, ◌<◌, ◌≤◌, ◌==◌, Bool, true, false, not, if◌then◌else◌, Option, None, Some, IsSome, IfSome, IsTrue}
-use Rattle.balanced_tree.specs.Pairs.{with_pair}
+use Rattle.std.specs.Prelude.{◌≡◌, ◌↔◌, ℕ, ◌+◌, ◌-◌, ◌<◌, ◌≤◌, ◌==◌, Bool, true, false, not, Option, None, Some, IsSome, IfSome, IsTrue}
 use Rattle.balanced_tree.specs.Rows.{Rows}
 use Rattle.vm_base.specs.Entries.{passes}
 use Rattle.vm_base.specs.declared.names.Tag.{Tag}
 use Rattle.page_list.specs.declared.row.Row.{Row}
 use Rattle.page_list.specs.declared.row.Slot.{Slot}
 use Rattle.page_list.specs.declared.row.Slot.TheVariants as slot
-use Rattle.page_list.specs.Lists.{slots_of, row_count}
-use Rattle.frame_pool.specs.Pool.{Pool, taken_frames, links_of, is_taken}
+use Rattle.page_list.specs.Lists.{slots_of}
+use Rattle.frame_pool.specs.Pool.{Pool, is_taken}
 use Rattle.cow_arena.specs.declared.node.Node.{Node}
+use Rattle.cow_arena.specs.declared.node.Side.{Side}
 use Rattle.cow_arena.specs.declared.node.Side.TheVariants as side
-use Rattle.cow_arena.specs.Nodes.{Arena, nodes_of, AreFamily, IsVisible, side_of}
+use Rattle.cow_arena.specs.Nodes.{Arena, nodes_of, AreFamily, IsVisible}
 use Rattle.cow_arena.specs.Walk.{Slots, Tree, tree_with, frame_in, frame_shown}
 use Rattle.cow_arena.specs.Ways.{KeepsBelow}
-use Rattle.cow_split.specs.Trees.{tree_of}
 use Rattle.cow_split.specs.Search.{reached_from}
 use Rattle.cow_split.specs.Exact.{IsExact, IsOnlyOf}
-use Rattle.cow_merge.specs.Ranges.{bit_on, Moves, HasGiven, IsHeldBy}
+use Rattle.cow_merge.specs.Ranges.{bit_on, IsHeldBy}
 
 -- each page of node k that comes to page q of its parent is left out of sight; `node` is k
 abbrev pub IsAside : (ℕ → ℕ → Bool) → (k : ℕ) → Node → (q : ℕ) → Type 0
@@ -65,39 +64,17 @@ pub record IsLifting (arena : Arena) (rows : Rows Row) (pool : Pool) (k h s : �
   pub of : IsFamilyOf arena k h s
   pub lifted : AreLifted arena (slots_of rows) pool k h of.node
 
--- some did, and more of them may
-pub record HasLifted (arena : Arena) (old new : Rows Row) (before after : Pool) (k h s : ℕ) : Type 0 where
-  pub now : IsLifting arena new after k h s
-  pub moves : Moves arena old new before after k 0
-  pub rows : KeepsBelow (slots_of old) (slots_of new) now.of.parent now.of.sibling
+-- Rows of h went or moved so, and those that are left in the list of h are as they were.
+pub record KeepsFamily (arena : Arena) (k h s : ℕ) (old new : Slots) : Type 0 where
+  pub below : (of : IsFamilyOf arena k h s) → KeepsBelow old new of.parent of.sibling
+  pub left : (parent : Node) → nodes_of arena h ≡ Some parent → (p : ℕ) (row : Slot) → new parent.list.0 p ≡ Some row → old parent.list.0 p ≡ Some row
 
 -- the page is below `to`, if there is a `to`
 abbrev pub IsBefore : Option ℕ → ℕ → Type 0
 IsBefore to p = IfSome to (λ (end : ℕ). p < end)
 
--- Whether the row of page q of a hidden node is seen through its child s. For a row with a frame the bit of that side
--- says so. A zero row is seen through the child if and only if the child itself sees it.
-pub record TellsSeen (slots : Slots) (parent : Node) (s : ℕ) (node : Node) (q : ℕ) (row : Slot) (seen : Bool) : Type 0 where
-  pub frame : (tag : Tag) (left right : Bool) → row ≡ slot.Frame tag left right → seen ≡ not (bit_on (side_of parent s) left right)
+-- Whether the row of page q of a hidden node is seen through its child on this side. For a row with a frame the bit of
+-- the side says so. A zero row is seen through the child if and only if the child itself sees it.
+pub record TellsSeen (slots : Slots) (side : Side) (node : Node) (q : ℕ) (row : Slot) (seen : Bool) : Type 0 where
+  pub frame : (tag : Tag) (left right : Bool) → row ≡ slot.Frame tag left right → seen ≡ not (bit_on side left right)
   pub zero : row ≡ slot.Zero → IsTrue seen ↔ SeesRow slots node q
-
--- the row, which was taken out, is in the list of node s, at the page of s that comes to page q
-pub record HasLiftedRow (arena : Arena) (old new : Rows Row) (before after : Pool) (s : ℕ) (node : Node) (q : ℕ) (row : Slot) : Type 0 where
-  pub now : Slot
-  pub moved : IsMoved (tree_of arena old) s (q - node.first) node row now
-  pub slots : slots_of new ≡ with_pair (slots_of old) node.list.0 (q - node.first) (Some now)
-  pub taken : taken_frames after ≡ taken_frames before
-  pub frames : after.frames ≡ before.frames
-  pub links : (t : ℕ) → links_of after t ≡
-      (if is_row_of_frame t now then record { list = node.list.0; page = q - node.first } else links_of before t)
-  pub spare : old.spare ≤ new.spare + 1
-  pub count : row_count new ≤ row_count old + 1
-
--- The row of page q of a hidden node was taken out. If it is seen through the child s, it has moved into the list of s.
--- Otherwise it is gone, and its frame is free.
-pub record HasSettled (arena : Arena) (old new : Rows Row) (before after : Pool) (parent : Node) (s : ℕ) (node : Node) (q : ℕ)
-    (row : Slot) : Type 0 where
-  pub seen : Bool
-  pub tells : TellsSeen (slots_of old) parent s node q row seen
-  pub gone : seen ≡ false → (new ≡ old) × HasGiven before after (frame_in row)
-  pub moves : seen ≡ true → HasLiftedRow arena old new before after s node q row

@@ -1,7 +1,4 @@
-use Rattle.std.proofs.Common.{◌∙◌, ap}
-use Rattle.std.specs.Prelude.{is_some}
-use Rattle.cow_arena.specs.Nodes.{link_to}
-use Rattle.cow_arena.specs.Changes.{hidden_over, below_hidden}
+use Rattle.cow_arena.proofs.Words.{◌∙◌, ap, is_some, link_to, hidden_over, below_hidden}
 use Rattle.cow_arena.proofs.SlotLaws.{pair_order}
 use Rattle.cow_arena.proofs.arena.put_pair.Goals as goal
 

@@ -1,7 +1,5 @@
-use Rattle.std.proofs.Common.{ap}
-use Rattle.cow_arena.specs.Walk.{frame_found}
+use Rattle.cow_forest.proofs.Words.{ap, frame_found, tree_of}
 use Rattle.cow_arena.proofs.WalkLaws.{walk-past}
-use Rattle.cow_split.specs.Trees.{tree_of}
 use Rattle.cow_fork.proofs.HolderLaws.{held-shown}
 use Rattle.cow_forest.proofs.LookLaws.{shows-frame}
 use Rattle.cow_forest.proofs.looking.frame_upwards.Goals as goal

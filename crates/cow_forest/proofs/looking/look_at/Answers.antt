@@ -1,6 +1,4 @@
-use Rattle.std.proofs.Common.{sym, subst, ◌∙◌}
-use Rattle.cow_split.specs.Trees.{tree_of}
-use Rattle.cow_forest.specs.inside.Looking.{IsLook}
+use Rattle.cow_forest.proofs.Words.{sym, subst, ◌∙◌, tree_of, IsLook}
 use Rattle.cow_forest.proofs.LookLaws.{row-look}
 use Rattle.cow_forest.proofs.looking.look_at.Goals as goal
 

@@ -1,7 +1,5 @@
-use Rattle.std.proofs.Common.{ap}
-use Rattle.cow_arena.specs.Walk.{frame_found}
+use Rattle.cow_forest.proofs.Words.{ap, frame_found, tree_of}
 use Rattle.cow_arena.proofs.WalkLaws.{walk-past}
-use Rattle.cow_split.specs.Trees.{tree_of}
 use Rattle.cow_forest.proofs.looking.look_upwards.Goals as goal
 
 pub returns-then-look-page : goal.returns-then-look-page

@@ -1,6 +1,6 @@
-use Rattle.std.proofs.Common.{arith}
-use Rattle.cow_split.specs.Trees.{tree_of}
-use Rattle.cow_forest.proofs.NextLaws.{row-past, look-start, look-passed, look-up, look-some, look-none, look-fits, look-there, look-window, look-less}
+use Rattle.cow_forest.proofs.Words.{arith, tree_of}
+use Rattle.cow_forest.proofs.NextLaws.{row-past, look-start, look-passed, look-up, look-some, look-none, look-fits, look-there, look-window}
+use Rattle.cow_forest.proofs.NextLaws.{look-less}
 use Rattle.cow_forest.proofs.looking.next_row.Goals as goal
 
 pub loop-here-init : goal.loop-here-init

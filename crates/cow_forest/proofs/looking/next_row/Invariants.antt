@@ -1,6 +1,4 @@
-use Rattle.cow_arena.specs.Nodes.{nodes_of}
-use Rattle.cow_split.specs.Trees.{tree_of}
-use Rattle.cow_split.specs.Cost.{nodes_up}
+use Rattle.cow_forest.proofs.Words.{nodes_of, tree_of, nodes_up}
 use Rattle.cow_forest.proofs.NextLaws.{IsLookingUp}
 use Rattle.cow_forest.proofs.looking.next_row.Given as goal
 

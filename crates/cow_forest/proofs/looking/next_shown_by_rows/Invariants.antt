@@ -1,6 +1,4 @@
-use Rattle.std.proofs.Common.{◌-◌, ◌^◌, ◌≤◌}
-use Rattle.cow_split.specs.Trees.{tree_of}
-use Rattle.cow_forest.specs.inside.Looking.{ShowsNoneIn}
+use Rattle.cow_forest.proofs.Words.{◌-◌, ◌^◌, ◌≤◌, tree_of, ShowsNoneIn}
 use Rattle.cow_forest.proofs.looking.next_shown_by_rows.Given as goal
 
 abbrev pub invariant-loop-page : goal.invariant-loop-page

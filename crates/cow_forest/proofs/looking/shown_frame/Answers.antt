@@ -1,6 +1,4 @@
-use Rattle.std.proofs.Common.{sym, subst, ◌∙◌}
-use Rattle.cow_split.specs.Trees.{tree_of}
-use Rattle.cow_forest.specs.inside.Looking.{ShowsFrameOrNone}
+use Rattle.cow_forest.proofs.Words.{sym, subst, ◌∙◌, tree_of, ShowsFrameOrNone}
 use Rattle.cow_forest.proofs.LookLaws.{row-frame}
 use Rattle.cow_forest.proofs.looking.shown_frame.Goals as goal
 

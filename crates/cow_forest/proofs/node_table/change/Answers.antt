@@ -1,4 +1,4 @@
-use Rattle.cow_forest.specs.Tables.{displaced_in}
+use Rattle.cow_forest.proofs.Words.{displaced_in}
 use Rattle.cow_forest.proofs.TableLaws.{from_ok, ok-there, displaced-put}
 use Rattle.cow_forest.proofs.node_table.change.Goals as goal
 

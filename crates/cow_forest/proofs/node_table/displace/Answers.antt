@@ -1,4 +1,4 @@
-use Rattle.std.proofs.Common.{sym, ◌∙◌}
+use Rattle.cow_forest.proofs.Words.{sym, ◌∙◌}
 use Rattle.cow_forest.proofs.PlaceLaws.{displaced-other, displaced-none}
 use Rattle.cow_forest.proofs.node_table.displace.Goals as goal
 

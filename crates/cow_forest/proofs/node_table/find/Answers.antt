@@ -1,5 +1,4 @@
-use Rattle.std.proofs.Common.{sym}
-use Rattle.cow_forest.specs.Tables.{displaced_in}
+use Rattle.cow_forest.proofs.Words.{sym, displaced_in}
 use Rattle.cow_forest.proofs.node_table.find.Goals as goal
 
 pub returns-in-Some : goal.returns-in-Some

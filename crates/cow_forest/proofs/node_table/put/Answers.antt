@@ -1,4 +1,4 @@
-use Rattle.std.proofs.Common.{arith}
+use Rattle.cow_forest.proofs.Words.{arith}
 use Rattle.cow_forest.proofs.TableLaws.{from_ok, displaced-put}
 use Rattle.cow_forest.proofs.node_table.put.Goals as goal
 

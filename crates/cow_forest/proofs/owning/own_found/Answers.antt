@@ -1,5 +1,5 @@
 use Rattle.cow_fork.proofs.LeafLaws.{leaf-is}
-use Rattle.cow_forest.proofs.OwningLaws.{bare-own, unowned, forked-taken, owned-forked}
+use Rattle.cow_forest.proofs.OwningLaws.{bare-own, unowned, forked-taken, owned-forked, linked-forked}
 use Rattle.cow_forest.proofs.owning.own_found.Goals as goal
 
 pub fork_holder-tag-requires-clause-unowned : goal.fork_holder-tag-requires-clause-unowned
@@ -11,10 +11,17 @@ fork_holder-tag-requires-clause-unowned c =
 pub set_backlink-requires : goal.set_backlink-requires
 set_backlink-requires c =
     let leaf = leaf-is c.args.arena.now c.args.lists.now c.args.leaf.0 c.args.page c.look.result.now c.requires.exact.forest c.requires.page c.look.ensures in
-    forked-taken leaf c.args.frames.now c.requires.exact c.requires.linked _ _ c.fork_holder-tag.new.frames c.fork_holder-tag.result c.fork_holder-tag.ensures
+    forked-taken leaf c.args.frames.now c.requires.exact c.requires.linked _ _ c.fork_holder-tag.new.frames c.fork_holder-tag.result c.fork_holder-tag.ensures.owned
+    c.fork_holder-tag.ensures.row
 
 pub returns : goal.returns
 returns c =
     let leaf = leaf-is c.args.arena.now c.args.lists.now c.args.leaf.0 c.args.page c.look.result.now c.requires.exact.forest c.requires.page c.look.ensures in
-    owned-forked leaf c.args.frames.now c.requires.exact c.requires.linked _ _ c.set_backlink.new.self c.fork_holder-tag.result c.fork_holder-tag.ensures
-    c.set_backlink.ensures.frames c.set_backlink.ensures.taken c.set_backlink.ensures.links
+    let forked = c.fork_holder-tag.ensures in
+    record {
+      owned = owned-forked leaf c.args.frames.now c.requires.exact c.requires.linked _ _ c.set_backlink.new.self c.fork_holder-tag.result forked.owned forked.row
+          c.set_backlink.ensures.frames c.set_backlink.ensures.taken;
+      linked = linked-forked leaf c.args.frames.now c.requires.exact c.requires.linked _ _ c.set_backlink.new.self c.fork_holder-tag.result forked.owned forked.row
+          forked.stood forked.links c.set_backlink.ensures.links;
+      row = λ room. forked.row;
+    }

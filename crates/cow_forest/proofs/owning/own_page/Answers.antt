@@ -1,6 +1,5 @@
-use Rattle.std.proofs.Common.{sym, ap, ◌∙◌}
+use Rattle.cow_forest.proofs.Words.{sym, ap, ◌∙◌, holder_of}
 use Rattle.cow_arena.proofs.WalkLaws.{walk-row}
-use Rattle.cow_split.specs.Trees.{holder_of}
 use Rattle.cow_forest.proofs.owning.own_page.Goals as goal
 
 pub own_row-requires-clause-found : goal.own_row-requires-clause-found

@@ -1,11 +1,12 @@
-use Rattle.std.proofs.Common.{◌∙◌, arith}
-use Rattle.cow_forest.proofs.RangeLaws.{zeroed-none, zeroed-then, ready-page, ready-on, ready-room, zero-on}
+use Rattle.cow_forest.proofs.Words.{refl, ◌∙◌, arith}
+use Rattle.cow_fork.proofs.ZeroLaws.{zeroed-none}
+use Rattle.cow_forest.proofs.RangeLaws.{zeroed-then, ready-page, ready-on, ready-room, zero-on}
 use Rattle.cow_forest.proofs.JumpKeptLaws.{jumps-zeroed}
 use Rattle.cow_forest.proofs.ranges.zero_in_turn.Goals as goal
 
 pub loop-run-init : goal.loop-run-init
 loop-run-init c =
-    let first = c.first_to_zero-run.ensures in record { range = first.range; some = zeroed-none _ _ _ _ _ _ c.requires.ready.exact; zero = first.none }
+    let first = c.first_to_zero-run.ensures in record { range = first.range; some = zeroed-none _ _ _ _ _ _ _ c.requires.ready.exact refl refl; zero = first.none }
 
 pub zero_next-run-requires-clause-page : goal.zero_next-run-requires-clause-page
 zero_next-run-requires-clause-page c =

@@ -1,12 +1,10 @@
-use Rattle.std.proofs.Common.{◌≡◌, ◌-◌, ◌≤◌}
-use Rattle.cow_split.specs.Trees.{tree_of}
-use Rattle.cow_forest.specs.Ranges.{HasZeroedSome, AreZero}
+use Rattle.cow_forest.proofs.Words.{◌≡◌, ◌-◌, ◌≤◌, tree_of, HasZeroed, AreZero}
 use Rattle.cow_forest.proofs.ranges.zero_in_turn.Given as goal
 
 abbrev pub invariant-loop-run : goal.invariant-loop-run
 invariant-loop-run l = record {
   range : (l.fn.pages.from ≤ l.run.from) × (l.run.from ≤ l.fn.pages.end) × (l.run.end ≡ l.fn.pages.end);
-  some : HasZeroedSome l.arena l.fn.lists l.lists l.fn.frames l.frames l.leaf.0 l.fn.pages.from l.fn.pages.end;
+  some : HasZeroed l.arena l.fn.lists l.lists l.fn.frames l.frames l.leaf.0 l.fn.pages.from l.fn.pages.end;
   zero : AreZero (tree_of l.arena l.lists) l.leaf.0 l.fn.pages.from l.run.from;
 }
 

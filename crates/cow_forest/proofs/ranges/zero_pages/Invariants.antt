@@ -1,5 +1,4 @@
-use Rattle.cow_arena.specs.Nodes.{nodes_of}
-use Rattle.cow_split.specs.Cost.{nodes_up}
+use Rattle.cow_forest.proofs.Words.{nodes_of, nodes_up}
 use Rattle.cow_forest.proofs.RisingLaws.{IsRising}
 use Rattle.cow_forest.proofs.ranges.zero_pages.Given as goal
 

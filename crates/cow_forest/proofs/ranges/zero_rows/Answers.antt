@@ -1,4 +1,4 @@
-use Rattle.std.proofs.Common.{refl, arith}
+use Rattle.cow_forest.proofs.Words.{refl, arith}
 use Rattle.cow_forest.proofs.RangeLaws.{sweep-some, sweep-leaf, sweep-room, sweep-on}
 use Rattle.cow_forest.proofs.JumpKeptLaws.{jumps-zeroed}
 use Rattle.cow_forest.proofs.ranges.zero_rows.Goals as goal

@@ -1,4 +1,4 @@
-use Rattle.std.proofs.Common.{◌-◌}
+use Rattle.cow_forest.proofs.Words.{◌-◌}
 use Rattle.cow_forest.proofs.RangeLaws.{IsSweeping}
 use Rattle.cow_forest.proofs.ranges.zero_rows.Given as goal
 

@@ -1,7 +1,5 @@
 -- The list of the node leaves, and that of its parent leads to its sibling.
-use Rattle.std.proofs.Common.{refl, ap, arith}
-use Rattle.std.specs.Prelude.{is_some}
-use Rattle.cow_arena.specs.Nodes.{nodes_of}
+use Rattle.cow_forest.proofs.Words.{refl, ap, arith, is_some, nodes_of}
 use Rattle.cow_arena.proofs.RenamedOverLaws.{family-found}
 use Rattle.cow_forest.proofs.TableLaws.{disowned-root, disowned-led, merged-led, owner-stays}
 use Rattle.cow_forest.proofs.tables.disown.Goals as goal

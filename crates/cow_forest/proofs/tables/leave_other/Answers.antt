@@ -1,6 +1,5 @@
 -- The list that leaves is no node's.
-use Rattle.cow_arena.specs.Nodes.{nodes_of}
-use Rattle.cow_forest.specs.Tables.{HasOneOf}
+use Rattle.cow_forest.proofs.Words.{nodes_of, HasOneOf}
 use Rattle.cow_forest.proofs.TableLaws.{gone-apart, left-others}
 use Rattle.cow_forest.proofs.tables.leave_other.Goals as goal
 

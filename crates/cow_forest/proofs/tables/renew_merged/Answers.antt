@@ -1,6 +1,5 @@
 -- The node is there.
-use Rattle.std.proofs.Common.{ap}
-use Rattle.std.specs.Prelude.{is_some}
+use Rattle.cow_forest.proofs.Words.{ap, is_some}
 use Rattle.cow_forest.proofs.tables.renew_merged.Goals as goal
 
 pub renew_jump-requires-clause-node : goal.renew_jump-requires-clause-node

@@ -1,5 +1,4 @@
-use Rattle.std.proofs.Common.{sym, ◌∙◌}
-use Rattle.cow_split.specs.Trees.{tree_of}
+use Rattle.cow_forest.proofs.Words.{sym, ◌∙◌, tree_of}
 use Rattle.cow_forest.proofs.ViewingLaws.{least-own, least-above}
 use Rattle.cow_forest.proofs.viewing.least_koid_of.Goals as goal
 

@@ -1,10 +1,5 @@
-use Rattle.std.proofs.Common.{Some, None, refl, subst, arith}
-use Rattle.std.specs.Prelude.{MatchOption}
-use Rattle.cow_arena.specs.declared.node.Side.{Side}
-use Rattle.cow_arena.specs.Nodes.{nodes_of}
-use Rattle.cow_split.specs.Trees.{tree_of}
-use Rattle.cow_split.specs.Search.{viewers_from}
-use Rattle.cow_split.specs.Viewers.{IsBelowAll, HasLesser}
+use Rattle.cow_forest.proofs.Words.{Some, None, refl, subst, arith, MatchOption, Side, nodes_of, tree_of, IsBelowAll, HasLesser}
+use Rattle.cow_forest.proofs.Words.{viewers_from}
 use Rattle.cow_forest.proofs.ViewingLaws.{lesser-own, lesser-above, lesser-beside}
 use Rattle.cow_forest.proofs.viewing.lesser_koid_of.Goals as goal
 

@@ -1,5 +1,4 @@
-use Rattle.std.proofs.Common.{sym, ◌∙◌}
-use Rattle.cow_split.specs.Trees.{tree_of}
+use Rattle.cow_forest.proofs.Words.{sym, ◌∙◌, tree_of}
 use Rattle.cow_fork.proofs.LeafLaws.{leaf-is}
 use Rattle.cow_fork.proofs.HolderLaws.{held-shown, own-row}
 use Rattle.cow_forest.proofs.ViewingLaws.{held-hidden, held-frame, count-own}

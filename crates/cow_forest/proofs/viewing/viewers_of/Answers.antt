@@ -1,5 +1,4 @@
-use Rattle.std.proofs.Common.{arith}
-use Rattle.cow_split.specs.Trees.{tree_of}
+use Rattle.cow_forest.proofs.Words.{arith, tree_of}
 use Rattle.cow_forest.proofs.ViewingLaws.{both-few, count-above}
 use Rattle.cow_forest.proofs.viewing.viewers_of.Goals as goal
 

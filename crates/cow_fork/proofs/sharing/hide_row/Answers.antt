@@ -1,6 +1,4 @@
-use Rattle.std.proofs.Common.{Some, sym, ap, ◌∙◌}
-use Rattle.std.specs.Option.{option_map}
-use Rattle.cow_fork.specs.Snapshots.{hidden_row}
+use Rattle.cow_fork.proofs.Words.{Some, sym, ap, ◌∙◌, option_map, hidden_row}
 use Rattle.cow_fork.proofs.BitLaws.{hidden-frame, hidden-plain}
 use Rattle.cow_fork.proofs.sharing.hide_row.Goals as goal
 

@@ -1,6 +1,4 @@
-use Rattle.std.proofs.Common.{◌+◌, sym, ap, ◌∙◌}
-use Rattle.page_list.specs.Lists.{slots_of}
-use Rattle.cow_fork.specs.Snapshots.{hidden_slots}
+use Rattle.cow_fork.proofs.Words.{◌+◌, sym, ap, ◌∙◌, slots_of, hidden_slots}
 use Rattle.cow_fork.proofs.BitLaws.{hidden-none, hidden-step}
 use Rattle.cow_fork.proofs.sharing.hide_rows.Goals as goal
 

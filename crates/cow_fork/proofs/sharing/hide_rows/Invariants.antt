@@ -1,6 +1,4 @@
-use Rattle.std.proofs.Common.{◌≡◌, ◌-◌}
-use Rattle.page_list.specs.Lists.{slots_of, row_count}
-use Rattle.cow_fork.specs.Snapshots.{hidden_slots}
+use Rattle.cow_fork.proofs.Words.{◌≡◌, ◌-◌, slots_of, row_count, hidden_slots}
 use Rattle.cow_fork.proofs.sharing.hide_rows.Given as goal
 
 -- what is left of the range leads to what the whole range does

@@ -1,4 +1,4 @@
-use Rattle.std.proofs.Common.{arith}
+use Rattle.cow_fork.proofs.Words.{arith}
 use Rattle.cow_fork.proofs.sharing.next_below.Goals as goal
 
 pub returns-in-Some-clause-some : goal.returns-in-Some-clause-some

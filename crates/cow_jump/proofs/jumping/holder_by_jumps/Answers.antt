@@ -1,6 +1,5 @@
-use Rattle.std.proofs.Common.{sym, ap, ◌∙◌}
+use Rattle.cow_jump.proofs.Words.{sym, ap, ◌∙◌, holder_of}
 use Rattle.cow_arena.proofs.WalkLaws.{walk-row}
-use Rattle.cow_split.specs.Trees.{holder_of}
 use Rattle.cow_jump.proofs.jumping.holder_by_jumps.Goals as goal
 
 pub returns-in-Some : goal.returns-in-Some

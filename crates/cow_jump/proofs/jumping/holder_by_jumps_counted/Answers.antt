@@ -1,6 +1,5 @@
-use Rattle.std.proofs.Common.{sym, ap}
+use Rattle.cow_jump.proofs.Words.{sym, ap, tree_of, holder_of}
 use Rattle.cow_arena.proofs.WalkLaws.{walk-row}
-use Rattle.cow_split.specs.Trees.{tree_of, holder_of}
 use Rattle.cow_jump.proofs.JumpLaws.{cost_of_one}
 use Rattle.cow_jump.proofs.jumping.holder_by_jumps_counted.Goals as goal
 

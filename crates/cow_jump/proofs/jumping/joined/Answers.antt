@@ -1,5 +1,4 @@
-use Rattle.std.proofs.Common.{refl, arith}
-use Rattle.cow_split.specs.Trees.{tree_of}
+use Rattle.cow_jump.proofs.Words.{refl, arith, tree_of}
 use Rattle.cow_jump.proofs.JumpLaws.{joined-jump}
 use Rattle.cow_jump.proofs.jumping.joined.Goals as goal
 

@@ -1,4 +1,4 @@
-use Rattle.std.proofs.Common.{arith}
+use Rattle.cow_jump.proofs.Words.{arith}
 use Rattle.cow_jump.proofs.jumping.jump_of.Goals as goal
 
 pub returns-in-Some : goal.returns-in-Some

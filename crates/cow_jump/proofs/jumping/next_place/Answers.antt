@@ -1,5 +1,4 @@
-use Rattle.std.proofs.Common.{arith}
-use Rattle.cow_split.specs.Trees.{tree_of}
+use Rattle.cow_jump.proofs.Words.{arith, tree_of}
 use Rattle.cow_split.proofs.CostLaws.{parent-there}
 use Rattle.cow_jump.proofs.JumpLaws.{served-rises, step-rises, window-fits}
 use Rattle.cow_jump.proofs.jumping.next_place.Goals as goal

@@ -1,6 +1,4 @@
-use Rattle.std.proofs.Common.{subst, sym}
-use Rattle.cow_split.specs.Trees.{tree_of}
-use Rattle.cow_jump.specs.Jumps.{IsJump}
+use Rattle.cow_jump.proofs.Words.{subst, sym, tree_of, IsJump}
 use Rattle.cow_jump.proofs.JumpLaws.{given-jumps, joined-new, some-jump}
 use Rattle.cow_jump.proofs.jumping.note_jump.Goals as goal
 

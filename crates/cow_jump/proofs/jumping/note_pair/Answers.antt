@@ -1,4 +1,4 @@
-use Rattle.std.proofs.Common.{◌∙◌}
+use Rattle.cow_jump.proofs.Words.{◌∙◌}
 use Rattle.cow_jump.proofs.jumping.note_pair.Goals as goal
 
 pub note_jump-requires-2-clause-further : goal.note_jump-requires-2-clause-further

@@ -1,6 +1,5 @@
 -- The parent is there.
-use Rattle.std.proofs.Common.{ap}
-use Rattle.std.specs.Prelude.{is_some}
+use Rattle.cow_jump.proofs.Words.{ap, is_some}
 use Rattle.cow_jump.proofs.jumping.renew_jump.Goals as goal
 
 pub way_of-requires-clause-node : goal.way_of-requires-clause-node

@@ -1,6 +1,4 @@
-use Rattle.std.proofs.Common.{sym, ap}
-use Rattle.std.specs.Prelude.{is_some}
-use Rattle.cow_split.specs.Trees.{tree_of, holder_of}
+use Rattle.cow_jump.proofs.Words.{sym, ap, is_some, tree_of, holder_of}
 use Rattle.cow_jump.proofs.JumpLaws.{rising-start, rises-there, rise-past, rise-ended, rise-found, rise-cost, rise-on, rise-less}
 use Rattle.cow_jump.proofs.jumping.rise.Goals as goal
 

@@ -1,7 +1,5 @@
 use Rattle.page_list.specs.Lists.{row_count}
-use Rattle.cow_arena.specs.Nodes.{nodes_of}
-use Rattle.cow_split.specs.Trees.{tree_of}
-use Rattle.cow_split.specs.Cost.{depth}
+use Rattle.cow_jump.proofs.Words.{nodes_of, tree_of, depth}
 use Rattle.cow_jump.proofs.JumpLaws.{IsRising}
 use Rattle.cow_jump.proofs.jumping.rise.Given as goal
 

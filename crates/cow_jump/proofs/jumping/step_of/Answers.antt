@@ -1,6 +1,4 @@
-use Rattle.std.proofs.Common.{refl, sym, ap}
-use Rattle.std.specs.Prelude.{is_some}
-use Rattle.cow_split.specs.Trees.{tree_of}
+use Rattle.cow_jump.proofs.Words.{refl, sym, ap, is_some, tree_of}
 use Rattle.cow_split.proofs.CostLaws.{parent-there}
 use Rattle.cow_jump.proofs.JumpLaws.{step-jump}
 use Rattle.cow_jump.proofs.jumping.step_of.Goals as goal

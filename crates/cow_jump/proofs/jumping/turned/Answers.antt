@@ -1,5 +1,4 @@
-use Rattle.std.proofs.Common.{◌%◌, refl, sym, ap, ◌∙◌}
-use Rattle.std.specs.Int.{bit_at}
+use Rattle.cow_jump.proofs.Words.{◌%◌, refl, sym, ap, ◌∙◌, bit_at}
 use Rattle.cow_jump.proofs.JumpLaws.{turned-clear}
 use Rattle.cow_jump.proofs.jumping.turned.Goals as goal
 

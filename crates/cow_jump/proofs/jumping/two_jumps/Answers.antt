@@ -1,4 +1,4 @@
-use Rattle.cow_split.specs.Trees.{tree_of}
+use Rattle.cow_jump.proofs.Words.{tree_of}
 use Rattle.cow_jump.proofs.JumpLaws.{joined-new}
 use Rattle.cow_jump.proofs.jumping.two_jumps.Goals as goal
 

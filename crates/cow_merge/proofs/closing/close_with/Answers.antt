@@ -1,21 +1,11 @@
 -- All pages are out of sight, so that the node goes, with its parent where it has one.
-use Rattle.std.proofs.Common.{◌≡◌, ℕ, ◌+◌, None, Some, sym, ap, subst, ◌∙◌, arith}
-use Rattle.std.specs.Prelude.{is_some}
-use Rattle.vm_base.proofs.EntryLaws.{some_same}
-use Rattle.cow_arena.specs.declared.node.Node.{Node}
-use Rattle.cow_split.specs.Trees.{tree_of}
-use Rattle.cow_split.specs.Exact.{all_in_sight}
-use Rattle.frame_pool.specs.Pool.{is_taken}
-use Rattle.page_list.specs.Lists.{slots_of}
-use Rattle.cow_merge.proofs.RangeLaws.{visible-of}
+use Rattle.cow_merge.proofs.Words.{◌≡◌, ℕ, ◌+◌, None, Some, sym, ap, subst, ◌∙◌, arith, is_some, some_same, Node, tree_of, all_in_sight}
+use Rattle.cow_merge.proofs.Words.{is_taken, slots_of, nodes_of, IsHeldBy}
+use Rattle.cow_merge.proofs.RangeLaws.{visible-of, lost-then}
 use Rattle.cow_merge.proofs.CloseLaws.{closed-root, closed-spliced, closed-over, root-of, root-ready, child-ready, family-of}
-use Rattle.cow_arena.specs.Nodes.{nodes_of}
-use Rattle.cow_merge.specs.Ranges.{IsHeldBy}
-use Rattle.cow_merge.proofs.UncoverLaws.{closed-then}
 use Rattle.cow_merge.proofs.SeenLaws.{seen-start, seen-kept}
 use Rattle.cow_merge.proofs.LiftedLaws.{lifting-start, lifting-end, lost-lifted}
 use Rattle.cow_merge.proofs.KeptWaysLaws.{keeps-root, keeps-spliced_rows, keeps-over_rows}
-use Rattle.cow_merge.proofs.ParentLaws.{parents-removed, parents-spliced, parents-over}
 use Rattle.cow_merge.proofs.closing.close_with.Goals as goal
 use Rattle.cow_merge.proofs.closing.close_with.Goals.{in_default-via-in-Some+in_default, in_default-via-in_default}
 use Rattle.cow_merge.proofs.HandLaws.{lost-handed}
@@ -31,24 +21,43 @@ remove_root-requires c =
       | in_default-via-in_default w ↦ w.in_default.is-0
     ])
 
-pub returns-in_default-clause-closed : goal.returns-in_default-clause-closed
-returns-in_default-clause-closed c =
+pub returns-in_default : goal.returns-in_default
+returns-in_default c =
+    let closed =
     let visible = visible-of c.args.arena.now c.requires.leaf c.node.ensures in
     closed-root c.args.arena.now c.remove_root.new.self c.args.lists.now c.leave_out.new.lists c.args.frames.now c.leave_out.new.frames c.args.leaf.0
     c.node.result visible (elim c.in_default.branch [
       | in_default-via-in-Some+in_default w ↦
           root-of c.node.result c.sibling.result (c.sibling.ensures.root c.node.result c.node.ensures) w.in_default.is-1
       | in_default-via-in_default w ↦ w.in_default.is-0
-    ]) (c.leave_out.ensures.left c.node.result c.node.ensures) c.leave_out.ensures.lost.moves c.remove_root.ensures.nodes c.remove_root.ensures.lists
-    c.remove_root.ensures.visible c.remove_root.ensures.forest
+    ]) (c.leave_out.ensures.left c.node.result c.node.ensures) c.leave_out.ensures.lost c.remove_root.ensures.nodes c.remove_root.ensures.lists
+    c.remove_root.ensures.forest in
+    record {
+      kept = closed.0;
+      gone = closed.1;
+      visible = c.remove_root.ensures.visible;
+      ways =
+          let visible = visible-of c.args.arena.now c.requires.leaf c.node.ensures in
+          keeps-root c.args.arena.now c.remove_root.new.self c.args.lists.now c.leave_out.new.lists c.requires.exact.forest c.args.leaf.0 c.node.result visible
+          (elim c.in_default.branch [
+            | in_default-via-in-Some+in_default w ↦
+                root-of c.node.result c.sibling.result (c.sibling.ensures.root c.node.result c.node.ensures) w.in_default.is-1
+            | in_default-via-in_default w ↦ w.in_default.is-0
+          ]) c.leave_out.ensures.lost.keeps c.remove_root.ensures.nodes c.remove_root.ensures.lists c.remove_root.ensures.forest;
+    }
 
-pub leave_out_above-requires-clause-leaf : goal.leave_out_above-requires-clause-leaf
-leave_out_above-requires-clause-leaf c =
-    child-ready c.args.arena.now c.args.leaf.0 c.node.result c.in-Some-Some.hidden (visible-of c.args.arena.now c.requires.leaf c.node.ensures) c.in-Some-Some.is-0
-
-pub leave_out_above-requires-clause-family : goal.leave_out_above-requires-clause-family
-leave_out_above-requires-clause-family c =
-    family-of c.args.arena.now c.requires.exact.forest (visible-of c.args.arena.now c.requires.leaf c.node.ensures) c.in-Some-Some.is-0 c.in-Some-Some.ensures.sibling
+pub leave_out_above-requires : goal.leave_out_above-requires
+leave_out_above-requires c = record {
+  leaf =
+      child-ready c.args.arena.now c.args.leaf.0 c.node.result c.in-Some-Some.hidden (visible-of c.args.arena.now c.requires.leaf c.node.ensures) c.in-Some-Some.is-0;
+  family =
+      family-of c.args.arena.now c.requires.exact.forest (visible-of c.args.arena.now c.requires.leaf c.node.ensures) c.in-Some-Some.is-0 c.in-Some-Some.ensures.sibling;
+  exact = (c.uncover.ensures.freed c.node.result c.node.ensures).exact;
+  jumps =
+      let freed = c.uncover.ensures.freed c.node.result c.node.ensures in
+      jumps-left (record { out = all_in_sight; exact = freed.exact; only = only-none c.args.leaf.0; node = freed.node; visible = freed.visible }) c.uncover.ensures.lost _
+      c.requires.jumps;
+}
 
 pub leave_out_above-requires-else-goes_over-clause-family : goal.leave_out_above-requires-else-goes_over-clause-family
 leave_out_above-requires-else-goes_over-clause-family c =
@@ -59,14 +68,26 @@ lift_rows-requires c =
     let visible = visible-of c.args.arena.now c.requires.leaf c.node.ensures in
     lifting-start c.leave_out_above-else-goes_over.ensures.sparing (family-of c.args.arena.now c.requires.exact.forest visible c.in-Some-Some.is-0 c.in-Some-Some.ensures.sibling)
 
-pub returns-else-goes_over-clause-closed : goal.returns-else-goes_over-clause-closed
-returns-else-goes_over-clause-closed c =
-    let was = lost-lifted c.leave_out_above-else-goes_over.ensures.lost c.lift_rows.ensures.lifted in
-    let of = was.now.of in
+pub returns-else-goes_over : goal.returns-else-goes_over
+returns-else-goes_over c =
+    let closed =
+    let of = c.lift_rows.ensures.lifting.of in
+    let was = lost-lifted c.requires.exact.forest of c.leave_out_above-else-goes_over.ensures.lost c.lift_rows.ensures.moves in
     let empty : (p : ℕ) → slots_of c.lift_rows.new.lists of.parent.list.0 p ≡ None = λ p. c.lift_rows.ensures.empty of.parent of.family.parent_at p (omega arith) tt in
     closed-spliced c.args.arena.now c.splice.new.self c.args.lists.now c.lift_rows.new.lists c.args.frames.now c.lift_rows.new.frames c.args.leaf.0
-    c.in-Some-Some.hidden.0 c.in-Some-Some.sibling.0 of.node of.parent of.sibling of.visible of.family (lifting-end was.now empty) was.moves empty
-    (c.splice.ensures.nodes c.in-Some-Some.hidden.0 c.in-Some-Some.sibling.0 of.node of.parent of.sibling of.family) c.splice.ensures.lists c.splice.ensures.visible
+    c.in-Some-Some.hidden.0 c.in-Some-Some.sibling.0 of.node of.parent of.sibling of.visible of.family (lifting-end c.lift_rows.ensures.lifting empty) was empty
+    (c.splice.ensures.nodes c.in-Some-Some.hidden.0 c.in-Some-Some.sibling.0 of.node of.parent of.sibling of.family) c.splice.ensures.lists in
+    record {
+      kept = closed.0;
+      gone = closed.1;
+      visible = c.splice.ensures.visible;
+      ways =
+          let of = c.lift_rows.ensures.lifting.of in
+          let was = lost-lifted c.requires.exact.forest of c.leave_out_above-else-goes_over.ensures.lost c.lift_rows.ensures.moves in
+          keeps-spliced_rows c.args.arena.now c.splice.new.self c.args.lists.now c.lift_rows.new.lists c.requires.exact.forest c.args.leaf.0 c.in-Some-Some.hidden.0
+          c.in-Some-Some.sibling.0 of was.keeps (λ p. c.lift_rows.ensures.empty of.parent of.family.parent_at p (omega arith) tt)
+          (c.splice.ensures.nodes c.in-Some-Some.hidden.0 c.in-Some-Some.sibling.0 of.node of.parent of.sibling of.family) c.splice.ensures.lists c.splice.ensures.forest;
+    }
 
 -- ---- the parent's list goes over
 
@@ -79,9 +100,6 @@ goes_over-requires-clause-child c =
 pub uncover-requires-clause-leaf : goal.uncover-requires-clause-leaf
 uncover-requires-clause-leaf c =
     child-ready c.args.arena.now c.args.leaf.0 c.node.result c.in-Some-Some.hidden (visible-of c.args.arena.now c.requires.leaf c.node.ensures) c.in-Some-Some.is-0
-
-pub leave_out_above-requires-clause-exact : goal.leave_out_above-requires-clause-exact
-leave_out_above-requires-clause-exact c = (c.uncover.ensures.freed c.node.result c.node.ensures).exact
 
 pub hand_over-requires-clause-lifting : goal.hand_over-requires-clause-lifting
 hand_over-requires-clause-lifting c =
@@ -102,68 +120,28 @@ hand_over-requires-clause-seen c = λ node parent at parent_at.
     (λ p held. subst (λ (n : Node). slots_of c.uncover.new.lists n.list.0 p ≡ None) one (freed.free p held.inside
     (subst (λ (n : Node). IsHeldBy (nodes_of c.args.arena.now) (slots_of c.uncover.new.lists) c.in-Some-Some.hidden.0 n p) (sym one) held))))
 
-pub returns-then-goes_over-clause-closed : goal.returns-then-goes_over-clause-closed
-returns-then-goes_over-clause-closed c =
-    let over = lost-handed c.leave_out_above.ensures.lost c.hand_over.ensures in
-    closed-then c.uncover.ensures.lost
-    (closed-over c.args.arena.now c.splice_over.new.self c.uncover.new.lists c.hand_over.new.lists c.uncover.new.frames c.hand_over.new.frames c.args.leaf.0
+pub returns-then-goes_over : goal.returns-then-goes_over
+returns-then-goes_over c =
+    let closed =
+    let over = lost-handed c.hand_over.ensures (lost-then c.uncover.ensures.lost c.leave_out_above.ensures.lost) in
+    closed-over c.args.arena.now c.splice_over.new.self c.args.lists.now c.hand_over.new.lists c.args.frames.now c.hand_over.new.frames c.args.leaf.0
     c.in-Some-Some.hidden.0 c.in-Some-Some.sibling.0 over
     (c.splice_over.ensures.nodes c.in-Some-Some.hidden.0 c.in-Some-Some.sibling.0 over.of.node over.of.parent over.of.sibling over.of.family)
-    c.splice_over.ensures.lists c.splice_over.ensures.visible)
+    c.splice_over.ensures.lists in
+    record {
+      kept = closed.0;
+      gone = closed.1;
+      visible = c.splice_over.ensures.visible;
+      ways =
+          let over = lost-handed c.hand_over.ensures (lost-then c.uncover.ensures.lost c.leave_out_above.ensures.lost) in
+          keeps-over_rows c.args.arena.now c.splice_over.new.self c.args.lists.now c.hand_over.new.lists c.args.frames.now c.hand_over.new.frames
+          c.requires.exact.forest c.args.leaf.0 c.in-Some-Some.hidden.0 c.in-Some-Some.sibling.0 over
+          (c.splice_over.ensures.nodes c.in-Some-Some.hidden.0 c.in-Some-Some.sibling.0 over.of.node over.of.parent over.of.sibling over.of.family)
+          c.splice_over.ensures.lists c.splice_over.ensures.forest;
+    }
 
 -- ---- the ways upwards
 
-pub returns-in_default-clause-ways : goal.returns-in_default-clause-ways
-returns-in_default-clause-ways c =
-    let visible = visible-of c.args.arena.now c.requires.leaf c.node.ensures in
-    keeps-root c.args.arena.now c.remove_root.new.self c.args.lists.now c.leave_out.new.lists c.requires.exact.forest c.args.leaf.0 c.node.result visible
-    (elim c.in_default.branch [
-      | in_default-via-in-Some+in_default w ↦
-          root-of c.node.result c.sibling.result (c.sibling.ensures.root c.node.result c.node.ensures) w.in_default.is-1
-      | in_default-via-in_default w ↦ w.in_default.is-0
-    ]) c.leave_out.ensures.lost.part c.remove_root.ensures.nodes c.remove_root.ensures.lists c.remove_root.ensures.forest
-
-pub returns-else-goes_over-clause-ways : goal.returns-else-goes_over-clause-ways
-returns-else-goes_over-clause-ways c =
-    let was = lost-lifted c.leave_out_above-else-goes_over.ensures.lost c.lift_rows.ensures.lifted in
-    let of = was.now.of in
-    keeps-spliced_rows c.args.arena.now c.splice.new.self c.args.lists.now c.lift_rows.new.lists c.requires.exact.forest c.args.leaf.0 c.in-Some-Some.hidden.0
-    c.in-Some-Some.sibling.0 of was.rows (λ p. c.lift_rows.ensures.empty of.parent of.family.parent_at p (omega arith) tt)
-    (c.splice.ensures.nodes c.in-Some-Some.hidden.0 c.in-Some-Some.sibling.0 of.node of.parent of.sibling of.family) c.splice.ensures.lists c.splice.ensures.forest
-
-pub returns-then-goes_over-clause-ways : goal.returns-then-goes_over-clause-ways
-returns-then-goes_over-clause-ways c =
-    let over = lost-handed c.leave_out_above.ensures.lost c.hand_over.ensures in
-    keeps-over_rows c.args.arena.now c.splice_over.new.self c.args.lists.now c.uncover.new.lists c.hand_over.new.lists c.args.frames.now c.uncover.new.frames
-    c.hand_over.new.frames c.requires.exact.forest c.args.leaf.0 c.in-Some-Some.hidden.0 c.in-Some-Some.sibling.0 c.uncover.ensures.lost over
-    (c.splice_over.ensures.nodes c.in-Some-Some.hidden.0 c.in-Some-Some.sibling.0 over.of.node over.of.parent over.of.sibling over.of.family)
-    c.splice_over.ensures.lists c.splice_over.ensures.forest
-
 -- ---- the jumps
 
-pub leave_out_above-requires-clause-jumps : goal.leave_out_above-requires-clause-jumps
-leave_out_above-requires-clause-jumps c =
-    let freed = c.uncover.ensures.freed c.node.result c.node.ensures in
-    jumps-left (record { out = all_in_sight; exact = freed.exact; only = only-none c.args.leaf.0; node = freed.node; visible = freed.visible }) c.uncover.ensures.lost _
-    c.requires.jumps
-
 -- ---- the parents
-
-pub returns-in_default-clause-parents : goal.returns-in_default-clause-parents
-returns-in_default-clause-parents c = parents-removed (nodes_of c.args.arena.now) (nodes_of c.remove_root.new.self) c.args.leaf.0 c.remove_root.ensures.nodes
-
-pub returns-else-goes_over-clause-parents : goal.returns-else-goes_over-clause-parents
-returns-else-goes_over-clause-parents c =
-    let visible = visible-of c.args.arena.now c.requires.leaf c.node.ensures in
-    let of = family-of c.args.arena.now c.requires.exact.forest visible c.in-Some-Some.is-0 c.in-Some-Some.ensures.sibling in
-    parents-spliced (nodes_of c.args.arena.now) c.args.arena.now.lists c.requires.exact.forest c.args.leaf.0 c.in-Some-Some.hidden.0 c.in-Some-Some.sibling.0
-    of.node of.parent of.sibling of.family (nodes_of c.splice.new.self)
-    (c.splice.ensures.nodes c.in-Some-Some.hidden.0 c.in-Some-Some.sibling.0 of.node of.parent of.sibling of.family)
-
-pub returns-then-goes_over-clause-parents : goal.returns-then-goes_over-clause-parents
-returns-then-goes_over-clause-parents c =
-    let visible = visible-of c.args.arena.now c.requires.leaf c.node.ensures in
-    let of = family-of c.args.arena.now c.requires.exact.forest visible c.in-Some-Some.is-0 c.in-Some-Some.ensures.sibling in
-    parents-over (nodes_of c.args.arena.now) c.args.arena.now.lists c.requires.exact.forest c.args.leaf.0 c.in-Some-Some.hidden.0 c.in-Some-Some.sibling.0
-    of.node of.parent of.sibling of.family (nodes_of c.splice_over.new.self)
-    (c.splice_over.ensures.nodes c.in-Some-Some.hidden.0 c.in-Some-Some.sibling.0 of.node of.parent of.sibling of.family)

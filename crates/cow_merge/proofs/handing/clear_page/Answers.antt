@@ -1,7 +1,4 @@
-use Rattle.std.proofs.Common.{sym, ap, subst, ◌∙◌}
-use Rattle.page_list.specs.Lists.{slots_of}
-use Rattle.cow_merge.specs.Ranges.{HasGiven}
-use Rattle.cow_merge.specs.inside.HandingOver.{frame_there}
+use Rattle.cow_merge.proofs.Words.{sym, ap, subst, ◌∙◌, slots_of, HasGiven, frame_there}
 use Rattle.cow_merge.proofs.RangeLaws.{given-none}
 use Rattle.cow_merge.proofs.HandLaws.{without-none-there}
 use Rattle.cow_merge.proofs.handing.clear_page.Goals as goal

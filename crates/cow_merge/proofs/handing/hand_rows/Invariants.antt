@@ -1,11 +1,13 @@
-use Rattle.page_list.specs.Lists.{slots_of}
-use Rattle.cow_merge.specs.inside.HandingOver.{IsHandedUpTo}
+use Rattle.cow_merge.proofs.Words.{◌≡◌, ℕ, ◌<◌, ◌≤◌, None, Some, slots_of, IsHandingOver}
 use Rattle.cow_merge.proofs.LiftedLaws.{still_ahead}
 use Rattle.cow_merge.proofs.handing.hand_rows.Given as goal
 
+-- the pages below some page at or past `from` have gone over, and no row of the child is left there
 abbrev pub invariant-loop-page : goal.invariant-loop-page
 invariant-loop-page l = record {
-  handing : IsHandedUpTo l.arena l.fn.lists l.lists l.fn.frames l.frames l.fn.family.leaf.0 l.fn.family.hidden.0 l.fn.family.sibling.0 l.from;
+  handing : (at : ℕ) × (l.from ≤ at)
+      × IsHandingOver l.arena l.fn.lists l.lists l.fn.frames l.frames l.fn.family.leaf.0 l.fn.family.hidden.0 l.fn.family.sibling.0 (Some at)
+      × ((p : ℕ) → l.from ≤ p → p < at → slots_of l.lists l.list.0 p ≡ None);
 }
 
 abbrev pub decreases-loop-page : goal.decreases-loop-page

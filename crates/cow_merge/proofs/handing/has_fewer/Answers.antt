@@ -1,4 +1,4 @@
-use Rattle.std.proofs.Common.{refl, arith}
+use Rattle.cow_merge.proofs.Words.{refl, arith}
 use Rattle.cow_merge.proofs.handing.has_fewer.Goals as goal
 
 pub loop-page-smaller : goal.loop-page-smaller

@@ -1,4 +1,4 @@
-use Rattle.std.proofs.Common.{◌-◌, ◌^◌}
+use Rattle.cow_merge.proofs.Words.{◌-◌, ◌^◌}
 use Rattle.cow_merge.proofs.handing.has_fewer.Given as goal
 
 abbrev pub decreases-loop-page : goal.decreases-loop-page

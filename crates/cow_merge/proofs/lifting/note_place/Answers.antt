@@ -1,6 +1,4 @@
-use Rattle.std.proofs.Common.{ℕ, ap}
-use Rattle.vm_base.specs.Entries.{passes}
-use Rattle.frame_pool.specs.declared.frame_pool.Backlink.{Backlink}
+use Rattle.cow_merge.proofs.Words.{ℕ, ap, passes, Backlink}
 use Rattle.cow_merge.proofs.lifting.note_place.Goals as goal
 
 pub returns-in-Frame-clause-links : goal.returns-in-Frame-clause-links

@@ -1,20 +1,53 @@
--- A row that is seen through the child is seen by the child.
-use Rattle.std.proofs.Common.{not, ap, ◌∙◌}
-use Rattle.page_list.specs.Lists.{slots_of}
-use Rattle.cow_merge.specs.Ranges.{bit_on}
-use Rattle.cow_merge.proofs.LiftedLaws.{settle-sees}
+-- A row that is seen through the child is seen by the child, and moves. Any other row goes.
+use Rattle.cow_merge.proofs.Words.{sym, ◌∙◌, slots_of}
+use Rattle.cow_merge.proofs.LiftedLaws.{lifting-with, row-taken, list-gone, list-moved, settled-sees, settled-gone, settled-moved}
 use Rattle.cow_merge.proofs.lifting.settle.Goals as goal
+
+pub give_back_frame-requires : goal.give_back_frame-requires
+give_back_frame-requires c =
+    let was = lifting-with c.requires.lifting c.args.branch.above c.args.branch.node c.requires.above c.requires.node in
+    row-taken c.remove-slot.new.self c.args.page c.remove-slot.result was c.remove-slot.ensures.slot c.remove-slot.ensures.slots
+
+pub returns-then-not-is_seen_through-clause-lifted : goal.returns-then-not-is_seen_through-clause-lifted
+returns-then-not-is_seen_through-clause-lifted c =
+    let was = lifting-with c.requires.lifting c.args.branch.above c.args.branch.node c.requires.above c.requires.node in
+    settled-gone c.remove-slot.new.self c.args.page c.remove-slot.result was c.remove-slot.ensures.slot c.remove-slot.ensures.slots c.side_of-side.result c.side_of-side.ensures c.is_seen_through.result c.is_seen_through.ensures
+    c.if-not-is_seen_through.true c.give_back_frame.ensures c.remove-slot.ensures.count c.remove-slot.ensures.spare
+
+pub returns-then-not-is_seen_through-clause-gone : goal.returns-then-not-is_seen_through-clause-gone
+returns-then-not-is_seen_through-clause-gone c =
+    let was = lifting-with c.requires.lifting c.args.branch.above c.args.branch.node c.requires.above c.requires.node in
+    list-gone c.remove-slot.new.self c.args.page c.remove-slot.result was c.remove-slot.ensures.slot c.remove-slot.ensures.slots
 
 pub overflow_sub-to : goal.overflow_sub-to
 overflow_sub-to c =
-    let sees = settle-sees (slots_of c.args.lists.now) c.args.branch.above c.args.branch.child.0 c.args.branch.node c.args.page c.args.slot c.is_seen_through.result
-    (record { frame = λ tag left right e. c.is_seen_through.ensures.frame tag left right e ∙ ap (λ from. not (bit_on from left right)) c.side_of-side.ensures; zero = c.is_seen_through.ensures.zero })
-    c.requires.seen c.if-not-is_seen_through.false in
+    let was = lifting-with c.requires.lifting c.args.branch.above c.args.branch.node c.requires.above c.requires.node in
+    let sees = settled-sees c.remove-slot.new.self c.args.page c.remove-slot.result was c.remove-slot.ensures.slot c.remove-slot.ensures.slots c.side_of-side.result c.side_of-side.ensures c.is_seen_through.result c.is_seen_through.ensures c.if-not-is_seen_through.false in
     sees.from
+
+pub slot_in-moved-requires-clause-forest : goal.slot_in-moved-requires-clause-forest
+slot_in-moved-requires-clause-forest c = c.requires.lifting.lifted.exact.forest
 
 pub insert-requires-clause-absent : goal.insert-requires-clause-absent
 insert-requires-clause-absent c =
-    let sees = settle-sees (slots_of c.args.lists.now) c.args.branch.above c.args.branch.child.0 c.args.branch.node c.args.page c.args.slot c.is_seen_through.result
-    (record { frame = λ tag left right e. c.is_seen_through.ensures.frame tag left right e ∙ ap (λ from. not (bit_on from left right)) c.side_of-side.ensures; zero = c.is_seen_through.ensures.zero })
-    c.requires.seen c.if-not-is_seen_through.false in
+    let was = lifting-with c.requires.lifting c.args.branch.above c.args.branch.node c.requires.above c.requires.node in
+    let sees = settled-sees c.remove-slot.new.self c.args.page c.remove-slot.result was c.remove-slot.ensures.slot c.remove-slot.ensures.slots c.side_of-side.result c.side_of-side.ensures c.is_seen_through.result c.is_seen_through.ensures c.if-not-is_seen_through.false in
     sees.free
+
+pub note_place-requires : goal.note_place-requires
+note_place-requires c = λ tag frame.
+    let was = lifting-with c.requires.lifting c.args.branch.above c.args.branch.node c.requires.above c.requires.node in
+    row-taken c.remove-slot.new.self c.args.page c.remove-slot.result was c.remove-slot.ensures.slot c.remove-slot.ensures.slots tag
+    (sym c.slot_in-moved.ensures.frame ∙ frame)
+
+pub returns-clause-lifted : goal.returns-clause-lifted
+returns-clause-lifted c =
+    let was = lifting-with c.requires.lifting c.args.branch.above c.args.branch.node c.requires.above c.requires.node in
+    settled-moved c.remove-slot.new.self c.args.page c.remove-slot.result was c.remove-slot.ensures.slot c.remove-slot.ensures.slots c.side_of-side.result c.side_of-side.ensures c.is_seen_through.result c.is_seen_through.ensures
+    c.insert.new.self c.note_place.new.frames c.slot_in-moved.result c.slot_in-moved.ensures c.insert.ensures.slots c.note_place.ensures.taken c.note_place.ensures.frames c.note_place.ensures.links
+    c.if-not-is_seen_through.false c.remove-slot.ensures.count c.remove-slot.ensures.spare c.insert.ensures.count c.insert.ensures.spare
+
+pub returns-clause-gone : goal.returns-clause-gone
+returns-clause-gone c =
+    let was = lifting-with c.requires.lifting c.args.branch.above c.args.branch.node c.requires.above c.requires.node in
+    list-moved c.remove-slot.new.self c.args.page c.remove-slot.result was c.remove-slot.ensures.slot c.remove-slot.ensures.slots (slots_of c.insert.new.self) _ _ c.insert.ensures.slots

@@ -1,8 +1,5 @@
 -- On each node on the way up, what the pages of the range still show is further up.
-use Rattle.std.proofs.Common.{◌+◌, Some, refl, sym, subst, ◌∙◌, arith}
-use Rattle.cow_arena.specs.Nodes.{nodes_of, side_of}
-use Rattle.cow_arena.specs.Ways.{Reaches}
-use Rattle.cow_merge.specs.Ranges.{bare_of}
+use Rattle.cow_merge.proofs.Words.{◌+◌, Some, refl, sym, subst, ◌∙◌, arith, nodes_of, side_of, Reaches, bare_of}
 use Rattle.cow_merge.proofs.PassingLaws.{passing-up, passing-top, passing-there, passing-fits, passing-less, up-list}
 use Rattle.cow_merge.proofs.PassedLaws.{bare-up}
 use Rattle.cow_merge.proofs.ranges.cut_upwards.Goals as goal
@@ -16,7 +13,7 @@ loop-node-init c = record {
   passing = λ spared was. was;
   lost = lost-same;
   up = omega arith;
-  kept = λ q. refl;
+  kept = refl;
 }
 
 pub returns-in_default-clause-sparing : goal.returns-in_default-clause-sparing
@@ -96,9 +93,9 @@ loop-node-preserved c =
           c.node-above.ensures c.min-end.result c.min-end.ensures);
       lost = lost-then c.loop-node.invariant.lost c.cut_rows.ensures.lost;
       up = omega (arith, c.loop-node.invariant.up);
-      kept = λ q.
+      kept =
           c.cut_rows.ensures.others c.args.start.node.list.0
           (up-list (nodes_of c.args.arena.now) c.args.arena.now.lists under.passing.bare.has.exact.forest c.args.start.at.0 c.in-Some.parent.0 c.args.start.node
-          c.node-above.result c.requires.start c.node-above.ensures (omega (arith, c.loop-node.invariant.up))) q
-          ∙ c.loop-node.invariant.kept q;
+          c.node-above.result c.requires.start c.node-above.ensures (omega (arith, c.loop-node.invariant.up)))
+          ∙ c.loop-node.invariant.kept;
     }

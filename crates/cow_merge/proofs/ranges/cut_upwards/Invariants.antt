@@ -1,9 +1,5 @@
-use Rattle.std.proofs.Common.{◌≡◌, ◌+◌, ◌<◌, ◌≤◌, Option, Some}
-use Rattle.cow_arena.specs.declared.node.NodeId.{NodeId}
-use Rattle.cow_arena.specs.Nodes.{nodes_of}
-use Rattle.cow_split.specs.Cost.{nodes_up}
-use Rattle.cow_split.specs.Searching.{ComesTo}
-use Rattle.cow_merge.specs.Ranges.{bare_of, IsPassing, KeepsList, HasLost}
+use Rattle.cow_merge.proofs.Words.{◌≡◌, ◌+◌, ◌<◌, ◌≤◌, Option, Some, slots_of, NodeId, nodes_of, nodes_up, ComesTo, IsPartOf, bare_of}
+use Rattle.cow_merge.proofs.Words.{IsPassing, Moves}
 use Rattle.cow_merge.proofs.ranges.cut_upwards.Given as goal
 
 abbrev pub invariant-loop-node : goal.invariant-loop-node
@@ -14,9 +10,9 @@ invariant-loop-node l = record {
   passing : (spared : Option NodeId) →
       IsPassing l.arena l.fn.lists l.fn.frames l.fn.start.leaf.0 l.first l.skip spared l.fn.start.node l.fn.span.shift l.fn.span.to l.fn.span.to →
       IsPassing l.arena l.lists l.frames l.fn.start.leaf.0 l.first l.skip spared l.node l.shift l.to l.to;
-  lost : HasLost l.arena l.fn.lists l.lists l.fn.frames l.frames l.fn.start.leaf.0 l.first;
+  lost : Moves l.arena l.fn.lists l.lists l.fn.frames l.frames l.fn.start.leaf.0 l.first IsPartOf;
   up : nodes_up (nodes_of l.arena) l.arena.lists l.node.parent ≤ nodes_up (nodes_of l.arena) l.arena.lists l.fn.start.node.parent;
-  kept : KeepsList l.fn.lists l.lists l.fn.start.node.list.0;
+  kept : slots_of l.lists l.fn.start.node.list.0 ≡ slots_of l.fn.lists l.fn.start.node.list.0;
 }
 
 abbrev pub decreases-loop-node : goal.decreases-loop-node

@@ -1,10 +1,6 @@
 -- The rows of the parent are passed, and then those further up.
-use Rattle.std.proofs.Common.{◌+◌, ◌≤◌, None, refl, sym, ap, subst, ◌∙◌, arith}
-use Rattle.std.specs.Prelude.{is_some}
-use Rattle.vm_base.proofs.EntryLaws.{some_same}
-use Rattle.cow_arena.specs.declared.node.Node.{Node}
-use Rattle.cow_arena.specs.Ways.{Reaches}
-use Rattle.cow_merge.specs.Ranges.{bare_of, no_pages, IsOnItsWayUp}
+use Rattle.cow_merge.proofs.Words.{◌+◌, ◌≤◌, None, refl, sym, ap, subst, ◌∙◌, arith, is_some, some_same, Node, Reaches, bare_of, no_pages}
+use Rattle.cow_merge.proofs.Words.{IsOnItsWayUp}
 use Rattle.cow_merge.proofs.RangeLaws.{visible-of, lost-then}
 use Rattle.cow_merge.proofs.PassingLaws.{no-parent, passing-start, passing-parent, passing-top, sparing-none}
 use Rattle.cow_merge.proofs.CloseLaws.{root-of, family-of}
@@ -54,31 +50,29 @@ cut_rows-requires-clause-way c =
     c.args.first (c.args.first + c.node-node.result.first) c.node-node.ensures c.in-Some-Some.is-0 c.node-above.ensures (omega arith) (omega arith)
     (record { side = None; way = (refl, refl) }))
 
-pub leave_out_further-requires-clause-passing : goal.leave_out_further-requires-clause-passing
-leave_out_further-requires-clause-passing c = λ above at.
-    subst (λ (n : Node). IsOnItsWayUp c.args.arena.now c.cut_rows.new.lists c.cut_rows.new.frames c.args.leaf.0 c.args.first no_pages n c.node-node.result.first
-    (c.node-node.result.first + c.node-node.result.seen) (c.node-node.result.first + c.node-node.result.seen)) (some_same (sym c.node-above.ensures ∙ at)) (record {
-      spared = None;
-      passing = (c.cut_rows.ensures.passing None
-          (passing-parent c.drop_rows.ensures.bare c.node-node.ensures c.in-Some-Some.is-0 c.node-above.ensures));
-    })
-
-pub leave_out_further-requires-clause-family : goal.leave_out_further-requires-clause-family
-leave_out_further-requires-clause-family c =
-    family-of c.args.arena.now c.requires.exact.forest (visible-of c.args.arena.now c.requires.leaf c.node-node.ensures) c.in-Some-Some.is-0 (sym c.in-Some-Some.is-1 ∙ c.sibling.ensures.sibling)
-
-pub leave_out_further-requires-clause-range : goal.leave_out_further-requires-clause-range
-leave_out_further-requires-clause-range c =
-    let below = c.requires.exact.forest.by.below c.in-Some-Some.hidden.0 c.args.leaf.0 c.node-node.result c.node-node.ensures c.in-Some-Some.is-0 in
-    let fits = subst (λ (n : Node). c.node-node.result.first + c.node-node.result.seen ≤ n.count) (some_same (sym below.at ∙ c.node-above.ensures)) below.window in
-    omega arith
-
-pub leave_out_further-requires-clause-base : goal.leave_out_further-requires-clause-base
-leave_out_further-requires-clause-base c = λ node at. ap (λ (n : Node). n.first) (some_same (sym c.node-node.ensures ∙ at))
-
-pub leave_out_further-requires-clause-end : goal.leave_out_further-requires-clause-end
-leave_out_further-requires-clause-end c = λ node at.
-    subst (λ (n : Node). c.node-node.result.first + c.node-node.result.seen ≤ c.node-node.result.first + n.seen) (some_same (sym c.node-node.ensures ∙ at)) (omega arith)
+pub leave_out_further-requires : goal.leave_out_further-requires
+leave_out_further-requires c = record {
+  passing = λ above at.
+      subst (λ (n : Node). IsOnItsWayUp c.args.arena.now c.cut_rows.new.lists c.cut_rows.new.frames c.args.leaf.0 c.args.first no_pages n c.node-node.result.first
+      (c.node-node.result.first + c.node-node.result.seen) (c.node-node.result.first + c.node-node.result.seen)) (some_same (sym c.node-above.ensures ∙ at)) (record {
+        spared = None;
+        passing = (c.cut_rows.ensures.passing None
+            (passing-parent c.drop_rows.ensures.bare c.node-node.ensures c.in-Some-Some.is-0 c.node-above.ensures));
+      });
+  family =
+      family-of c.args.arena.now c.requires.exact.forest (visible-of c.args.arena.now c.requires.leaf c.node-node.ensures) c.in-Some-Some.is-0 (sym c.in-Some-Some.is-1 ∙ c.sibling.ensures.sibling);
+  range =
+      let below = c.requires.exact.forest.by.below c.in-Some-Some.hidden.0 c.args.leaf.0 c.node-node.result c.node-node.ensures c.in-Some-Some.is-0 in
+      let fits = subst (λ (n : Node). c.node-node.result.first + c.node-node.result.seen ≤ n.count) (some_same (sym below.at ∙ c.node-above.ensures)) below.window in
+      omega arith;
+  base = λ node at. ap (λ (n : Node). n.first) (some_same (sym c.node-node.ensures ∙ at));
+  end = λ node at.
+      subst (λ (n : Node). c.node-node.result.first + c.node-node.result.seen ≤ c.node-node.result.first + n.seen) (some_same (sym c.node-node.ensures ∙ at)) (omega arith);
+  jumps =
+      jumps-left (c.cut_rows.ensures.passing None (passing-parent c.drop_rows.ensures.bare c.node-node.ensures c.in-Some-Some.is-0 c.node-above.ensures)).bare.has
+      (lost-then c.drop_rows.ensures.lost c.cut_rows.ensures.lost)
+      _ c.requires.jumps;
+}
 
 pub returns-clause-left : goal.returns-clause-left
 returns-clause-left c = λ node at.
@@ -92,9 +86,3 @@ returns-clause-lost c =
     lost-then (lost-then c.drop_rows.ensures.lost c.cut_rows.ensures.lost) c.leave_out_further.ensures.lost
 
 -- ---- the jumps
-
-pub leave_out_further-requires-clause-jumps : goal.leave_out_further-requires-clause-jumps
-leave_out_further-requires-clause-jumps c =
-    jumps-left (c.cut_rows.ensures.passing None (passing-parent c.drop_rows.ensures.bare c.node-node.ensures c.in-Some-Some.is-0 c.node-above.ensures)).bare.has
-    (lost-then c.drop_rows.ensures.lost c.cut_rows.ensures.lost)
-    _ c.requires.jumps

@@ -1,8 +1,5 @@
 -- What the parent holds is spared, and the others come to no row of it.
-use Rattle.std.proofs.Common.{◌≡◌, ◌+◌, ◌≤◌, Some, sym, ap, subst, ◌∙◌, arith}
-use Rattle.vm_base.proofs.EntryLaws.{some_same}
-use Rattle.page_list.specs.Lists.{slots_of}
-use Rattle.cow_arena.specs.declared.node.Node.{Node}
+use Rattle.cow_merge.proofs.Words.{◌≡◌, ◌+◌, ◌≤◌, Some, sym, ap, subst, ◌∙◌, arith, some_same, slots_of, Node}
 use Rattle.cow_merge.proofs.PassingLaws.{passing-above, above-there, above-fits, above-parent, above-visible, above-list}
 use Rattle.cow_merge.proofs.JumpingLaws.{jumps-left}
 use Rattle.cow_merge.proofs.ranges.leave_out_above.Goals as goal
@@ -34,24 +31,21 @@ pub leave_out_further-requires-clause-end : goal.leave_out_further-requires-clau
 leave_out_further-requires-clause-end c = λ node at.
     subst (λ (n : Node). c.node-node.result.first + c.node-node.result.seen ≤ c.node-node.result.first + n.seen) (some_same (sym c.node-node.ensures ∙ at)) (omega arith)
 
-pub returns-clause-sparing : goal.returns-clause-sparing
-returns-clause-sparing c =
-    c.leave_out_further.ensures.sparing (Some c.args.family.hidden) c.node-above.result c.node-above.ensures (passing-above c.drop_rows.ensures.bare c.node-node.ensures
-    (above-parent c.args.arena.now c.args.family.leaf.0 c.args.family.hidden c.node-node.result c.requires.leaf c.node-node.ensures) c.node-above.ensures)
-
-pub returns-clause-kept : goal.returns-clause-kept
-returns-clause-kept c = λ above at q.
-    let same : c.node-above.result ≡ above = some_same (sym c.node-above.ensures ∙ at) in
-    c.leave_out_further.ensures.kept above at q
-    ∙ subst (λ (n : Node). slots_of c.drop_rows.new.lists n.list.0 q ≡ slots_of c.args.lists.now n.list.0 q) same
-    (c.drop_rows.ensures.others c.node-node.result c.node-node.ensures c.node-above.result.list.0
-    (above-list c.args.arena.now c.args.family.leaf.0 c.args.family.hidden c.requires.exact.forest c.node-node.result c.node-above.result c.requires.leaf c.node-node.ensures
-    c.node-above.ensures) q)
+pub returns : goal.returns
+returns c = record {
+  sparing =
+      c.leave_out_further.ensures.sparing (Some c.args.family.hidden) c.node-above.result c.node-above.ensures (passing-above c.drop_rows.ensures.bare c.node-node.ensures
+      (above-parent c.args.arena.now c.args.family.leaf.0 c.args.family.hidden c.node-node.result c.requires.leaf c.node-node.ensures) c.node-above.ensures);
+  kept = λ above at.
+      let same : c.node-above.result ≡ above = some_same (sym c.node-above.ensures ∙ at) in
+      c.leave_out_further.ensures.kept above at
+      ∙ subst (λ (n : Node). slots_of c.drop_rows.new.lists n.list.0 ≡ slots_of c.args.lists.now n.list.0) same
+      (c.drop_rows.ensures.others c.node-node.result c.node-node.ensures c.node-above.result.list.0
+      (above-list c.args.arena.now c.args.family.leaf.0 c.args.family.hidden c.requires.exact.forest c.node-node.result c.node-above.result c.requires.leaf c.node-node.ensures
+      c.node-above.ensures));
+  lost = lost-then c.drop_rows.ensures.lost c.leave_out_further.ensures.lost;
+}
 
 pub leave_out_further-requires-clause-jumps : goal.leave_out_further-requires-clause-jumps
 leave_out_further-requires-clause-jumps c =
     jumps-left c.drop_rows.ensures.bare.has c.drop_rows.ensures.lost _ c.requires.jumps
-
-pub returns-clause-lost : goal.returns-clause-lost
-returns-clause-lost c =
-    lost-then c.drop_rows.ensures.lost c.leave_out_further.ensures.lost

@@ -1,11 +1,6 @@
 -- What has a witness is passed over on the way up.
-use Rattle.std.proofs.Common.{◌≡◌, ◌+◌, None, Some, refl, sym, ap, subst, ◌∙◌, arith}
-use Rattle.std.specs.Prelude.{is_some}
-use Rattle.vm_base.proofs.EntryLaws.{some_same}
-use Rattle.page_list.specs.Lists.{slots_of}
-use Rattle.cow_arena.specs.declared.node.Node.{Node}
-use Rattle.cow_arena.specs.Nodes.{side_of}
-use Rattle.cow_merge.specs.Ranges.{no_pages, IsPassing}
+use Rattle.cow_merge.proofs.Words.{◌≡◌, ◌+◌, None, Some, refl, sym, ap, subst, ◌∙◌, arith, is_some, some_same, slots_of, Node, side_of}
+use Rattle.cow_merge.proofs.Words.{no_pages, IsPassing}
 use Rattle.cow_merge.proofs.PassedLaws.{bare-up}
 use Rattle.cow_merge.proofs.ranges.leave_out_further.Goals as goal
 use Rattle.cow_merge.proofs.RangeLaws.{lost-then}
@@ -34,18 +29,15 @@ cut_upwards-requires-clause-way c = λ less.
           (record { side = None; way = (refl, refl) });
     }
 
-pub returns-clause-sparing : goal.returns-clause-sparing
-returns-clause-sparing c = λ spared above at was.
-    c.cut_upwards.ensures.sparing spared (c.leave_out_beside-skip.ensures.passing spared c.node-above.result c.node-above.ensures
-    (subst (λ (n : Node). IsPassing c.args.arena.now c.args.lists.now c.args.frames.now c.args.family.leaf.0 c.args.span.first no_pages spared n c.args.span.shift c.args.span.to c.args.span.to)
-    (some_same (sym at ∙ c.node-above.ensures)) was))
-
-pub returns-clause-kept : goal.returns-clause-kept
-returns-clause-kept c = λ above at q.
-    let same : c.node-above.result ≡ above = some_same (sym c.node-above.ensures ∙ at) in
-    subst (λ (n : Node). slots_of c.cut_upwards.new.lists n.list.0 q ≡ slots_of c.args.lists.now n.list.0 q) same
-    (c.cut_upwards.ensures.kept q ∙ c.leave_out_beside-skip.ensures.kept c.node-above.result c.node-above.ensures q)
-
-pub returns-clause-lost : goal.returns-clause-lost
-returns-clause-lost c =
-    lost-then c.leave_out_beside-skip.ensures.lost c.cut_upwards.ensures.lost
+pub returns : goal.returns
+returns c = record {
+  sparing = λ spared above at was.
+      c.cut_upwards.ensures.sparing spared (c.leave_out_beside-skip.ensures.passing spared c.node-above.result c.node-above.ensures
+      (subst (λ (n : Node). IsPassing c.args.arena.now c.args.lists.now c.args.frames.now c.args.family.leaf.0 c.args.span.first no_pages spared n c.args.span.shift c.args.span.to c.args.span.to)
+      (some_same (sym at ∙ c.node-above.ensures)) was));
+  kept = λ above at.
+      let same : c.node-above.result ≡ above = some_same (sym c.node-above.ensures ∙ at) in
+      subst (λ (n : Node). slots_of c.cut_upwards.new.lists n.list.0 ≡ slots_of c.args.lists.now n.list.0) same
+      (c.cut_upwards.ensures.kept ∙ c.leave_out_beside-skip.ensures.kept c.node-above.result c.node-above.ensures);
+  lost = lost-then c.leave_out_beside-skip.ensures.lost c.cut_upwards.ensures.lost;
+}

@@ -1,4 +1,4 @@
-use Rattle.std.proofs.Common.{arith}
+use Rattle.cow_merge.proofs.Words.{arith}
 use Rattle.cow_merge.proofs.ranges.next_below.Goals as goal
 
 pub returns-else-page-to-clause-none : goal.returns-else-page-to-clause-none

@@ -1,6 +1,5 @@
 -- A row that belongs to a page that is passed over is not answered, but the least one behind all these.
-use Rattle.std.proofs.Common.{refl, arith}
-use Rattle.page_list.specs.Lists.{slots_of}
+use Rattle.cow_merge.proofs.Words.{refl, arith, slots_of}
 use Rattle.cow_merge.proofs.PassingLaws.{outside-next, outside-none, outside-behind, outside-ends}
 use Rattle.cow_merge.proofs.ranges.next_outside.Goals as goal
 

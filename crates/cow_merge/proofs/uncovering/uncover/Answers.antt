@@ -1,18 +1,8 @@
 -- Each own row that covers a row of the parent goes.
-use Rattle.std.proofs.Common.{◌≡◌, refl, sym, subst, ap, ◌∙◌, arith}
-use Rattle.std.specs.Prelude.{is_some}
-use Rattle.cow_arena.specs.declared.node.Node.{Node}
-use Rattle.vm_base.proofs.EntryLaws.{some_same}
-use Rattle.cow_merge.specs.inside.Uncovering.{IsUncovering}
-use Rattle.cow_merge.proofs.UncoverLaws.{uncover-ready, uncovered-start, uncovered-more, uncovered-next, uncover-taken, uncover-lists, uncover-fits, uncovered-lost}
+use Rattle.cow_merge.proofs.Words.{◌≡◌, ◌<◌, refl, sym, subst, ◌∙◌, arith, slots_of, IsSome, Node, some_same, IsUncovering}
+use Rattle.cow_merge.proofs.UncoverLaws.{uncover-ready, uncovered-start, uncovered-more}
 use Rattle.cow_merge.proofs.uncovering.uncover.Goals as goal
 use Rattle.cow_merge.proofs.RangeLaws.{lost-same, lost-then}
-
-pub node-above-requires : goal.node-above-requires
-node-above-requires c =
-    let ready = uncover-ready c.args.arena.now c.args.leaf.0 c.args.hidden c.node-node.result c.requires.leaf c.node-node.ensures in
-    let below = c.requires.exact.forest.by.below c.args.hidden.0 c.args.leaf.0 c.node-node.result ready.0.at ready.1 in
-    ap is_some below.at
 
 pub loop-page-init : goal.loop-page-init
 loop-page-init c =
@@ -22,42 +12,24 @@ loop-page-init c =
       lost = lost-same;
     }
 
-pub overflow_add-node : goal.overflow_add-node
-overflow_add-node c =
-    let ready = uncover-ready c.args.arena.now c.args.leaf.0 c.args.hidden c.node-node.result c.requires.leaf c.node-node.ensures in
-    let fits = uncover-fits c.args.arena.now c.requires.exact.forest c.args.leaf.0 c.args.hidden.0 c.node-node.result c.node-above.result c.node-node.ensures ready.1 c.node-above.ensures in
-    let below = c.in-Some.ensures.below in
-    omega arith
-
-pub uncover_row-requires-clause-taken : goal.uncover_row-requires-clause-taken
-uncover_row-requires-clause-taken c = λ own tag at frame.
-    uncover-taken c.in-Some.page c.loop-page.invariant.uncovering c.node-node.result.list.0 own tag at frame
-
-pub uncover_row-requires-clause-row : goal.uncover_row-requires-clause-row
-uncover_row-requires-clause-row c = (c.in-Some.ensures.next.least c.in-Some.page refl).1
-
-pub uncover_row-requires-clause-apart : goal.uncover_row-requires-clause-apart
-uncover_row-requires-clause-apart c =
-    let ready = uncover-ready c.args.arena.now c.args.leaf.0 c.args.hidden c.node-node.result c.requires.leaf c.node-node.ensures in
-    uncover-lists c.args.arena.now c.requires.exact.forest c.args.leaf.0 c.args.hidden.0 c.node-node.result c.node-above.result ready.0 ready.1 c.node-above.ensures
+pub uncover_row-requires : goal.uncover_row-requires
+uncover_row-requires c = record {
+  uncovering = uncovered-more c.in-Some.page c.node-node.result c.node-node.ensures c.loop-page.invariant.uncovering
+      (λ p past less _. (c.in-Some.ensures.next.least c.in-Some.page refl).2 p past less);
+  inside = λ node at. subst (λ (n : Node). c.in-Some.page < n.seen) (some_same (sym c.node-node.ensures ∙ at)) c.in-Some.ensures.below;
+  row = λ node at.
+      subst (λ (n : Node). IsSome (slots_of c.loop-page.lists n.list.0 c.in-Some.page)) (some_same (sym c.node-node.ensures ∙ at))
+      (c.in-Some.ensures.next.least c.in-Some.page refl).1;
+}
 
 pub loop-page-smaller : goal.loop-page-smaller
 loop-page-smaller c =
     let least = c.in-Some.ensures.next.least c.in-Some.page refl in
     let below = c.in-Some.ensures.below in
-    let ready = uncover-ready c.args.arena.now c.args.leaf.0 c.args.hidden c.node-node.result c.requires.leaf c.node-node.ensures in
-    let fits = uncover-fits c.args.arena.now c.requires.exact.forest c.args.leaf.0 c.args.hidden.0 c.node-node.result c.node-above.result c.node-node.ensures ready.1 c.node-above.ensures in
     omega (arith, least.0)
 
 pub loop-page-preserved : goal.loop-page-preserved
-loop-page-preserved c = record {
-  uncovering =
-      uncovered-next _ _ c.loop-page.invariant.uncovering c.node-node.result c.node-above.result
-      c.node-node.ensures c.node-above.ensures c.in-Some.ensures.next c.in-Some.ensures.below c.uncover_row.ensures;
-  lost =
-      lost-then c.loop-page.invariant.lost (uncovered-lost _ _ c.loop-page.invariant.uncovering c.node-node.result c.node-above.result
-      c.node-node.ensures c.node-above.ensures c.in-Some.ensures.next c.in-Some.ensures.below c.uncover_row.ensures);
-}
+loop-page-preserved c = record { uncovering = c.uncover_row.ensures.uncovering; lost = lost-then c.loop-page.invariant.lost c.uncover_row.ensures.lost }
 
 pub returns-clause-freed : goal.returns-clause-freed
 returns-clause-freed c = λ node at.

@@ -23,15 +23,15 @@ cut_off-requires-clause-only c =
     page-only c.args.own c.args.window.hidden.0 has (c.requires.bare has.node has.visible.at) c.above_with-found.result c.above_with-found.ensures c.in-Above.is
 
 pub returns-then-node-window-clause-cut : goal.returns-then-node-window-clause-cut
-returns-then-node-window-clause-cut c =
+returns-then-node-window-clause-cut c = λ out exact _.
     let has = c.requires.exact in
-    page-parent c.args.own c.args.window.hidden.0 has (c.requires.bare has.node has.visible.at) c.above_with-found.result c.above_with-found.ensures c.in-Above.is c.if-node-window.true
+    page-parent c.args.own c.args.window.hidden.0 has (c.requires.bare has.node has.visible.at) c.above_with-found.result c.above_with-found.ensures c.in-Above.is c.if-node-window.true out exact
 
 pub returns-else-node-window-clause-cut : goal.returns-else-node-window-clause-cut
-returns-else-node-window-clause-cut c =
+returns-else-node-window-clause-cut c = λ out exact only.
     let has = c.requires.exact in
     page-other c.args.own c.args.window.hidden.0 has (c.requires.bare has.node has.visible.at) c.above_with-found.result c.above_with-found.ensures c.in-Above.is
-    c.cut_off.new.lists c.cut_off.new.frames c.cut_off.ensures.passed
+    c.cut_off.new.lists c.cut_off.new.frames out (c.cut_off.ensures.passed out exact only)
 
 pub returns-else-node-window-clause-kept : goal.returns-else-node-window-clause-kept
 returns-else-node-window-clause-kept c =
@@ -40,6 +40,6 @@ returns-else-node-window-clause-kept c =
     c.cut_off.new.lists c.if-node-window.false c.cut_off.ensures.others
 
 pub returns-in_default-clause-cut : goal.returns-in_default-clause-cut
-returns-in_default-clause-cut c =
+returns-in_default-clause-cut c = λ out exact _.
     let has = c.requires.exact in
-    page-nothing c.args.own c.args.window.hidden.0 has (c.requires.bare has.node has.visible.at) c.above_with-found.result c.above_with-found.ensures c.in_default.not-Above
+    page-nothing c.args.own c.args.window.hidden.0 has (c.requires.bare has.node has.visible.at) c.above_with-found.result c.above_with-found.ensures c.in_default.not-Above out exact

@@ -1,21 +1,12 @@
 -- Each row that is passed has cut off the page that comes under it.
-use Rattle.std.proofs.Common.{◌≡◌, ◌+◌, ◌-◌, None, Some, refl, sym, ap, subst, ◌∙◌, arith}
-use Rattle.vm_base.proofs.EntryLaws.{some_same}
-use Rattle.balanced_tree.specs.Pairs.{IsNext}
-use Rattle.page_list.specs.declared.row.ListId.{ListId}
-use Rattle.page_list.specs.Lists.{slots_of}
-use Rattle.cow_arena.specs.declared.node.Node.{Node}
+use Rattle.cow_merge.proofs.Words.{◌≡◌, ◌+◌, ◌-◌, None, Some, refl, sym, ap, subst, ◌∙◌, arith, some_same, IsNext, ListId, slots_of, Node}
 use Rattle.cow_merge.proofs.BesideLaws.{beside-bare, beside-cut, beside-end, beside-lost}
 use Rattle.cow_merge.proofs.JumpingLaws.{jumps-left}
 use Rattle.cow_merge.proofs.witness.cut_under.Goals as goal
 use Rattle.cow_merge.proofs.RangeLaws.{lost-same, lost-then}
 
 pub loop-page-init : goal.loop-page-init
-loop-page-init c = record {
-  from = omega arith;
-  beside = λ first spared above to s was. (was, lost-same);
-  kept = λ above at q. refl;
-}
+loop-page-init c = record { from = omega arith; beside = λ first spared above to s was. (was, lost-same); kept = λ above at. refl }
 
 pub overflow_add-own : goal.overflow_add-own
 overflow_add-own c =
@@ -31,18 +22,22 @@ overflow_sub-own c =
     let low = down.beside.place.within.low c.in-Some.page (omega (arith, least.0, c.loop-page.invariant.from)) (omega (arith, least.0, c.in-Some.ensures.below)) in
     omega arith
 
-pub cut_page-requires-clause-exact : goal.cut_page-requires-clause-exact
-cut_page-requires-clause-exact c =
-    let down = c.requires.down in
-    (c.loop-page.invariant.beside down.first down.spared down.above down.to down.side down.beside).0.bare.has
-
-pub cut_page-requires-clause-bare : goal.cut_page-requires-clause-bare
-cut_page-requires-clause-bare c =
-    let down = c.requires.down in
-    let least = c.in-Some.ensures.next.least c.in-Some.page refl in
-    let low = down.beside.place.within.low c.in-Some.page (omega (arith, least.0, c.loop-page.invariant.from)) (omega (arith, least.0, c.in-Some.ensures.below)) in
-    beside-bare (c.loop-page.invariant.beside down.first down.spared down.above down.to down.side down.beside).0
-    (c.in-Some.page + c.args.way.shift - c.args.window.shift) (omega arith)
+pub cut_page-requires : goal.cut_page-requires
+cut_page-requires c = record {
+  exact =
+      let down = c.requires.down in
+      (c.loop-page.invariant.beside down.first down.spared down.above down.to down.side down.beside).0.bare.has;
+  bare =
+      let down = c.requires.down in
+      let least = c.in-Some.ensures.next.least c.in-Some.page refl in
+      let low = down.beside.place.within.low c.in-Some.page (omega (arith, least.0, c.loop-page.invariant.from)) (omega (arith, least.0, c.in-Some.ensures.below)) in
+      beside-bare (c.loop-page.invariant.beside down.first down.spared down.above down.to down.side down.beside).0
+      (c.in-Some.page + c.args.way.shift - c.args.window.shift) (omega arith);
+  jumps =
+      let down = c.requires.down in
+      let been = c.loop-page.invariant.beside down.first down.spared down.above down.to down.side down.beside in
+      jumps-left been.0.bare.has been.1 _ c.requires.jumps;
+}
 
 pub loop-page-smaller : goal.loop-page-smaller
 loop-page-smaller c =
@@ -60,13 +55,12 @@ loop-page-preserved c =
           let it = been.0 in
           let next =
           subst (λ (l : ListId). IsNext (slots_of c.loop-page.lists l.0) c.loop-page.from (Some c.in-Some.page)) (ap (λ (n : Node). n.list) (some_same (sym c.node.ensures ∙ it.place.node_at)))
-          c.in-Some.ensures.next in (
-            beside-cut _ _ it c.loop-page.invariant.from (omega (arith, least.0, c.in-Some.ensures.below))
-                next c.cut_page.ensures.cut,
-            lost-then been.1
-                (beside-lost _ _ it c.loop-page.invariant.from (omega (arith, least.0, c.in-Some.ensures.below)) next c.cut_page.ensures.cut),
+          c.in-Some.ensures.next in
+          let cut = c.cut_page.ensures.cut it.bare.has.out it.bare.has.exact it.bare.has.only in (
+            beside-cut _ _ it c.loop-page.invariant.from (omega (arith, least.0, c.in-Some.ensures.below)) next cut,
+            lost-then been.1 (beside-lost _ _ it c.loop-page.invariant.from (omega (arith, least.0, c.in-Some.ensures.below)) next cut),
           );
-      kept = λ above at q. c.cut_page.ensures.kept above at q ∙ c.loop-page.invariant.kept above at q;
+      kept = λ above at. c.cut_page.ensures.kept above at ∙ c.loop-page.invariant.kept above at;
     }
 
 pub returns-clause-beside : goal.returns-clause-beside
@@ -83,9 +77,3 @@ pub returns-clause-kept : goal.returns-clause-kept
 returns-clause-kept c = c.loop-page.invariant.kept
 
 -- ---- the jumps
-
-pub cut_page-requires-clause-jumps : goal.cut_page-requires-clause-jumps
-cut_page-requires-clause-jumps c =
-    let down = c.requires.down in
-    let been = c.loop-page.invariant.beside down.first down.spared down.above down.to down.side down.beside in
-    jumps-left been.0.bare.has been.1 _ c.requires.jumps

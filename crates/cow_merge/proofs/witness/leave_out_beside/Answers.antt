@@ -1,9 +1,5 @@
 -- The way goes down while it has pages, to a VMO's node.
-use Rattle.std.proofs.Common.{◌≡◌, ◌-◌, refl, sym, ap, ◌∙◌, arith}
-use Rattle.std.specs.Prelude.{is_some}
-use Rattle.vm_base.proofs.EntryLaws.{some_same}
-use Rattle.cow_arena.specs.declared.node.Node.{Node}
-use Rattle.cow_arena.specs.Nodes.{other_side, side_of}
+use Rattle.cow_merge.proofs.Words.{◌≡◌, ◌-◌, refl, sym, ap, ◌∙◌, arith, is_some, some_same, Node, other_side, side_of}
 use Rattle.cow_merge.proofs.BesideLaws.{beside-start, beside-down, beside-none, hidden-there, no-koid_of}
 use Rattle.cow_merge.proofs.WitnessLaws.{beside-witness}
 use Rattle.cow_merge.proofs.JumpingLaws.{jumps-left}
@@ -22,7 +18,7 @@ loop-left-init c = record {
       beside-start c.args.arena.now c.args.lists.now c.args.frames.now c.args.family.leaf.0 c.args.span.first spared above c.args.span.shift c.args.span.to c.args.family.hidden.0
       c.args.family.sibling (omega arith) c.requires.family at c.min-end.result (omega (arith, c.min-end.ensures)) c.enter-way.result c.enter-way.ensures was;
   lost = lost-same;
-  kept = λ above at q. refl;
+  kept = λ above at. refl;
 }
 
 pub node-node-requires : goal.node-node-requires
@@ -86,7 +82,7 @@ loop-left-preserved c = record {
       let under = c.requires.passing of.parent of.family.parent_at in
       lost-then c.loop-left.invariant.lost (c.cut_under.ensures.beside c.args.span.first under.spared of.parent c.args.span.to (other_side (side_of of.parent c.args.family.leaf.0))
       (c.loop-left.invariant.beside under.spared of.parent of.family.parent_at under.passing)).1;
-  kept = λ above at q. c.cut_under.ensures.kept above at q ∙ c.loop-left.invariant.kept above at q;
+  kept = λ above at. c.cut_under.ensures.kept above at ∙ c.loop-left.invariant.kept above at;
 }
 
 pub returns-else-way-clause-passing : goal.returns-else-way-clause-passing

@@ -1,5 +1,4 @@
-use Rattle.std.proofs.Common.{sym, ap, ◌∙◌, arith}
-use Rattle.cow_split.specs.Trees.{holder_of}
+use Rattle.cow_split.proofs.Words.{sym, ap, ◌∙◌, arith, holder_of}
 use Rattle.cow_split.proofs.CostLaws.{parent-there}
 use Rattle.cow_split.proofs.ClimbLaws.{climb-start, climb-found, climb-past, climb-root, climb-fits, climb-less, climb-on}
 use Rattle.cow_split.proofs.climbing.holder_above.Goals as goal

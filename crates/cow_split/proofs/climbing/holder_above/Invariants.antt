@@ -1,6 +1,4 @@
-use Rattle.cow_arena.specs.Nodes.{nodes_of}
-use Rattle.cow_split.specs.Trees.{tree_of}
-use Rattle.cow_split.specs.Cost.{depth}
+use Rattle.cow_split.proofs.Words.{nodes_of, tree_of, depth}
 use Rattle.cow_split.proofs.ClimbLaws.{IsClimbing}
 use Rattle.cow_split.proofs.climbing.holder_above.Given as goal
 

@@ -1,6 +1,5 @@
 -- A cut goes by the holder of the page: it changes the row of a hidden node alone.
-use Rattle.std.proofs.Common.{sym, ◌∙◌, arith}
-use Rattle.cow_split.specs.Trees.{tree_of}
+use Rattle.cow_split.proofs.Words.{sym, ◌∙◌, arith, tree_of}
 use Rattle.cow_split.proofs.HolderLaws.{held-row, held-way, way-node, own-cut, nothing-cut}
 use Rattle.cow_split.proofs.cutting.cut_holder.Goals as goal
 

@@ -1,13 +1,7 @@
 -- What a cut at a row does goes by who else sees the row.
-use Rattle.std.proofs.Common.{refl, sym, ap, ◌∙◌, subst, arith}
-use Rattle.vm_base.proofs.EntryLaws.{some_same}
-use Rattle.page_list.specs.Lists.{slots_of}
-use Rattle.cow_arena.specs.declared.node.Node.{Node}
-use Rattle.cow_arena.specs.Walk.{Slots}
-use Rattle.cow_arena.specs.Ways.{HasRow}
+use Rattle.cow_split.proofs.Words.{refl, sym, ap, ◌∙◌, subst, arith, some_same, slots_of, Node, Slots, HasRow, tree_of, HasCut, split_on}
+use Rattle.cow_split.proofs.Words.{frame_left}
 use Rattle.cow_arena.proofs.AlikeLaws.{with_pair-other}
-use Rattle.cow_split.specs.Trees.{tree_of}
-use Rattle.cow_split.specs.Cutting.{HasCut, split_on, frame_left}
 use Rattle.cow_split.proofs.CutRowLaws.{cut-zero, cut-shared_row, cut-own_row, cut-unseen}
 use Rattle.cow_split.proofs.cutting.cut_row.Goals as goal
 

@@ -1,7 +1,5 @@
 -- What a cut would answer goes by the holder of the page.
-use Rattle.std.proofs.Common.{sym, ap, ◌∙◌}
-use Rattle.cow_split.specs.Trees.{tree_of}
-use Rattle.cow_split.specs.Cutting.{leaves_frame}
+use Rattle.cow_split.proofs.Words.{sym, ap, ◌∙◌, tree_of, leaves_frame}
 use Rattle.cow_split.proofs.HolderLaws.{held-row, held-way, above-cut, own-cut, nothing-cut}
 use Rattle.cow_split.proofs.cutting.is_last.Goals as goal
 

@@ -1,9 +1,5 @@
 -- What is left of the search is always all that is found.
-use Rattle.std.proofs.Common.{sym, ap, arith}
-use Rattle.page_list.specs.Lists.{slots_of}
-use Rattle.cow_split.specs.Trees.{tree_of}
-use Rattle.cow_split.specs.Search.{has_some}
-use Rattle.cow_split.specs.inside.Existing.{hidden_at}
+use Rattle.cow_split.proofs.Words.{sym, ap, arith, slots_of, tree_of, has_some, hidden_at}
 use Rattle.cow_split.proofs.WayLaws.{finds-here, finds-end, goes-some, goes-onward_by}
 use Rattle.cow_split.proofs.WeightLaws.{less-onward, weight-here}
 use Rattle.cow_split.proofs.ExistingLaws.{hidden-begins, goes-first, goes-past}
@@ -25,9 +21,7 @@ returns-in-Viewer c =
 pub loop-next-smaller-in-Below : goal.loop-next-smaller-in-Below
 loop-next-smaller-in-Below c =
     let on = c.in-Below.ensures.onward in
-    let less = less-onward _ _ c.requires.forest _ _ on.node on.through.at on.left in
-    let same = weight-here _ _ c.requires.forest _ _ c.in-Some.is in
-    omega arith
+    omega (arith, less-onward _ _ c.requires.forest _ _ on.node on.through.at on.left, weight-here _ _ c.requires.forest _ _ c.in-Some.is)
 
 pub loop-next-preserved-in-Below : goal.loop-next-preserved-in-Below
 loop-next-preserved-in-Below c =

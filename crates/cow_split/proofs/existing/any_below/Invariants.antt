@@ -1,7 +1,4 @@
-use Rattle.cow_arena.specs.Nodes.{nodes_of, link_to}
-use Rattle.cow_split.specs.Trees.{tree_of}
-use Rattle.cow_split.specs.Searching.{IsAhead, weight_from}
-use Rattle.cow_split.specs.inside.Existing.{hidden_at}
+use Rattle.cow_split.proofs.Words.{nodes_of, link_to, tree_of, IsAhead, weight_from, hidden_at}
 use Rattle.cow_split.proofs.existing.any_below.Given as goal
 
 abbrev pub invariant-loop-next : goal.invariant-loop-next

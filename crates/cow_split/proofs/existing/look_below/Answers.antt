@@ -1,12 +1,12 @@
-use Rattle.cow_split.specs.Trees.{tree_of}
-use Rattle.cow_arena.specs.declared.node.Side.TheVariants as side
-use Rattle.cow_split.proofs.ExistingLaws.{visible-leaf, visible-none, left-some, child-some, children-found, children-left}
+use Rattle.cow_split.proofs.Words.{tree_of, Side}
+use Rattle.cow_split.proofs.WayLaws.{visible-leaf}
+use Rattle.cow_split.proofs.ExistingLaws.{visible-none, left-some, child-some, children-found, children-left}
 use Rattle.cow_split.proofs.existing.look_below.Goals as goal
 
 pub returns-in_default : goal.returns-in_default
 returns-in_default c =
     visible-none (tree_of c.args.arena.now c.args.lists.now) c.args.except c.args.at.0 c.args.page c.node.result c.node.ensures
-    (visible-leaf (tree_of c.args.arena.now c.args.lists.now) c.requires.forest c.args.except c.args.at.0 c.node.result c.node.ensures c.in_default.is)
+    (visible-leaf (tree_of c.args.arena.now c.args.lists.now) c.requires.forest c.args.except c.args.at.0 c.node.result Side.Right c.node.ensures c.in_default.is)
 
 pub either_views-requires-clause-left : goal.either_views-requires-clause-left
 either_views-requires-clause-left c =
@@ -15,7 +15,7 @@ either_views-requires-clause-left c =
 
 pub either_views-requires-clause-right : goal.either_views-requires-clause-right
 either_views-requires-clause-right c =
-    child-some (tree_of c.args.arena.now c.args.lists.now) c.requires.forest c.args.except c.args.at.0 c.in-Some.right.0 c.node.result side.Right
+    child-some (tree_of c.args.arena.now c.args.lists.now) c.requires.forest c.args.except c.args.at.0 c.in-Some.right.0 c.node.result Side.Right
     c.node.ensures c.in-Some.is
 
 pub returns-then-either_views : goal.returns-then-either_views

@@ -1,6 +1,4 @@
-use Rattle.std.proofs.Common.{sym, ap, ◌∙◌}
-use Rattle.cow_split.specs.Trees.{tree_of}
-use Rattle.cow_split.specs.Search.{has_some}
+use Rattle.cow_split.proofs.Words.{sym, ap, ◌∙◌, tree_of, has_some}
 use Rattle.cow_split.proofs.WayLaws.{from-none}
 use Rattle.cow_split.proofs.ExistingLaws.{child-some, from-child}
 use Rattle.cow_split.proofs.existing.reached_from.Goals as goal

@@ -1,5 +1,4 @@
-use Rattle.std.proofs.Common.{is_some, ap, sym}
-use Rattle.cow_arena.specs.Nodes.{nodes_of}
+use Rattle.cow_split.proofs.Words.{is_some, ap, sym, nodes_of}
 use Rattle.cow_arena.proofs.ReachLaws.{child-there}
 use Rattle.cow_split.proofs.others.is_child_on.Goals as goal
 

@@ -1,5 +1,4 @@
-use Rattle.std.proofs.Common.{sym, arith}
-use Rattle.cow_split.specs.Trees.{tree_of}
+use Rattle.cow_split.proofs.Words.{sym, arith, tree_of}
 use Rattle.cow_split.proofs.OthersLaws.{sibling-some, beside-reached}
 use Rattle.cow_split.proofs.others.reached_beside.Goals as goal
 

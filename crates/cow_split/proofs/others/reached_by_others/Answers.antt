@@ -1,5 +1,4 @@
-use Rattle.std.proofs.Common.{sym, ◌∙◌}
-use Rattle.cow_split.specs.Trees.{tree_of}
+use Rattle.cow_split.proofs.Words.{sym, ◌∙◌, tree_of}
 use Rattle.cow_split.proofs.SearchLaws.{leaf-alone}
 use Rattle.cow_split.proofs.others.reached_by_others.Goals as goal
 
@@ -18,7 +17,4 @@ returns-then-reached_beside c = record {
 }
 
 pub returns : goal.returns
-returns c = record {
-  others = λ e way. sym c.reached_from.ensures ∙ e;
-  nobody = λ e. sym c.reached_from.ensures ∙ e;
-}
+returns c = record { others = λ e way. sym c.reached_from.ensures ∙ e; nobody = λ e. sym c.reached_from.ensures ∙ e }

@@ -1,7 +1,4 @@
-use Rattle.std.proofs.Common.{◌≡◌, ◌+◌, ◌-◌, Some, ap, subst, arith}
-use Rattle.cow_arena.specs.Nodes.{nodes_of}
-use Rattle.cow_arena.specs.Walk.{tree_with}
-use Rattle.cow_split.specs.Searching.{ComesTo}
+use Rattle.cow_split.proofs.Words.{◌≡◌, ◌+◌, ◌-◌, Some, ap, subst, arith, nodes_of, tree_with, ComesTo}
 use Rattle.cow_split.proofs.CostLaws.{parent-there, depth-up}
 use Rattle.cow_split.proofs.SeenLaws.{comes-rises, comes-here, comes-on, comes-no_parent}
 use Rattle.cow_split.proofs.search.page_seen.Goals as goal

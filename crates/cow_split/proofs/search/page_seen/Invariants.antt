@@ -1,9 +1,4 @@
-use Rattle.std.proofs.Common.{ℕ, ◌+◌, ◌-◌, ◌≤◌}
-use Rattle.std.specs.Prelude.{IsSome}
-use Rattle.cow_arena.specs.Nodes.{nodes_of}
-use Rattle.cow_arena.specs.Walk.{Slots, tree_with}
-use Rattle.cow_split.specs.Cost.{depth}
-use Rattle.cow_split.specs.Searching.{ComesTo}
+use Rattle.cow_split.proofs.Words.{ℕ, ◌+◌, ◌-◌, ◌≤◌, IsSome, nodes_of, Slots, tree_with, depth, ComesTo}
 use Rattle.cow_split.proofs.search.page_seen.Given as goal
 
 abbrev pub invariant-loop-at : goal.invariant-loop-at

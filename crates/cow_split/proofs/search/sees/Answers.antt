@@ -1,7 +1,4 @@
-use Rattle.std.proofs.Common.{◌≡◌, sym, ap, ◌∙◌, arith}
-use Rattle.vm_base.proofs.EntryLaws.{some_same}
-use Rattle.page_list.specs.Lists.{slots_of}
-use Rattle.cow_split.specs.Searching.{is_row_of}
+use Rattle.cow_split.proofs.Words.{◌≡◌, sym, ap, ◌∙◌, arith, some_same, slots_of, is_row_of}
 use Rattle.cow_split.proofs.SeenLaws.{comes-of-seen, seen-of-answer, answer-of-seen, seen-below}
 use Rattle.cow_split.proofs.search.sees.Goals as goal
 
@@ -16,8 +13,7 @@ returns-then-at-own c = (
   λ wrong. absurd (cc),
   λ s.
       let same : c.in-Some.own ≡ s.p = some_same (c.in-Some.ensures (slots_of c.args.lists.now) s.p (comes-of-seen _ c.requires.forest _ _ _ s)) in
-      let below = seen-below _ c.requires.forest _ _ _ s _ c.node-at.ensures in
-      absurd (omega arith),
+      absurd (omega (arith, seen-below _ c.requires.forest _ _ _ s _ c.node-at.ensures)),
 )
 
 pub returns : goal.returns

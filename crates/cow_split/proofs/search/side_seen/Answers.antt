@@ -1,5 +1,4 @@
-use Rattle.std.proofs.Common.{sym, ◌∙◌}
-use Rattle.vm_base.proofs.EntryLaws.{none_is}
+use Rattle.cow_split.proofs.Words.{sym, ◌∙◌, none_is}
 use Rattle.cow_split.proofs.SeenLaws.{side-of-reached, reached-of-side, no-side}
 use Rattle.cow_split.proofs.search.side_seen.Goals as goal
 

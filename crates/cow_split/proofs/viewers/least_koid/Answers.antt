@@ -1,5 +1,4 @@
-use Rattle.std.proofs.Common.{None, refl, sym, subst}
-use Rattle.std.specs.Prelude.{IsSome}
+use Rattle.cow_split.proofs.Words.{None, refl, sym, subst, IsSome}
 use Rattle.cow_split.proofs.FoundLaws.{least-has, least-next}
 use Rattle.cow_split.proofs.ViewersLaws.{viewer-visible, viewer-koid}
 use Rattle.cow_split.proofs.viewers.least_koid.Goals as goal

@@ -1,8 +1,4 @@
-use Rattle.std.proofs.Common.{None}
-use Rattle.cow_arena.specs.Nodes.{nodes_of}
-use Rattle.cow_split.specs.Trees.{tree_of}
-use Rattle.cow_split.specs.Search.{viewers_from}
-use Rattle.cow_split.specs.Searching.{HasLeast, weight_from}
+use Rattle.cow_split.proofs.Words.{None, nodes_of, tree_of, viewers_from, HasLeast, weight_from}
 use Rattle.cow_split.proofs.viewers.least_koid.Given as goal
 
 abbrev pub invariant-loop-viewer : goal.invariant-loop-viewer

@@ -1,7 +1,4 @@
-use Rattle.std.proofs.Common.{sym, ◌∙◌, subst, arith}
-use Rattle.cow_split.specs.Trees.{tree_of}
-use Rattle.cow_split.specs.Searching.{IsMet}
-use Rattle.vm_base.proofs.EntryLaws.{none_is}
+use Rattle.cow_split.proofs.Words.{sym, ◌∙◌, subst, arith, tree_of, IsMet, none_is}
 use Rattle.cow_split.proofs.WayLaws.{met-before, met-past, met-row, met-viewer, met-below}
 use Rattle.cow_split.proofs.viewers.meet.Goals as goal
 

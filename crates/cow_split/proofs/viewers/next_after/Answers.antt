@@ -1,4 +1,4 @@
-use Rattle.std.proofs.Common.{sym, arith}
+use Rattle.cow_split.proofs.Words.{sym, arith}
 use Rattle.cow_split.proofs.CostLaws.{parent-there, depth-up}
 use Rattle.cow_split.proofs.WayLaws.{way-some, page-fits, passed-start, passed-parent, passed-left, passed-pair, passed-right}
 use Rattle.cow_split.proofs.WeightLaws.{less-left, same-right, less-after}
@@ -39,8 +39,7 @@ overflow_add-here c =
     let some = c.requires.passed in
     let up = passed-right _ c.requires.forest some.below _ _ _ _ (c.loop-at.invariant.passed some.slots some.below some.after some.passed)
     c.loop-at-test.true _ _ _ c.node.ensures c.in-Some.is c.node-above.ensures (sym c.in_default-side_of.ensures) in
-    let fits = page-fits _ c.requires.forest some.below _ _ _ _ up in
-    omega arith
+    omega (arith, page-fits _ c.requires.forest some.below _ _ _ _ up)
 
 pub loop-at-smaller : goal.loop-at-smaller
 loop-at-smaller c = let up = depth-up _ _ c.requires.forest _ _ _ c.node.ensures c.in-Some.is in omega arith

@@ -1,8 +1,4 @@
-use Rattle.std.proofs.Common.{ℕ, ◌≤◌, List}
-use Rattle.cow_arena.specs.Nodes.{nodes_of}
-use Rattle.cow_arena.specs.Walk.{Slots, tree_with}
-use Rattle.cow_split.specs.Cost.{depth}
-use Rattle.cow_split.specs.Searching.{FoundBelow, IsPassed, weight_after}
+use Rattle.cow_split.proofs.Words.{ℕ, ◌≤◌, List, nodes_of, Slots, tree_with, depth, FoundBelow, IsPassed, weight_after}
 use Rattle.cow_split.proofs.viewers.next_after.Given as goal
 
 abbrev pub invariant-loop-at : goal.invariant-loop-at

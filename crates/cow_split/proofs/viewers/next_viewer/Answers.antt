@@ -1,4 +1,4 @@
-use Rattle.std.proofs.Common.{arith}
+use Rattle.cow_split.proofs.Words.{arith}
 use Rattle.cow_split.proofs.WayLaws.{finds-here, goes-some, goes-onward}
 use Rattle.cow_split.proofs.WeightLaws.{less-onward, weight-here}
 use Rattle.cow_split.proofs.viewers.next_viewer.Goals as goal

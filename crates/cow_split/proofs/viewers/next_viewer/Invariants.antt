@@ -1,7 +1,4 @@
-use Rattle.std.proofs.Common.{ℕ, ◌≤◌, List, None}
-use Rattle.cow_arena.specs.Nodes.{nodes_of}
-use Rattle.cow_split.specs.Trees.{tree_of}
-use Rattle.cow_split.specs.Searching.{Finds, weight_from}
+use Rattle.cow_split.proofs.Words.{ℕ, ◌≤◌, List, None, nodes_of, tree_of, Finds, weight_from}
 use Rattle.cow_split.proofs.viewers.next_viewer.Given as goal
 
 abbrev pub invariant-loop-next : goal.invariant-loop-next

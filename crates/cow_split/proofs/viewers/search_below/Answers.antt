@@ -1,6 +1,4 @@
-use Rattle.std.proofs.Common.{sym, ◌∙◌, arith}
-use Rattle.cow_arena.specs.Nodes.{nodes_of}
-use Rattle.cow_arena.specs.Walk.{tree_with}
+use Rattle.cow_split.proofs.Words.{sym, ◌∙◌, arith, nodes_of, tree_with}
 use Rattle.cow_split.proofs.WayLaws.{from-none, way-begins}
 use Rattle.cow_split.proofs.viewers.search_below.Goals as goal
 

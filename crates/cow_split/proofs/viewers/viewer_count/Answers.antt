@@ -1,5 +1,4 @@
-use Rattle.std.proofs.Common.{None, arith}
-use Rattle.cow_split.specs.Trees.{tree_of}
+use Rattle.cow_split.proofs.Words.{None, arith, tree_of}
 use Rattle.cow_split.proofs.FoundLaws.{count-next, count-most}
 use Rattle.cow_split.proofs.ViewersLaws.{viewers-few}
 use Rattle.cow_split.proofs.viewers.viewer_count.Goals as goal

@@ -1,18 +1,14 @@
-use Rattle.std.proofs.Common.{ap, subst, None, ◌+◌, ◌∙◌, ◌≡◌, ◌≢◌, arith}
-use Rattle.slab.specs.Slab.{Slab, get}
-use Rattle.cow_arena.specs.declared.node.Node.{Node}
-use Rattle.cow_arena.specs.Nodes.{Nodes, Arena, nodes_of}
-use Rattle.cow_arena.specs.Changes.{paired}
+use Rattle.cow_arena.proofs.Words.{ap, subst, None, ◌+◌, ◌∙◌, ◌≡◌, ◌≢◌, arith, Slab, get, Node, Nodes, Arena, nodes_of, paired}
 use Rattle.cow_arena.proofs.LinkLaws.{parents_held, parents_apart}
-use Rattle.cow_arena.proofs.ArenaLaws.{IsAfter, Same, More, grown_after, hidden_room, paired_is, grown_forest, pair_nodes, pair_after}
-use Rattle.cow_arena.proofs.ViewLaws.{forest_seen, shows-snapshot, snapshot-listed}
+use Rattle.cow_arena.proofs.ArenaLaws.{IsAfter, Same, More, after_seen, grown, hidden_room, paired_is, grown_forest, pair_nodes, pair_after}
+use Rattle.cow_arena.proofs.ViewLaws.{forest_seen, snapshot-shows, snapshot-walks, snapshot-inside, snapshot-past, snapshot-listed}
 use Rattle.cow_arena.proofs.arena.CowArena.add_pair.Goals as goal
 
 -- ---- no memory
 
 unchanged : (c : goal.In_default) → IsAfter c.args.self.now (record (c.self.inside) { nodes = c.reserve.new.self }) Same Same
-unchanged c = grown_after c.self.inside c.self.invariant c.args.self.now c.self.view_is c.reserve.new.self c.reserve.ensures.capacity
-    (ap (λ (s : Slab Node). get s) c.reserve.ensures.rest_kept)
+unchanged c = after_seen c.self.view_is
+    (grown c.self.inside c.self.invariant c.reserve.new.self c.reserve.ensures.capacity (ap (λ (s : Slab Node). get s) c.reserve.ensures.rest_kept))
 
 pub invariant_of-self : goal.invariant_of-self
 invariant_of-self c = (unchanged c).arena
@@ -82,13 +78,21 @@ free c = subst (λ (f : Nodes). (f c.put_pair-pair.result.hidden.0 ≡ None) × 
     (ap (λ (s : Slab Node). get s) c.reserve.ensures.rest_kept ∙ ap (λ (v : Arena). nodes_of v) c.self.view_is) c.put_pair-pair.ensures.free
 
 pub returns-clause-shows : goal.returns-clause-shows
-returns-clause-shows c = shows-snapshot c.args.self.now (get c.put_pair-pair.new.nodes) (c.self.inside.lists + 2)
-    (forest_seen c.self.inside c.self.invariant c.args.self.now c.self.view_is) (after c).arena.forest (ap (λ (v : Arena). v.lists + 2) c.self.view_is)
-    c.args.leaf.0 c.put_pair-pair.result.hidden.0 c.put_pair-pair.result.child.0 c.args.koid c.args.first c.args.seen c.args.count c.requires.leaf
-    (free c) (returns-clause-nodes c)
+returns-clause-shows c = snapshot-shows c.args.self.now (forest_seen c.self.inside c.self.invariant c.args.self.now c.self.view_is) (after c).arena.forest
+    (ap (λ (v : Arena). v.lists + 2) c.self.view_is) _ _ _ _ _ _ _ c.requires.leaf (free c) (returns-clause-nodes c)
+
+pub returns-clause-walks : goal.returns-clause-walks
+returns-clause-walks c = snapshot-walks c.args.self.now (forest_seen c.self.inside c.self.invariant c.args.self.now c.self.view_is) (after c).arena.forest
+    (ap (λ (v : Arena). v.lists + 2) c.self.view_is) _ _ _ _ _ _ _ c.requires.leaf (free c) (returns-clause-nodes c)
+
+pub returns-clause-inside : goal.returns-clause-inside
+returns-clause-inside c = snapshot-inside c.args.self.now (forest_seen c.self.inside c.self.invariant c.args.self.now c.self.view_is) (after c).arena.forest
+    (ap (λ (v : Arena). v.lists + 2) c.self.view_is) _ _ _ _ _ _ _ c.requires.leaf (free c) (returns-clause-nodes c)
+
+pub returns-clause-past : goal.returns-clause-past
+returns-clause-past c = snapshot-past c.args.self.now (forest_seen c.self.inside c.self.invariant c.args.self.now c.self.view_is) (after c).arena.forest
+    (ap (λ (v : Arena). v.lists + 2) c.self.view_is) _ _ _ _ _ _ _ c.requires.leaf (free c) (returns-clause-nodes c)
 
 pub returns-clause-listed : goal.returns-clause-listed
-returns-clause-listed c = snapshot-listed c.args.self.now (get c.put_pair-pair.new.nodes) (c.self.inside.lists + 2)
-    (forest_seen c.self.inside c.self.invariant c.args.self.now c.self.view_is) (after c).arena.forest (ap (λ (v : Arena). v.lists + 2) c.self.view_is)
-    c.args.leaf.0 c.put_pair-pair.result.hidden.0 c.put_pair-pair.result.child.0 c.args.koid c.args.first c.args.seen c.args.count c.requires.leaf
-    (free c) (returns-clause-nodes c)
+returns-clause-listed c = snapshot-listed c.args.self.now (forest_seen c.self.inside c.self.invariant c.args.self.now c.self.view_is) (after c).arena.forest
+    (ap (λ (v : Arena). v.lists + 2) c.self.view_is) _ _ _ _ _ _ _ c.requires.leaf (free c) (returns-clause-nodes c)

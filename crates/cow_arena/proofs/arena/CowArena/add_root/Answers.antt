@@ -1,19 +1,16 @@
-use Rattle.std.proofs.Common.{sym, ap, ◌∙◌, ◌+◌}
-use Rattle.slab.specs.Slab.{Slab, get}
-use Rattle.cow_arena.specs.declared.node.Node.{Node}
-use Rattle.cow_arena.specs.Walk.{tree_with}
+use Rattle.cow_arena.proofs.Words.{sym, ap, ◌∙◌, ◌+◌, Slab, get, Node, tree_with}
 use Rattle.cow_arena.proofs.SlotLaws.{nodes_with}
-use Rattle.cow_arena.proofs.ArenaLaws.{IsAfter, Same, More, grown_after, rooted_after}
+use Rattle.cow_arena.proofs.ArenaLaws.{IsAfter, Same, More, after_seen, grown, rooted}
 use Rattle.cow_arena.proofs.WindowWalkLaws.{put-listed}
 use Rattle.cow_arena.proofs.arena.CowArena.add_root.Goals as goal
 
 unchanged : (c : goal.In_default) → IsAfter c.args.self.now (record (c.self.inside) { nodes = c.insert.new.self }) Same Same
-unchanged c = grown_after c.self.inside c.self.invariant c.args.self.now c.self.view_is c.insert.new.self c.insert.ensures.capacity
-    (ap (λ (s : Slab Node). get s) c.in_default.ensures.err)
+unchanged c = after_seen c.self.view_is
+    (grown c.self.inside c.self.invariant c.insert.new.self c.insert.ensures.capacity (ap (λ (s : Slab Node). get s) c.in_default.ensures.err))
 
 after : (c : goal.After-self-1) → IsAfter c.args.self.now (record (c.self.inside) { nodes = c.insert.new.self; lists = c.self.inside.lists + 1 }) Same More
-after c = rooted_after c.self.inside c.self.invariant c.args.self.now c.self.view_is c.insert.new.self c.in-Ok.at c.in-Ok.ensures.was_vacant c.args.koid c.args.count
-    c.insert.ensures.capacity c.in-Ok.ensures.key_in_range (nodes_with c.self.inside.nodes c.insert.new.self c.in-Ok.at _ c.in-Ok.ensures.updates)
+after c = after_seen c.self.view_is (rooted c.self.inside c.self.invariant c.insert.new.self c.in-Ok.at c.in-Ok.ensures.was_vacant c.args.koid c.args.count
+    c.insert.ensures.capacity c.in-Ok.ensures.key_in_range (nodes_with c.self.inside.nodes c.insert.new.self c.in-Ok.at _ c.in-Ok.ensures.updates))
 
 pub invariant_of-self : goal.invariant_of-self
 invariant_of-self c = (unchanged c).arena

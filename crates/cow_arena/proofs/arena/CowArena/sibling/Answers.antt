@@ -1,6 +1,4 @@
-use Rattle.std.proofs.Common.{ap, sym, ◌∙◌}
-use Rattle.std.specs.Prelude.{is_none}
-use Rattle.slab.specs.Slab.{get}
+use Rattle.cow_arena.proofs.Words.{ap, sym, ◌∙◌, is_none, get}
 use Rattle.cow_arena.proofs.LinkLaws.{parents_held, sibling_none, above_none, sibling_below}
 use Rattle.cow_arena.proofs.arena.CowArena.sibling.Goals as goal
 

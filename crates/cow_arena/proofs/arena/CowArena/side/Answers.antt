@@ -1,5 +1,4 @@
-use Rattle.std.proofs.Common.{ap, sym, ◌∙◌}
-use Rattle.std.specs.Prelude.{is_none}
+use Rattle.cow_arena.proofs.Words.{ap, sym, ◌∙◌, is_none}
 use Rattle.cow_arena.proofs.LinkLaws.{parents_held, above_none}
 use Rattle.cow_arena.proofs.arena.CowArena.side.Goals as goal
 

@@ -1,7 +1,4 @@
-use Rattle.std.proofs.Common.{sym, ap, ◌∙◌, ◌-◌, ◌≡◌}
-use Rattle.slab.specs.Slab.{get}
-use Rattle.cow_arena.specs.Nodes.{Arena, AreFamily, other_side, side_of}
-use Rattle.cow_arena.specs.Changes.{spliced}
+use Rattle.cow_arena.proofs.Words.{rules, ℕ, sym, ap, ◌∙◌, ◌-◌, ◌≡◌, get, Node, Arena, AreFamily, nodes_of, other_side, side_of, spliced}
 use Rattle.cow_arena.proofs.LinkLaws.{parent_held, parents_held, parents_apart, child_there, child_some, kin, room_fits}
 use Rattle.cow_arena.proofs.ArenaLaws.{IsAfter, Less, spliced_is, some_hidden, sibling_apart, splice_nodes, splice_after}
 use Rattle.cow_arena.proofs.ViewLaws.{forest_seen, keeps-walks, keeps-listed}
@@ -32,23 +29,20 @@ lifted-requires c =
 
 -- ---- what is changed
 
-pub splice_nodes-requires-clause-parent : goal.splice_nodes-requires-clause-parent
-splice_nodes-requires-clause-parent c = parents_held (get c.self.inside.nodes) c.self.inside.lists c.self.invariant.forest c.in-Some.hidden.0 c.index-2.result.now c.index-2.ensures
-
-pub splice_nodes-requires-clause-leaf : goal.splice_nodes-requires-clause-leaf
-splice_nodes-requires-clause-leaf c =
-    (sibling_apart c.self.inside c.self.invariant c.args.self.now c.self.view_is c.args.leaf.0 c.in-Some.hidden.0 c.in-Some-sibling_of.sibling.0 c.index.result.now c.index-2.result.now c.index-node.result.now
-    (kin (get c.self.inside.nodes) c.self.inside.lists c.self.invariant.forest c.args.leaf.0 c.in-Some.hidden.0 c.index.result.now c.index-2.result.now
-    c.index.ensures c.in-Some.is c.index-2.ensures c.in-Some-sibling_of.sibling.0 c.index-node.result.now (sym c.sibling_of.ensures ∙ c.in-Some-sibling_of.is) c.index-node.ensures)).0
-
-pub splice_nodes-requires-clause-hidden : goal.splice_nodes-requires-clause-hidden
-splice_nodes-requires-clause-hidden c =
-    (sibling_apart c.self.inside c.self.invariant c.args.self.now c.self.view_is c.args.leaf.0 c.in-Some.hidden.0 c.in-Some-sibling_of.sibling.0 c.index.result.now c.index-2.result.now c.index-node.result.now
-    (kin (get c.self.inside.nodes) c.self.inside.lists c.self.invariant.forest c.args.leaf.0 c.in-Some.hidden.0 c.index.result.now c.index-2.result.now
-    c.index.ensures c.in-Some.is c.index-2.ensures c.in-Some-sibling_of.sibling.0 c.index-node.result.now (sym c.sibling_of.ensures ∙ c.in-Some-sibling_of.is) c.index-node.ensures)).1
-
-pub splice_nodes-requires-clause-above : goal.splice_nodes-requires-clause-above
-splice_nodes-requires-clause-above c = parents_apart (get c.self.inside.nodes) c.self.inside.lists c.self.invariant.forest c.in-Some.hidden.0 c.index-2.result.now c.index-2.ensures
+pub splice_nodes-requires : goal.splice_nodes-requires
+splice_nodes-requires c =
+    let forest = c.self.invariant.forest in
+    let apart = sibling_apart c.self.inside c.self.invariant c.args.self.now c.self.view_is c.args.leaf.0 c.in-Some.hidden.0 c.in-Some-sibling_of.sibling.0
+    c.index.result.now c.index-2.result.now c.index-node.result.now
+    (kin (get c.self.inside.nodes) c.self.inside.lists forest c.args.leaf.0 c.in-Some.hidden.0 c.index.result.now c.index-2.result.now
+    c.index.ensures c.in-Some.is c.index-2.ensures c.in-Some-sibling_of.sibling.0 c.index-node.result.now (sym c.sibling_of.ensures ∙ c.in-Some-sibling_of.is) c.index-node.ensures) in
+    record {
+      parent = parents_held (get c.self.inside.nodes) c.self.inside.lists forest c.in-Some.hidden.0 c.index-2.result.now c.index-2.ensures;
+      sibling = search rules;
+      leaf = apart.0;
+      hidden = apart.1;
+      above = parents_apart (get c.self.inside.nodes) c.self.inside.lists forest c.in-Some.hidden.0 c.index-2.result.now c.index-2.ensures;
+    }
 
 pub overflow_sub-self : goal.overflow_sub-self
 overflow_sub-self c =
@@ -74,28 +68,25 @@ after c = splice_after c.self.inside c.self.invariant c.args.self.now c.self.vie
 pub invariant_of-self : goal.invariant_of-self
 invariant_of-self c = (after c).arena
 
-pub returns-clause-nodes : goal.returns-clause-nodes
-returns-clause-nodes c = λ h s node parent sibling.
+nodes : (c : goal.After-self-1) (h s : ℕ) (node parent sibling : Node) → AreFamily (nodes_of c.args.self.now) c.args.leaf.0 h s node parent sibling →
+    get c.splice_nodes.new.nodes ≡ spliced (nodes_of c.args.self.now) c.args.leaf.0 h s parent sibling
+nodes c = λ h s node parent sibling.
     splice_nodes c.self.inside c.self.invariant c.args.self.now c.self.view_is c.args.leaf.0 c.in-Some.hidden.0 c.in-Some-sibling_of.sibling.0 c.index.result.now c.index-2.result.now c.index-node.result.now
     (family c) c.splice_nodes.new.nodes (spliced_now c) h s node parent sibling
 
-pub returns-clause-hidden : goal.returns-clause-hidden
-returns-clause-hidden c = (after c).hidden
-
-pub returns-clause-visible : goal.returns-clause-visible
-returns-clause-visible c = (after c).visible
-
-pub returns-clause-forest : goal.returns-clause-forest
-returns-clause-forest c = (after c).arena.forest
-
-pub returns-clause-walks : goal.returns-clause-walks
-returns-clause-walks c = λ slots h s node parent sibling kin.
-    keeps-walks c.args.self.now (get c.splice_nodes.new.nodes) c.self.inside.lists
-    (forest_seen c.self.inside c.self.invariant c.args.self.now c.self.view_is) (after c).arena.forest (ap (λ (v : Arena). v.lists) c.self.view_is)
-    c.args.leaf.0 h s node parent sibling c.requires kin (returns-clause-nodes c h s node parent sibling kin) slots
-
-pub returns-clause-listed : goal.returns-clause-listed
-returns-clause-listed c = λ slots h s node parent sibling kin.
-    keeps-listed c.args.self.now (get c.splice_nodes.new.nodes) c.self.inside.lists
-    (forest_seen c.self.inside c.self.invariant c.args.self.now c.self.view_is) (after c).arena.forest (ap (λ (v : Arena). v.lists) c.self.view_is)
-    c.args.leaf.0 h s node parent sibling c.requires kin (returns-clause-nodes c h s node parent sibling kin) slots
+pub returns : goal.returns
+returns c = let it = after c in record {
+  nodes = nodes c;
+  walks = λ slots h s node parent sibling kin.
+      keeps-walks c.args.self.now (get c.splice_nodes.new.nodes) c.self.inside.lists
+      (forest_seen c.self.inside c.self.invariant c.args.self.now c.self.view_is) it.arena.forest (ap (λ (v : Arena). v.lists) c.self.view_is)
+      c.args.leaf.0 h s node parent sibling c.requires kin (nodes c h s node parent sibling kin) slots;
+  lists = search rules;
+  hidden = it.hidden;
+  visible = it.visible;
+  forest = it.arena.forest;
+  listed = λ slots h s node parent sibling kin.
+      keeps-listed c.args.self.now (get c.splice_nodes.new.nodes) c.self.inside.lists
+      (forest_seen c.self.inside c.self.invariant c.args.self.now c.self.view_is) it.arena.forest (ap (λ (v : Arena). v.lists) c.self.view_is)
+      c.args.leaf.0 h s node parent sibling c.requires kin (nodes c h s node parent sibling kin) slots;
+}

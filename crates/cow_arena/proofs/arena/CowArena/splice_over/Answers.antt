@@ -1,14 +1,10 @@
 -- The sibling takes the parent's place, and then its list.
-use Rattle.std.proofs.Common.{◌≡◌, Some, refl, sym, ap, subst, ◌∙◌, arith}
-use Rattle.std.specs.Prelude.{is_some}
-use Rattle.slab.specs.Slab.{with_value}
-use Rattle.cow_arena.specs.declared.node.Node.{Node}
-use Rattle.cow_arena.specs.Nodes.{Arena, Nodes, nodes_of, AreFamily}
-use Rattle.cow_arena.specs.Forest.{IsForest}
-use Rattle.cow_arena.specs.Changes.{spliced, spliced_over}
+use Rattle.cow_arena.proofs.Words.{◌≡◌, Some, refl, sym, ap, subst, ◌∙◌, arith, is_some, with_value, Node, Arena, Nodes, nodes_of}
+use Rattle.cow_arena.proofs.Words.{AreFamily, IsForest, spliced, spliced_over}
 use Rattle.cow_arena.proofs.ArenaLaws.{IsAfter, Same, list_after, nodes_changed, family_same}
 use Rattle.cow_arena.proofs.ViewLaws.{forest_seen}
-use Rattle.cow_arena.proofs.RenamedOverLaws.{family-found, sibling-there, nodes-written, forest-written, keeps-walks_over, keeps-listed_over}
+use Rattle.cow_arena.proofs.RenamedOverLaws.{family-found, sibling-there, nodes-written, forest-written, keeps-walks_over}
+use Rattle.cow_arena.proofs.RenamedOverLaws.{keeps-listed_over}
 use Rattle.cow_arena.proofs.arena.CowArena.splice_over.Goals as goal
 
 pub index_mut-requires : goal.index_mut-requires

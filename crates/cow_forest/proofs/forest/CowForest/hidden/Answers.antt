@@ -1,5 +1,4 @@
-use Rattle.std.proofs.Common.{arith}
-use Rattle.cow_forest.specs.inside.Fields.{forest_of}
+use Rattle.cow_forest.proofs.Words.{arith, forest_of}
 use Rattle.cow_forest.proofs.DepthLaws.{depth-vmos}
 use Rattle.cow_forest.proofs.forest.CowForest.hidden.Goals as goal
 

@@ -1,8 +1,5 @@
-use Rattle.std.proofs.Common.{◌+◌, ◌*◌, ◌≤◌, sym, subst, ◌∙◌}
-use Rattle.cow_arena.specs.Nodes.{nodes_of}
+use Rattle.cow_forest.proofs.Words.{◌+◌, ◌*◌, ◌≤◌, sym, subst, ◌∙◌, nodes_of, depth, forest_of}
 use Rattle.cow_arena.proofs.WalkLaws.{link_same}
-use Rattle.cow_split.specs.Cost.{depth}
-use Rattle.cow_forest.specs.inside.Fields.{forest_of}
 use Rattle.cow_forest.proofs.ContentLaws.{page-found, page-at}
 use Rattle.cow_forest.proofs.FrameLaws.{look-of}
 use Rattle.cow_forest.proofs.forest.CowForest.look_counted.Goals as goal

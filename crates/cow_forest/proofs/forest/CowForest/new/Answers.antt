@@ -1,8 +1,6 @@
-use Rattle.std.proofs.Common.{refl, arith}
-use Rattle.cow_forest.specs.Store.{Forest, tree}
+use Rattle.cow_forest.proofs.Words.{refl, arith, Forest, tree, nodes_of}
 use Rattle.cow_forest.proofs.EmptyLaws.{HasNothing, store-empty, content-empty}
 use Rattle.cow_jump.proofs.JumpLaws.{empty-jumps}
-use Rattle.cow_arena.specs.Nodes.{nodes_of}
 use Rattle.cow_forest.proofs.FounderLaws.{founders-none}
 use Rattle.cow_forest.proofs.forest.CowForest.new.Goals as goal
 

@@ -1,4 +1,4 @@
-use Rattle.cow_forest.specs.inside.Fields.{forest_of}
+use Rattle.cow_forest.proofs.Words.{forest_of}
 use Rattle.cow_forest.proofs.LeavingLaws.{node-found}
 use Rattle.cow_forest.proofs.forest.CowForest.node_of.Goals as goal
 

@@ -1,4 +1,4 @@
-use Rattle.cow_forest.specs.inside.Fields.{forest_of}
+use Rattle.cow_forest.proofs.Words.{forest_of}
 use Rattle.cow_forest.proofs.ReachedLaws.{reached-few}
 use Rattle.cow_forest.proofs.forest.CowForest.rows.Goals as goal
 

@@ -1,10 +1,5 @@
-use Rattle.std.proofs.Common.{◌+◌, ◌≤◌, refl, sym, subst, ◌∙◌, arith}
-use Rattle.cow_arena.specs.Nodes.{nodes_of}
+use Rattle.cow_forest.proofs.Words.{◌+◌, ◌≤◌, refl, sym, subst, ◌∙◌, arith, nodes_of, depth, forest_of, rows_reached, tree}
 use Rattle.cow_arena.proofs.WalkLaws.{link_same}
-use Rattle.cow_split.specs.Cost.{depth}
-use Rattle.cow_forest.specs.inside.Fields.{forest_of}
-use Rattle.cow_forest.specs.Ranges.{rows_reached}
-use Rattle.cow_forest.specs.Store.{tree}
 use Rattle.cow_forest.proofs.ContentLaws.{vmo-found}
 use Rattle.cow_forest.proofs.ZeroedLaws.{range-fits, range-ready, are-ranged, content-ranged, spare-ranged}
 use Rattle.cow_forest.proofs.forest.CowForest.zero_range.Goals as goal
@@ -24,16 +19,14 @@ zero_pages-requires-clause-ready g c =
 pub invariant_of-self : goal.invariant_of-self
 invariant_of-self g c = are-ranged c.self.inside c.self.invariant c.args.v.0 _ c.get-node.ensures _ _ _ _ c.zero_pages.ensures.some
 
-pub returns-clause-content : goal.returns-clause-content
-returns-clause-content g c =
-    rw (← c.self.view_is) (content-ranged _ c.self.invariant.store c.args.v.0 _ c.get-node.ensures _ _ _ _ c.zero_pages.ensures.some c.zero_pages.ensures.zero)
-
-pub returns-clause-spare : goal.returns-clause-spare
-returns-clause-spare g c =
-    rw (← c.self.view_is) (spare-ranged _ c.self.invariant.store c.args.v.0 _ c.get-node.ensures _ _ _ _ c.zero_pages.ensures.some c.args.count refl (rw (← c.self.view_is) at c.requires.range))
-
-pub returns-clause-cost : goal.returns-clause-cost
-returns-clause-cost g c = rw (← c.self.view_is) (λ k is.
-    let same = link_same (sym c.get-node.ensures ∙ is) in
-    subst (λ j. c.zero_pages.new.steps ≤ c.args.steps.now + rows_reached (tree (forest_of c.self.inside)) j c.args.first (c.args.first + c.args.count)
-    + depth (nodes_of c.self.inside.arena) c.self.inside.arena.lists j) same c.zero_pages.ensures.cost)
+pub returns : goal.returns
+returns g c = record {
+  content =
+      rw (← c.self.view_is) (content-ranged _ c.self.invariant.store c.args.v.0 _ c.get-node.ensures _ _ _ _ c.zero_pages.ensures.some c.zero_pages.ensures.zero);
+  spare =
+      rw (← c.self.view_is) (spare-ranged _ c.self.invariant.store c.args.v.0 _ c.get-node.ensures _ _ _ _ c.zero_pages.ensures.some c.args.count refl (rw (← c.self.view_is) at c.requires.range));
+  cost = rw (← c.self.view_is) (λ k is.
+      let same = link_same (sym c.get-node.ensures ∙ is) in
+      subst (λ j. c.zero_pages.new.steps ≤ c.args.steps.now + rows_reached (tree (forest_of c.self.inside)) j c.args.first (c.args.first + c.args.count)
+      + depth (nodes_of c.self.inside.arena) c.self.inside.arena.lists j) same c.zero_pages.ensures.cost);
+}

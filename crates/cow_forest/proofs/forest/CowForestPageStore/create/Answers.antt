@@ -1,10 +1,4 @@
-use Rattle.std.proofs.Common.{ℕ, refl, ap, ◌∙◌, arith}
-use Rattle.std.specs.Prelude.{Option, is_some}
-use Rattle.vm_base.specs.Entries.{with_key}
-use Rattle.vm_base.proofs.EntryLaws.{with_key-same}
-use Rattle.cow_arena.specs.declared.node.NodeId.{NodeId}
-use Rattle.cow_arena.specs.Nodes.{Nodes, nodes_of}
-use Rattle.cow_forest.specs.inside.Fields.{forest_of}
+use Rattle.cow_forest.proofs.Words.{ℕ, refl, ap, ◌∙◌, arith, Option, is_some, with_key, with_key-same, NodeId, Nodes, nodes_of, forest_of}
 use Rattle.cow_forest.proofs.EnterLaws.{are-alike, vmos_le}
 use Rattle.cow_forest.proofs.MakingLaws.{HasRoot, store-made, content-made}
 use Rattle.cow_forest.proofs.JumpKeptLaws.{jumps-root}

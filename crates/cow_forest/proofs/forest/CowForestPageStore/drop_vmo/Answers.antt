@@ -1,11 +1,7 @@
-use Rattle.std.proofs.Common.{ap, sym, ◌∙◌, arith}
-use Rattle.std.specs.Prelude.{is_some}
-use Rattle.cow_forest.specs.inside.Fields.{forest_of}
-use Rattle.cow_forest.specs.Store.{tree}
+use Rattle.cow_forest.proofs.Words.{ap, sym, ◌∙◌, arith, is_some, forest_of, tree, nodes_of}
 use Rattle.cow_forest.proofs.LeavingLaws.{one-of, store-left, content-left}
 use Rattle.cow_jump.proofs.JumpRowLaws.{jumps-retired}
 use Rattle.cow_forest.proofs.JumpKeptLaws.{jumps-closed}
-use Rattle.cow_arena.specs.Nodes.{nodes_of}
 use Rattle.cow_forest.proofs.FounderLaws.{founders-stay}
 use Rattle.cow_forest.proofs.forest.CowForestPageStore.drop_vmo.Goals as goal
 
@@ -22,7 +18,7 @@ close_by_jumps-requires-clause-leaf c =
 pub leave_other-requires : goal.leave_other-requires
 leave_other-requires c =
     let s = c.self.invariant.store in
-    one-of (forest_of c.self.inside) _ _ _ _ c.get-node.result.0 c.disown-merged.result s.exact.forest c.close_by_jumps.ensures.closed
+    one-of (forest_of c.self.inside) c.close_by_jumps.new.arena _ c.get-node.result.0 c.disown-merged.result s.exact.forest c.close_by_jumps.ensures.gone
     (record { family = c.disown-merged.ensures.family; root = c.disown-merged.ensures.root })
 
 pub invariant_of-self : goal.invariant_of-self
@@ -30,15 +26,16 @@ invariant_of-self c =
     let s = c.self.invariant.store in
     let h = s.named c.args.v.0 c.get-node.result c.get-node.ensures in
     record {
-      store = store-left (forest_of c.self.inside) _ _ _ _ _ _ c.args.v.0 c.get-node.result.0 s h c.close_by_jumps.ensures.closed c.disown-merged.result
+      store = store-left (forest_of c.self.inside) _ _ _ _ _ _ c.args.v.0 c.get-node.result.0 s h c.close_by_jumps.ensures.gone
+          c.close_by_jumps.ensures.kept c.close_by_jumps.ensures.visible c.disown-merged.result
           (record { family = c.disown-merged.ensures.family; root = c.disown-merged.ensures.root }) c.disown-merged.ensures.disowned c.leave_other.ensures
           c.leave.ensures;
       jumps = c.renew_merged.ensures c.self.inside.next
           (jumps-closed (tree (forest_of c.self.inside)) _ c.self.inside.next c.get-node.result.0 c.self.inside.jumps c.retire_pair.new.jumps c.self.invariant.jumps
-          c.retire_pair.ensures c.close_by_jumps.ensures.ways (λ k now at. let was = c.close_by_jumps.ensures.closed.came k now at in (was.node, was.at)));
+          c.retire_pair.ensures c.close_by_jumps.ensures.ways (λ k now at. let was = c.close_by_jumps.ensures.gone.came k now at in (was.node, was.at)));
       founders = founders-stay (nodes_of c.self.inside.arena) (nodes_of c.close_by_jumps.new.arena) c.self.inside.next c.self.inside.next (omega arith)
-          c.close_by_jumps.ensures.parents
-          (λ k now at hidden. let was = c.close_by_jumps.ensures.closed.came k now at in (was.node, was.at, sym was.koid ∙ hidden))
+          c.close_by_jumps.ensures.gone.parents
+          (λ k now at hidden. let was = c.close_by_jumps.ensures.gone.came k now at in (was.node, was.at, sym was.koid ∙ hidden))
           c.self.inside.founders c.self.invariant.founders;
     }
 
@@ -47,7 +44,8 @@ returns-clause-content c =
     let s = c.self.invariant.store in
     let h = s.named c.args.v.0 c.get-node.result c.get-node.ensures in
     rw (← c.self.view_is)
-    (content-left (forest_of c.self.inside) _ _ _ _ _ _ c.args.v.0 c.get-node.result.0 s h c.close_by_jumps.ensures.closed c.disown-merged.result
+    (content-left (forest_of c.self.inside) _ _ _ _ _ _ c.args.v.0 c.get-node.result.0 s h c.close_by_jumps.ensures.gone
+    c.close_by_jumps.ensures.kept c.close_by_jumps.ensures.visible c.disown-merged.result
     (record { family = c.disown-merged.ensures.family; root = c.disown-merged.ensures.root }) c.disown-merged.ensures.disowned c.leave_other.ensures
     c.leave.ensures)
 
@@ -58,18 +56,16 @@ close_by_jumps-requires-clause-jumps c = (
       c.retire_pair.ensures,
 )
 
-pub renew_merged-requires-clause-forest : goal.renew_merged-requires-clause-forest
-renew_merged-requires-clause-forest c = c.close_by_jumps.ensures.closed.exact.forest
-
-pub renew_merged-requires-clause-merged : goal.renew_merged-requires-clause-merged
-renew_merged-requires-clause-merged c =
-    let s = c.self.invariant.store in
-    one-of (forest_of c.self.inside) _ _ _ _ c.get-node.result.0 c.disown-merged.result s.exact.forest c.close_by_jumps.ensures.closed
-    (record { family = c.disown-merged.ensures.family; root = c.disown-merged.ensures.root })
-
-pub renew_merged-requires-clause-jumps : goal.renew_merged-requires-clause-jumps
-renew_merged-requires-clause-jumps c = (
-  c.self.inside.next,
-  jumps-closed (tree (forest_of c.self.inside)) _ c.self.inside.next c.get-node.result.0 c.self.inside.jumps c.retire_pair.new.jumps c.self.invariant.jumps
-      c.retire_pair.ensures c.close_by_jumps.ensures.ways (λ k now at. let was = c.close_by_jumps.ensures.closed.came k now at in (was.node, was.at)),
-)
+pub renew_merged-requires : goal.renew_merged-requires
+renew_merged-requires c = record {
+  forest = c.close_by_jumps.ensures.kept.exact.forest;
+  merged =
+      let s = c.self.invariant.store in
+      one-of (forest_of c.self.inside) c.close_by_jumps.new.arena _ c.get-node.result.0 c.disown-merged.result s.exact.forest c.close_by_jumps.ensures.gone
+      (record { family = c.disown-merged.ensures.family; root = c.disown-merged.ensures.root });
+  jumps = (
+    c.self.inside.next,
+    jumps-closed (tree (forest_of c.self.inside)) _ c.self.inside.next c.get-node.result.0 c.self.inside.jumps c.retire_pair.new.jumps c.self.invariant.jumps
+        c.retire_pair.ensures c.close_by_jumps.ensures.ways (λ k now at. let was = c.close_by_jumps.ensures.gone.came k now at in (was.node, was.at)),
+  );
+}

@@ -1,8 +1,5 @@
-use Rattle.std.proofs.Common.{◌≡◌, ℕ, Result, Ok, Err, None, OnOk, OnErr, sym, subst}
-use Rattle.frame_pool.specs.Pool.{Pool, taken_frames}
-use Rattle.vm_model.specs.Contents.Content.{nothing}
-use Rattle.cow_forest.specs.inside.Fields.{forest_of}
-use Rattle.cow_forest.specs.Store.{Forest, forest_content, IsStore}
+use Rattle.cow_forest.proofs.Words.{◌≡◌, ℕ, Result, Ok, Err, None, OnOk, OnErr, sym, subst, Pool, taken_frames, nothing, forest_of, Forest}
+use Rattle.cow_forest.proofs.Words.{forest_content, IsStore}
 use Rattle.cow_forest.proofs.EmptyLaws.{no-frames, store-filled, content-filled}
 use Rattle.cow_forest.proofs.forest.CowForestPageStore.fill.Goals as goal
 

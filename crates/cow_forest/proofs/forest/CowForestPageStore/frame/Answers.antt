@@ -1,6 +1,4 @@
-use Rattle.std.proofs.Common.{ap}
-use Rattle.std.specs.Prelude.{is_some}
-use Rattle.cow_forest.specs.inside.Fields.{forest_of}
+use Rattle.cow_forest.proofs.Words.{ap, is_some, forest_of}
 use Rattle.cow_forest.proofs.ContentLaws.{page-found, page-at}
 use Rattle.cow_forest.proofs.FrameLaws.{frame-from}
 use Rattle.cow_forest.proofs.forest.CowForestPageStore.frame.Goals as goal

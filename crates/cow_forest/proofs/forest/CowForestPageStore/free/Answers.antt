@@ -1,5 +1,4 @@
-use Rattle.std.proofs.Common.{arith}
-use Rattle.cow_forest.specs.inside.Fields.{forest_of}
+use Rattle.cow_forest.proofs.Words.{arith, forest_of}
 use Rattle.cow_forest.proofs.ContentLaws.{used-taken}
 use Rattle.cow_forest.proofs.forest.CowForestPageStore.free.Goals as goal
 

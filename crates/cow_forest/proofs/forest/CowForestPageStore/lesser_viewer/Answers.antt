@@ -1,7 +1,4 @@
-use Rattle.std.proofs.Common.{ap, sym, ◌∙◌, arith}
-use Rattle.std.specs.Prelude.{is_some}
-use Rattle.cow_forest.specs.inside.Fields.{forest_of}
-use Rattle.cow_forest.specs.Store.{tree, frame_from}
+use Rattle.cow_forest.proofs.Words.{ap, sym, ◌∙◌, arith, is_some, forest_of, tree, frame_from}
 use Rattle.cow_forest.proofs.FrameLaws.{shown-taken}
 use Rattle.cow_forest.proofs.LeavingLaws.{node-found}
 use Rattle.cow_forest.proofs.ViewingLaws.{link-owned, link-row, lesser-viewer}

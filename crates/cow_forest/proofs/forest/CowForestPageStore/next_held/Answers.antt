@@ -1,4 +1,4 @@
-use Rattle.cow_forest.specs.inside.Fields.{forest_of}
+use Rattle.cow_forest.proofs.Words.{forest_of}
 use Rattle.cow_forest.proofs.HeldLaws.{node-leaf, next-some, next-none}
 use Rattle.cow_forest.proofs.forest.CowForestPageStore.next_held.Goals as goal
 

@@ -1,4 +1,4 @@
-use Rattle.cow_forest.specs.inside.Fields.{forest_of}
+use Rattle.cow_forest.proofs.Words.{forest_of}
 use Rattle.cow_forest.proofs.ContentLaws.{page-found, page-at}
 use Rattle.cow_forest.proofs.OwnedLaws.{room-own, store-owned, owns, owned-row}
 use Rattle.cow_forest.proofs.JumpKeptLaws.{jumps-rows}
@@ -18,16 +18,19 @@ own_page-requires-clause-room c =
 pub invariant_of-self : goal.invariant_of-self
 invariant_of-self c =
     record {
-      store = store-owned (forest_of c.self.inside) c.self.invariant.store c.args.v.0 c.args.page (rw (← c.self.view_is) at c.requires.page) _ c.get-node.ensures _ _ _ c.own_page.ensures;
+      store = store-owned (forest_of c.self.inside) c.self.invariant.store c.args.v.0 c.args.page (rw (← c.self.view_is) at c.requires.page) _ c.get-node.ensures _ _ _ c.own_page.ensures.owned
+          c.own_page.ensures.linked;
       jumps = jumps-rows (forest_of c.self.inside) c.self.invariant.store c.own_page.new.lists c.args.v.0 c.get-node.result.0
-          (c.self.invariant.store.named c.args.v.0 c.get-node.result c.get-node.ensures) c.own_page.ensures.rows c.self.inside.next c.self.inside.jumps c.self.invariant.jumps;
+          (c.self.invariant.store.named c.args.v.0 c.get-node.result c.get-node.ensures) c.own_page.ensures.owned.rows c.self.inside.next c.self.inside.jumps c.self.invariant.jumps;
       founders = c.self.invariant.founders;
     }
 
 pub returns-clause-owns : goal.returns-clause-owns
 returns-clause-owns c =
-    rw (← c.self.view_is) (owns (forest_of c.self.inside) c.self.invariant.store c.args.v.0 c.args.page (rw (← c.self.view_is) at c.requires.page) _ c.get-node.ensures _ _ _ c.own_page.ensures)
+    rw (← c.self.view_is) (owns (forest_of c.self.inside) c.self.invariant.store c.args.v.0 c.args.page (rw (← c.self.view_is) at c.requires.page) _ c.get-node.ensures _ _ _
+    c.own_page.ensures.owned c.own_page.ensures.linked)
 
 pub returns-clause-row : goal.returns-clause-row
 returns-clause-row c =
-    rw (← c.self.view_is) (owned-row (forest_of c.self.inside) c.self.invariant.store c.args.v.0 c.args.page (rw (← c.self.view_is) at c.requires.page) _ c.get-node.ensures _ _ _ c.own_page.ensures)
+    rw (← c.self.view_is) (owned-row (forest_of c.self.inside) c.self.invariant.store c.args.v.0 c.args.page (rw (← c.self.view_is) at c.requires.page) _ c.get-node.ensures _ _ _
+    c.own_page.ensures.owned c.own_page.ensures.linked c.own_page.ensures.row)

@@ -1,4 +1,4 @@
-use Rattle.cow_forest.specs.inside.Fields.{forest_of}
+use Rattle.cow_forest.proofs.Words.{forest_of}
 use Rattle.cow_forest.proofs.FrameLaws.{shown-taken}
 use Rattle.cow_forest.proofs.forest.CowForestPageStore.read.Goals as goal
 

@@ -1,4 +1,4 @@
-use Rattle.cow_forest.specs.inside.Fields.{forest_of}
+use Rattle.cow_forest.proofs.Words.{forest_of}
 use Rattle.cow_forest.proofs.EmptyLaws.{store-roomy}
 use Rattle.cow_forest.proofs.JumpKeptLaws.{jumps-roomy}
 use Rattle.cow_forest.proofs.forest.CowForestPageStore.reserve.Goals as goal

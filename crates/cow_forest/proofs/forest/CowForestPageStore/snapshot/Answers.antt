@@ -1,14 +1,6 @@
-use Rattle.std.proofs.Common.{ℕ, ◌+◌, Option, refl, sym, ap, ◌∙◌, arith}
-use Rattle.std.specs.Prelude.{is_some}
-use Rattle.vm_base.specs.Entries.{with_key}
-use Rattle.cow_arena.specs.declared.node.NodeId.{NodeId}
-use Rattle.frame_pool.specs.Pool.{is_taken}
-use Rattle.cow_arena.specs.Nodes.{nodes_of}
+use Rattle.cow_forest.proofs.Words.{ℕ, ◌+◌, Option, refl, sym, ap, ◌∙◌, arith, is_some, with_key, NodeId, is_taken, nodes_of, tree_of}
+use Rattle.cow_forest.proofs.Words.{forest_of, tree, AreJumps}
 use Rattle.cow_arena.proofs.ForestLaws.{held_apart}
-use Rattle.cow_split.specs.Trees.{tree_of}
-use Rattle.cow_forest.specs.inside.Fields.{forest_of}
-use Rattle.cow_forest.specs.Store.{tree}
-use Rattle.cow_jump.specs.Jumps.{AreJumps}
 use Rattle.cow_jump.proofs.JumpLaws.{same-jumps}
 use Rattle.cow_forest.proofs.ContentLaws.{pages-of}
 use Rattle.cow_forest.proofs.EnterLaws.{found-node, are-alike, vmos_le}
@@ -110,28 +102,19 @@ move_up-requires-clause-to c =
 pub move_up-requires-clause-other : goal.move_up-requires-clause-other
 move_up-requires-clause-other c = λ same. c.in_ok-pair.ensures.ok.apart (sym same)
 
-pub note_pair-requires-clause-leaf : goal.note_pair-requires-clause-leaf
-note_pair-requires-clause-leaf c =
+pub note_pair-requires : goal.note_pair-requires
+note_pair-requires c =
     let h = found-node (forest_of c.self.inside) c.self.invariant.store _ c.make_room.ensures.nodes c.args.of.0 _ c.get-node.ensures in
-    leaf-held (forest_of c.self.inside) c.self.invariant.store _ _ c.args.of.0 _ c.in_ok-pair.pair _ _ _ h c.in_ok-pair.ensures.ok
-
-pub note_pair-requires-clause-hidden : goal.note_pair-requires-clause-hidden
-note_pair-requires-clause-hidden c =
-    let h = found-node (forest_of c.self.inside) c.self.invariant.store _ c.make_room.ensures.nodes c.args.of.0 _ c.get-node.ensures in
-    hidden-held (forest_of c.self.inside) c.self.invariant.store _ _ c.args.of.0 _ c.in_ok-pair.pair _ _ _ h c.in_ok-pair.ensures.ok
-
-pub note_pair-requires-clause-child : goal.note_pair-requires-clause-child
-note_pair-requires-clause-child c = ap is_some c.in_ok-pair.ensures.ok.comes
-
-pub note_pair-requires-clause-forest : goal.note_pair-requires-clause-forest
-note_pair-requires-clause-forest c = (c.in_ok-pair.ensures.ok.exact (is_taken c.self.inside.frames) c.self.invariant.store.exact).forest
-
-pub note_pair-requires-clause-jumps : goal.note_pair-requires-clause-jumps
-note_pair-requires-clause-jumps c =
-    let h = found-node (forest_of c.self.inside) c.self.invariant.store _ c.make_room.ensures.nodes c.args.of.0 _ c.get-node.ensures in (
-      c.self.inside.next + 1,
-      jumps-shared (forest_of c.self.inside) c.self.invariant.store c.share.new.arena c.share.new.lists c.args.of.0 c.get-node.result.0
-          c.in_ok-pair.pair _ _ _ _ h c.in_ok-pair.ensures.ok c.self.inside.next c.grow.new.self c.move_up.new.self
-          (same-jumps (tree (forest_of c.self.inside)) c.self.inside.next c.self.inside.jumps c.grow.new.self c.grow.ensures.jumps c.grow.ensures.serials c.self.invariant.jumps)
-          c.move_up.ensures,
-    )
+    record {
+      forest = (c.in_ok-pair.ensures.ok.exact (is_taken c.self.inside.frames) c.self.invariant.store.exact).forest;
+      hidden = hidden-held (forest_of c.self.inside) c.self.invariant.store _ _ c.args.of.0 _ c.in_ok-pair.pair _ _ _ h c.in_ok-pair.ensures.ok;
+      leaf = leaf-held (forest_of c.self.inside) c.self.invariant.store _ _ c.args.of.0 _ c.in_ok-pair.pair _ _ _ h c.in_ok-pair.ensures.ok;
+      child = ap is_some c.in_ok-pair.ensures.ok.comes;
+      jumps = (
+        c.self.inside.next + 1,
+        jumps-shared (forest_of c.self.inside) c.self.invariant.store c.share.new.arena c.share.new.lists c.args.of.0 c.get-node.result.0
+            c.in_ok-pair.pair _ _ _ _ h c.in_ok-pair.ensures.ok c.self.inside.next c.grow.new.self c.move_up.new.self
+            (same-jumps (tree (forest_of c.self.inside)) c.self.inside.next c.self.inside.jumps c.grow.new.self c.grow.ensures.jumps c.grow.ensures.serials c.self.invariant.jumps)
+            c.move_up.ensures,
+      );
+    }

@@ -1,4 +1,4 @@
-use Rattle.cow_forest.specs.inside.Fields.{forest_of}
+use Rattle.cow_forest.proofs.Words.{forest_of}
 use Rattle.cow_forest.proofs.ContentLaws.{page-found, page-at}
 use Rattle.cow_forest.proofs.ViewingLaws.{viewers-counted}
 use Rattle.cow_forest.proofs.forest.CowForestPageStore.viewers.Goals as goal

@@ -1,4 +1,4 @@
-use Rattle.cow_forest.specs.inside.Fields.{forest_of}
+use Rattle.cow_forest.proofs.Words.{forest_of}
 use Rattle.cow_forest.proofs.FrameLaws.{once-taken, store-written, overwrites}
 use Rattle.cow_forest.proofs.forest.CowForestPageStore.write.Goals as goal
 

@@ -1,6 +1,4 @@
-use Rattle.std.proofs.Common.{◌≡◌, ◌+◌, ◌-◌, subst, arith}
-use Rattle.cow_forest.specs.inside.Fields.{forest_of}
-use Rattle.cow_forest.specs.Ranges.{IsReadyToZero}
+use Rattle.cow_forest.proofs.Words.{◌≡◌, ◌+◌, ◌-◌, subst, arith, forest_of, IsReadyToZero}
 use Rattle.cow_forest.proofs.ContentLaws.{vmo-found}
 use Rattle.cow_forest.proofs.ZeroedLaws.{range-ready, are-ranged, content-ranged, spare-ranged}
 use Rattle.cow_forest.proofs.forest.CowForestPageStore.zero_pages.Goals as goal

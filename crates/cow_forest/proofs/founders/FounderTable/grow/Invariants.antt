@@ -1,6 +1,5 @@
-use Rattle.std.proofs.Common.{◌≡◌, ℕ, ◌-◌}
+use Rattle.cow_forest.proofs.Words.{◌≡◌, ℕ, ◌-◌, founders_in}
 use Rattle.std.specs.Vec.{vec_len}
-use Rattle.cow_forest.specs.inside.Founders.{founders_in}
 use Rattle.cow_forest.proofs.founders.FounderTable.grow.Given as goal
 
 abbrev pub invariant-loop-self : goal.invariant-loop-self

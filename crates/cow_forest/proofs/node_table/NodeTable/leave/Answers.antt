@@ -1,5 +1,4 @@
-use Rattle.std.proofs.Common.{arith}
-use Rattle.cow_forest.specs.inside.TableFields.{entries_of}
+use Rattle.cow_forest.proofs.Words.{arith, entries_of}
 use Rattle.cow_forest.proofs.PlaceLaws.{left-placed, left-in}
 use Rattle.cow_forest.proofs.node_table.NodeTable.leave.Goals as goal
 

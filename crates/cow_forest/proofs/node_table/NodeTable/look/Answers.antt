@@ -1,5 +1,4 @@
-use Rattle.std.proofs.Common.{sym, ◌∙◌}
-use Rattle.cow_forest.specs.inside.TableFields.{entries_of}
+use Rattle.cow_forest.proofs.Words.{sym, ◌∙◌, entries_of}
 use Rattle.cow_forest.proofs.PlaceLaws.{found-own, found-displaced}
 use Rattle.cow_forest.proofs.node_table.NodeTable.look.Goals as goal
 

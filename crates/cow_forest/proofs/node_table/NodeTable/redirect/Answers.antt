@@ -1,7 +1,4 @@
-use Rattle.std.proofs.Common.{refl, sym, ap, ◌∙◌, arith}
-use Rattle.std.specs.Prelude.{is_some}
-use Rattle.cow_forest.specs.Tables.{displaced_in}
-use Rattle.cow_forest.specs.inside.TableFields.{entries_of}
+use Rattle.cow_forest.proofs.Words.{refl, sym, ap, ◌∙◌, arith, is_some, displaced_in, entries_of}
 use Rattle.cow_forest.proofs.PlaceLaws.{found-displaced, entered-in, own-alone, changed-in}
 use Rattle.cow_forest.proofs.node_table.NodeTable.redirect.Goals as goal
 

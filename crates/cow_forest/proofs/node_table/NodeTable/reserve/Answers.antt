@@ -1,4 +1,4 @@
-use Rattle.std.proofs.Common.{refl}
+use Rattle.cow_forest.proofs.Words.{refl}
 use Rattle.cow_forest.proofs.PlaceLaws.{still-in}
 use Rattle.cow_forest.proofs.TableLaws.{displaced-same}
 use Rattle.cow_forest.proofs.node_table.NodeTable.reserve.Goals as goal

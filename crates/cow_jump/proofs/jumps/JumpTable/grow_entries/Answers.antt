@@ -1,6 +1,5 @@
-use Rattle.std.proofs.Common.{None, refl, ap, ◌∙◌, arith}
-use Rattle.std.specs.Prelude.{slice_index_or}
-use Rattle.cow_jump.proofs.JumpLaws.{jump-pushed}
+use Rattle.cow_jump.proofs.Words.{None, refl, ap, ◌∙◌, arith, slice_index_or}
+use Rattle.cow_jump.proofs.JumpLaws.{place-pushed}
 use Rattle.cow_jump.proofs.jumps.JumpTable.grow_entries.Goals as goal
 
 pub loop-self-init : goal.loop-self-init
@@ -11,7 +10,7 @@ loop-self-smaller c = omega (arith, c.len.ensures, c.loop-self-test.true, c.in-O
 
 pub loop-self-preserved : goal.loop-self-preserved
 loop-self-preserved c = record {
-  jumps = λ k. jump-pushed _ _ k c.in-Ok.ensures.items ∙ c.loop-self.invariant.jumps k;
+  jumps = λ k. place-pushed _ _ _ k c.in-Ok.ensures.items ∙ c.loop-self.invariant.jumps k;
   serials = c.loop-self.invariant.serials;
 }
 
@@ -21,8 +20,5 @@ returns-in_default-clause-jumps c = λ k. ap (λ items. slice_index_or items k N
 pub returns-in_default-clause-serials : goal.returns-in_default-clause-serials
 returns-in_default-clause-serials c = c.loop-self.invariant.serials
 
-pub returns-clause-jumps : goal.returns-clause-jumps
-returns-clause-jumps c = c.loop-self.invariant.jumps
-
-pub returns-clause-serials : goal.returns-clause-serials
-returns-clause-serials c = c.loop-self.invariant.serials
+pub returns : goal.returns
+returns c = record { jumps = c.loop-self.invariant.jumps; serials = c.loop-self.invariant.serials }

@@ -1,6 +1,4 @@
-use Rattle.std.proofs.Common.{◌≡◌, ℕ, ◌-◌}
-use Rattle.std.specs.Vec.{vec_len}
-use Rattle.cow_jump.specs.Jumps.{jump_in}
+use Rattle.cow_jump.proofs.Words.{◌≡◌, ℕ, ◌-◌, jump_in, vec_len}
 use Rattle.cow_jump.proofs.jumps.JumpTable.grow_entries.Given as goal
 
 abbrev pub invariant-loop-self : goal.invariant-loop-self

@@ -1,7 +1,7 @@
 -- No row stands before the one that is next, and this is past the end.
-use Rattle.page_list.specs.Lists.{slots_of}
+use Rattle.cow_merge.proofs.Words.{slots_of}
 use Rattle.cow_merge.proofs.LiftedLaws.{none-below}
-use Rattle.cow_merge.proofs.lifting.take_below.Goals as goal
+use Rattle.cow_merge.proofs.lifting.next_before.Goals as goal
 
 pub returns-then-is_past-clause-end : goal.returns-then-is_past-clause-end
 returns-then-is_past-clause-end c =
