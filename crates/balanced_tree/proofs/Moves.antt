@@ -1,7 +1,6 @@
 -- What a row that comes in place of one of another rank does to a tree, case by case.
 use Rattle.std.proofs.Common.{◌≡◌, ℕ, ◌+◌, ◌<◌, ◌≤◌, Option, None, Some, inl, inr, refl, sym, ap, ◌∙◌, subst, arith}
 use Rattle.std.proofs.lemmas.Bool.{cases_lt}
-use Rattle.std.proofs.lemmas.Option.{same_Some}
 use Rattle.slab.specs.Slab.{Slab, get, slab_len, Updates}
 use Rattle.balanced_tree.specs.declared.changes.Change.{Change}
 use Rattle.balanced_tree.specs.declared.changes.Change.TheVariants.{Hidden}
@@ -28,7 +27,7 @@ module _ {R : Type 0} (f : Functions R) where
   -- where the way down went to the left
   pub move-left : {s s1 s2 : Slab R} {p : ℕ} {here w : R} {t : SearchTree R} {low high n before b1 b2 after : ℕ} {part change : Change}
       → AreLawful f → (d : IsNode f s p here t low high) → n < f.rank here → HasMoved f s s1 n w d.left low (f.rank d.row) part b1 b2
-      → IsPut f s1 s2 p here here change → root_after change (Some p) ≡ Some p → slab_len s2 ≡ slab_len s1 → b1 ≤ before + 1 → after ≤ b2 + 5
+      → IsPut f s1 s2 p here here change → root_after change (Some p) ≡ Some p → slab_len s2 ≡ slab_len s1 → b1 ≤ before + 1 → after ≤ b2 + 4
       → HasMoved f s s2 n w t low high change before after
   move-left {s} {s1} {s2} {p} {here} {w} {low = low} {high} {n} laws d less sub put root len g1 g2 =
       let on_left = child_at-link f s1 (moved f n w d.left) sub.becomes.spelled (place-moved f n w d.left ∙ d.left_standing.is_at) in
@@ -45,7 +44,7 @@ module _ {R : Type 0} (f : Functions R) where
   -- and to the right
   pub move-right : {s s1 s2 : Slab R} {p : ℕ} {here w : R} {t : SearchTree R} {low high n before b1 b2 after : ℕ} {part change : Change}
       → AreLawful f → (d : IsNode f s p here t low high) → f.rank here < n → HasMoved f s s1 n w d.right (f.rank d.row + 1) high part b1 b2
-      → IsPut f s1 s2 p here here change → root_after change (Some p) ≡ Some p → slab_len s2 ≡ slab_len s1 → b1 ≤ before + 1 → after ≤ b2 + 5
+      → IsPut f s1 s2 p here here change → root_after change (Some p) ≡ Some p → slab_len s2 ≡ slab_len s1 → b1 ≤ before + 1 → after ≤ b2 + 4
       → HasMoved f s s2 n w t low high change before after
   move-right {s} {s1} {s2} {p} {here} {w} {low = low} {high} {n} laws d more sub put root len g1 g2 =
       let on_left = child_at-link f s1 d.left (left_kept f d laws sub.becomes.kept) d.left_standing.is_at in
@@ -201,13 +200,13 @@ module _ {R : Type 0} (f : Functions R) where
     }
 
   -- what was put in place of a row, over the children that were read
-  pub put-read : {s s2 : Slab R} {p : ℕ} {read had w : R} {l r : Option (Child R)} {c : Child R} {change : Change}
-      → get s p ≡ Some read → get s p ≡ Some had → l ≡ child_at s (f.left read) → r ≡ child_at s (f.right read)
-      → Updates s s2 p (Some (f.linked w l r)) → c ≡ record { link = p; row = f.linked w l r } → (change ≡ Hidden → AreAlike f read c.row)
+  pub put-read : {s s2 : Slab R} {p : ℕ} {had w : R} {l r : Option (Child R)} {c : Child R} {change : Change}
+      → l ≡ child_at s (f.left had) → r ≡ child_at s (f.right had)
+      → Updates s s2 p (Some (f.linked w l r)) → c ≡ record { link = p; row = f.linked w l r } → (change ≡ Hidden → AreAlike f had c.row)
       → IsPut f s s2 p had w change
-  put-read {s} {s2} {p} {read} {had} {w} {l} {r} {c} {change} one two left right u child hidden =
-      let row_is : f.linked w l r ≡ f.linked w (child_at s (f.left read)) (child_at s (f.right read)) = rw (left, right) refl in
-      subst (λ y. IsPut f s s2 p y w change) (same_Some _ _ (sym one ∙ two)) (record {
+  put-read {s} {s2} {p} {had} {w} {l} {r} {c} {change} left right u child hidden =
+      let row_is : f.linked w l r ≡ f.linked w (child_at s (f.left had)) (child_at s (f.right had)) = rw (left, right) refl in
+      record {
         updates = subst (λ y. Updates s s2 p (Some y)) row_is u;
-        hidden = λ e. subst (AreAlike f read) (ap (λ d. d.row) child ∙ row_is) (hidden e);
-      })
+        hidden = λ e. subst (AreAlike f had) (ap (λ d. d.row) child ∙ row_is) (hidden e);
+      }

@@ -150,6 +150,29 @@ fn change_from<R: TreeRow>(place: usize, had: R, row: R) -> Change
     }
 }
 
+/// Puts a row under a place in place of the one that it had, over the children of that one, and answers what the row above
+/// the place has to store anew.
+#[inline(always)]
+fn put_for<R: TreeRow, L: Ledger>(
+    rows: &mut RowSlab<R>,
+    place: usize,
+    had: R,
+    row: R,
+    steps: &mut Steps<L>,
+) -> Change
+    requires had { get rows.old place ≡ Some had }
+    requires children { HasChildren R.functions rows.old place }
+    ensures root { root_after result (Some place) ≡ Some place }
+    ensures put { IsPut R.functions rows.old rows.new place had row result }
+    ensures len { slab_len rows.new ≡ slab_len rows.old }
+    ensures capacity { rows.new.capacity ≡ rows.old.capacity }
+    ensures steps { steps.new ≤ steps.old + 3 }
+{
+    let (left, right) = children_of(rows, had, steps);
+    let child = place_over(rows, place, row, left, right, steps);
+    change_from(place, had, child.row)
+}
+
 /// Puts a row under a place in place of the one there, over the children of that one, and answers what the row above the
 /// place has to store anew. The function is not inlined: a change calls it at most once.
 #[inline(never)]
@@ -167,9 +190,7 @@ pub fn put_instead<R: TreeRow, L: Ledger>(
     ensures steps { steps.new ≤ steps.old + 4 }
 {
     let had = rows.row(place, steps);
-    let (left, right) = children_of(rows, had, steps);
-    let child = place_over(rows, place, *row, left, right, steps);
-    change_from(place, had, child.row)
+    put_for(rows, place, had, *row, steps)
 }
 
 /// Puts the row of a place there again, over its children, and answers what the row above it has to store anew. The
@@ -185,10 +206,10 @@ pub fn put_again<R: TreeRow, L: Ledger>(
     ensures put { (had : R) → get rows.old place ≡ Some had → IsPut R.functions rows.old rows.new place had had result }
     ensures len { slab_len rows.new ≡ slab_len rows.old }
     ensures capacity { rows.new.capacity ≡ rows.old.capacity }
-    ensures steps { steps.new ≤ steps.old + 5 }
+    ensures steps { steps.new ≤ steps.old + 4 }
 {
     let row = rows.row(place, steps);
-    put_instead(rows, place, &row, steps)
+    put_for(rows, place, row, row, steps)
 }
 
 /// Puts the row under its left child: the left child is too high.

@@ -5,4 +5,4 @@ use Rattle.balanced_tree.proofs.rotation.put_again.Goals as goal
 
 pub returns-clause-put : goal.returns-clause-put
 returns-clause-put g c =
-    λ had e. subst (λ y. IsPut g.R.TreeRow.functions c.args.rows.now c.put_instead.new.rows c.args.place had y c.put_instead.result) (same_Some _ _ (sym c.row-row.ensures.row ∙ e)) (c.put_instead.ensures.put had e)
+    λ had e. subst (λ y. IsPut g.R.TreeRow.functions c.args.rows.now c.put_for.new.rows c.args.place y y c.put_for.result) (same_Some _ _ (sym c.row-row.ensures.row ∙ e)) c.put_for.ensures.put

@@ -1,6 +1,8 @@
-use Rattle.balanced_tree.proofs.Moves.{put-read}
+use Rattle.std.proofs.Common.{sym, ◌∙◌, subst}
+use Rattle.std.proofs.lemmas.Option.{same_Some}
+use Rattle.balanced_tree.specs.inside.Standing.{IsPut}
 use Rattle.balanced_tree.proofs.rotation.put_instead.Goals as goal
 
 pub returns-clause-put : goal.returns-clause-put
 returns-clause-put g c =
-    λ had e. put-read g.R.TreeRow.functions c.row-had.ensures.row e c.children_of-left.ensures.left c.children_of-left.ensures.right c.place_over-child.ensures.updates c.place_over-child.ensures.child c.change_from.ensures.hidden
+    λ had e. subst (λ y. IsPut g.R.TreeRow.functions c.args.rows.now c.put_for.new.rows c.args.place y c.args.row.now c.put_for.result) (same_Some _ _ (sym c.row-had.ensures.row ∙ e)) c.put_for.ensures.put
