@@ -1,10 +1,20 @@
 -- Extents that stand apart, and the first gap between them.
 use Rattle.std.proofs.Common.{◌≡◌, inl, inr, ℕ, ◌+◌, ◌-◌, ◌<◌, ◌≤◌, min, max, cond, leb, List, [], ◌∷◌, ◌++◌, Option, None, Some, refl, sym, subst, arith}
-use Rattle.std.specs.Option.{MatchOption}
 use Rattle.std.proofs.lemmas.Bool.{leb-true, leb-false, cond_both, cases_lt}
 use Rattle.balanced_tree.specs.Row.{Functions}
 use Rattle.balanced_tree.specs.Extents.{Extents}
-use Rattle.balanced_tree.specs.Gaps.{ApartWithin, IsFree, HasNoGap, IsFirstGap}
+use Rattle.balanced_tree.specs.Gaps.{ApartWithin, IsFree, HasNoGap, IsFirstGap, IsFirstGapOrNone}
+
+-- where the same ranges are free, the same one is the first
+pub first_gap-same : {P Q : ℕ → Type 0} (from size limit : ℕ) (answer : Option ℕ) → ((p : ℕ) → P p → Q p) → ((p : ℕ) → Q p → P p)
+    → IsFirstGapOrNone P from size limit answer → IsFirstGapOrNone Q from size limit answer
+first_gap-same from size limit None to back none = λ p low high free. none p low high (back p free)
+first_gap-same from size limit (Some p) to back gap = record {
+  not_before = gap.not_before;
+  not_past = gap.not_past;
+  is = to p gap.is;
+  first = λ q low less free. gap.first q low less (back q free);
+}
 
 module _ {R : Type 0} (f : Functions R) (e : Extents R) where
   pub ApartWithin-bounds : (low high : ℕ) (xs : List R) → ApartWithin f e low high xs → low ≤ high
@@ -83,7 +93,7 @@ module _ {R : Type 0} (f : Functions R) (e : Extents R) where
       elim h.0 [ inl before ↦ omega arith | inr behind ↦ omega (arith, IsFree-gap (e.end x) d size p xs h.1 behind to) ]
 
   -- where no place is free, each gap is smaller
-  pub HasNoGap-gap : (a d size : ℕ) (xs : List R) → ApartWithin f e a d xs → HasNoGap f e xs a size d
+  pub HasNoGap-gap : (a d size : ℕ) (xs : List R) → ApartWithin f e a d xs → HasNoGap (IsFree f e xs size) a size d
       → gap_within a d xs < size
   HasNoGap-gap a d size [] h none =
       elim (cases_lt (d - a) size) [ inl less ↦ less | inr more ↦ absurd (none a (omega arith) (omega arith) tt) ]
@@ -99,13 +109,13 @@ module _ {R : Type 0} (f : Functions R) (e : Extents R) where
 
   -- the search on both sides of an extent
   module _ {low high from : ℕ} (size limit : ℕ) {xs ys : List R} {y : R} (h : IsApartAt low high xs y ys) where
-    pub IsFirstGap-left : {p : ℕ} → IsFirstGap f e xs from size (min limit (f.rank y)) p
-        → IsFirstGap f e (xs ++ y ∷ ys) from size limit p
+    pub IsFirstGap-left : {p : ℕ} → IsFirstGap (IsFree f e xs size) from size (min limit (f.rank y)) p
+        → IsFirstGap (IsFree f e (xs ++ y ∷ ys) size) from size limit p
     IsFirstGap-left {p} g =
         record {
           not_before = g.not_before;
           not_past = omega arith;
-          free = IsFree-join size p xs (y ∷ ys) g.free (
+          is = IsFree-join size p xs (y ∷ ys) g.is (
             inl (omega arith),
             IsFree-ahead (e.end y) high size p ys h.right
                 (omega arith),
@@ -114,7 +124,7 @@ module _ {R : Type 0} (f : Functions R) (e : Extents R) where
         }
 
     -- where no place on the left is free, a place is free at the end of the extent or behind it
-    at_right : HasNoGap f e xs from size (min limit (f.rank y)) → (q : ℕ) → from ≤ q → q + size ≤ limit
+    at_right : HasNoGap (IsFree f e xs size) from size (min limit (f.rank y)) → (q : ℕ) → from ≤ q → q + size ≤ limit
         → IsFree f e (xs ++ y ∷ ys) size q → (max from (e.end y) ≤ q) × IsFree f e ys size q
     at_right none q a b free =
         let parts = IsFree-right size q xs (y ∷ ys) free in
@@ -124,18 +134,16 @@ module _ {R : Type 0} (f : Functions R) (e : Extents R) where
               (omega arith, parts.1)
         ]
 
-    pub searched-right : (result : Option ℕ) → HasNoGap f e xs from size (min limit (f.rank y))
-        → MatchOption result (HasNoGap f e ys (max from (e.end y)) size limit)
-        (IsFirstGap f e ys (max from (e.end y)) size limit)
-        → MatchOption result (HasNoGap f e (xs ++ y ∷ ys) from size limit)
-        (IsFirstGap f e (xs ++ y ∷ ys) from size limit)
+    pub searched-right : (result : Option ℕ) → HasNoGap (IsFree f e xs size) from size (min limit (f.rank y))
+        → IsFirstGapOrNone (IsFree f e ys size) (max from (e.end y)) size limit result
+        → IsFirstGapOrNone (IsFree f e (xs ++ y ∷ ys) size) from size limit result
     searched-right None none g = λ q a b free. let at = at_right none q a b free in g q at.0 b at.1
     searched-right (Some p) none g =
         record {
           not_before = omega arith;
           not_past = g.not_past;
-          free = IsFree-join size p xs (y ∷ ys) (IsFree-behind low (f.rank y) size p xs h.left (omega arith))
-              (inr (omega arith), g.free);
+          is = IsFree-join size p xs (y ∷ ys) (IsFree-behind low (f.rank y) size p xs h.left (omega arith))
+              (inr (omega arith), g.is);
           first = λ q a b free. let at = at_right none q a (omega arith) free in g.first q at.0 b at.1;
         }
 
@@ -143,15 +151,15 @@ module _ {R : Type 0} (f : Functions R) (e : Extents R) where
   pub searched-start : (from start size limit : ℕ) (xs : List R) → from ≤ start → IsFree f e xs size start
       → ((q : ℕ) → from ≤ q → IsFree f e xs size q → start ≤ q) → (result : Option ℕ)
       → result ≡ cond (leb (start + size) limit) (Some start) None
-      → MatchOption result (HasNoGap f e xs from size limit) (IsFirstGap f e xs from size limit)
+      → IsFirstGapOrNone (IsFree f e xs size) from size limit result
   searched-start from start size limit xs below free least result is =
-      subst (λ o. MatchOption o (HasNoGap f e xs from size limit) (IsFirstGap f e xs from size limit)) (sym is)
+      subst (λ o. IsFirstGapOrNone (IsFree f e xs size) from size limit o) (sym is)
       (cond_both (leb (start + size) limit) (Some start) None
-      (λ o. MatchOption o (HasNoGap f e xs from size limit) (IsFirstGap f e xs from size limit))
+      (λ o. IsFirstGapOrNone (IsFree f e xs size) from size limit o)
       (λ fits. record {
         not_before = below;
         not_past = leb-true (start + size) limit fits;
-        free = free;
+        is = free;
         first = λ q a b g. absurd (omega (arith, least q a g));
       })
       (λ not. λ q a b g. absurd (omega (arith, least q a g, leb-false (start + size) limit not))))

@@ -1,13 +1,12 @@
 -- The search for a gap in a tree: what the stored spans say, and how many steps it takes.
 use Rattle.std.proofs.Common.{◌≡◌, ◌⊎◌, inl, inr, ℕ, ◌+◌, ◌-◌, ◌<◌, ◌≤◌, min, max, cond, leb, ◌∷◌, ◌++◌, Option, None, Some, refl, sym, ap, ◌∙◌, subst, arith}
-use Rattle.std.specs.Option.{MatchOption}
 use Rattle.std.proofs.lemmas.Bool.{cases_lt}
 use Rattle.std.proofs.lemmas.Option.{MatchOption-at_none}
 use Rattle.slab.specs.Slab.{Slab, get}
 use Rattle.balanced_tree.specs.declared.spans.Span.{Span}
 use Rattle.balanced_tree.specs.Row.{Functions, AreLawful, plain}
 use Rattle.balanced_tree.specs.Extents.{Extents, AreSpanned, highest_over, span_over, span_in}
-use Rattle.balanced_tree.specs.Gaps.{ApartWithin, IsFree, HasNoGap, IsFirstGap}
+use Rattle.balanced_tree.specs.Gaps.{ApartWithin, IsFree, HasNoGap, IsFirstGap, IsFirstGapOrNone}
 use Rattle.balanced_tree.specs.inside.GapSearch.{span_of, HasSearched}
 use Rattle.balanced_tree.specs.inside.Tree.{SearchTree, Leaf, Node, height, child_of, rows_of}
 use Rattle.balanced_tree.specs.inside.Standing.{child_under, child_at, IsStanding}
@@ -143,7 +142,7 @@ module _ {R : Type 0} (f : Functions R) (e : Extents R) (laws : AreLawful f) (sp
       searched-left {stop} {p} step stops h =
           record {
             gap = rw n.rows (IsFirstGap-left f e size limit n.apart
-                (subst (λ m. IsFirstGap f e (rows_of f l) from size m p) (stops ∙ ap (min limit) (sym n.rank_same))
+                (subst (λ m. IsFirstGap (IsFree f e (rows_of f l) size) from size m p) (stops ∙ ap (min limit) (sym n.rank_same))
                 h.gap));
             steps = omega arith;
             ahead = λ g. omega (arith, h.ahead g);
@@ -154,7 +153,7 @@ module _ {R : Type 0} (f : Functions R) (e : Extents R) (laws : AreLawful f) (sp
           }
 
       -- where no place is free, the extents would be passed over, or do not all lie between `from` and the limit
-      none_within : from ≤ low → high ≤ limit → HasNoGap f e (rows_of f t) from size limit → ⊥
+      none_within : from ≤ low → high ≤ limit → HasNoGap (IsFree f e (rows_of f t) size) from size limit → ⊥
       none_within g k none =
           let gap = HasNoGap-gap f e from high size (rows_of f t)
           (ApartWithin-lower f e from low high (rows_of f t) g n.within) (λ q a b free. none q a (omega arith) free)
@@ -169,12 +168,10 @@ module _ {R : Type 0} (f : Functions R) (e : Extents R) (laws : AreLawful f) (sp
       searched-both {stop} {start} {result} step stops h starts k =
           let to = ApartWithin-bounds f e _ high (rows_of f r) n.apart.right in
           let begin = ApartWithin-bounds f e low _ (rows_of f l) n.apart.left in
-          let gap : MatchOption result (HasNoGap f e (rows_of f t) from size limit)
-          (IsFirstGap f e (rows_of f t) from size limit) = rw n.rows
+          let gap : IsFirstGapOrNone (IsFree f e (rows_of f t) size) from size limit result = rw n.rows
           (searched-right f e size limit n.apart result
-          (subst (HasNoGap f e (rows_of f l) from size) (stops ∙ ap (min limit) (sym n.rank_same)) h.gap)
-          (subst (λ m. MatchOption result (HasNoGap f e (rows_of f r) m size limit)
-          (IsFirstGap f e (rows_of f r) m size limit)) (starts ∙ ap (max from) (sym n.end_same)) k.gap)) in
+          (subst (HasNoGap (IsFree f e (rows_of f l) size) from size) (stops ∙ ap (min limit) (sym n.rank_same)) h.gap)
+          (subst (λ m. IsFirstGapOrNone (IsFree f e (rows_of f r) size) m size limit result) (starts ∙ ap (max from) (sym n.end_same)) k.gap)) in
           record {
             gap = gap;
             steps = elim (cases_lt limit (f.rank here)) [

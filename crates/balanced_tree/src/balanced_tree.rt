@@ -2,7 +2,7 @@
 
 ghost use Rattle.std.specs.Prelude.{◌≡◌, ◌+◌, ◌-◌, ◌^◌, ◌<◌, ◌≤◌, [], length, option_copied, is_some, if◌then◌else◌, IsNone, IsSome, Some, OnOk};
 ghost use Rattle.std.specs.Option.{MatchOption, option_map};
-ghost use Rattle.balanced_tree.specs.Gaps.{AreApart, HasNoGap, IsFirstGap};
+ghost use Rattle.balanced_tree.specs.Gaps.{AreApart, IsFree, IsFirstGapOrNone};
 ghost use Rattle.balanced_tree.specs.Row.{plain};
 ghost use Rattle.balanced_tree.specs.Rows.{row_at, row_from, row_to, with_row, without_rank, AreAllBeside, IsRising};
 
@@ -260,8 +260,7 @@ impl<R: ExtentRow> BalancedTree<R> {
         steps: &mut Steps<L>,
     ) -> Option<u128>
         requires { AreApart R.functions R.extents self.now.rows }
-        ensures gap { MatchOption result (HasNoGap R.functions R.extents self.now.rows from size limit)
-            (IsFirstGap R.functions R.extents self.now.rows from size limit) }
+        ensures gap { IsFirstGapOrNone (IsFree R.functions R.extents self.now.rows size) from size limit result }
         ensures cost { 2 ^ (steps.new - steps.old) ≤ (length self.now.rows + 1) ^ 8 }
     {
         gap_below(&self.rows, self.root, from, size, limit, steps)
@@ -272,8 +271,7 @@ impl<R: ExtentRow> BalancedTree<R> {
     /// extent either.
     pub fn first_gap(&self, from: u128, size: u128, limit: u128) -> Option<u128>
         requires { AreApart R.functions R.extents self.now.rows }
-        ensures { MatchOption result (HasNoGap R.functions R.extents self.now.rows from size limit)
-            (IsFirstGap R.functions R.extents self.now.rows from size limit) }
+        ensures { IsFirstGapOrNone (IsFree R.functions R.extents self.now.rows size) from size limit result }
     {
         first_gap_with::<R, Brand>(self, from, size, limit, Blank::new(1))
     }
@@ -298,8 +296,7 @@ fn first_gap_with<R: ExtentRow, L: Ledger>(
 ) -> Option<u128>
     requires ledger { (blank.name ≡ L.name) × (blank.parts ≡ L.parts) × (0 < blank.parts) }
     requires apart { AreApart R.functions R.extents tree.now.rows }
-    ensures { MatchOption result (HasNoGap R.functions R.extents tree.now.rows from size limit)
-        (IsFirstGap R.functions R.extents tree.now.rows from size limit) }
+    ensures { IsFirstGapOrNone (IsFree R.functions R.extents tree.now.rows size) from size limit result }
 {
     let mut steps = Steps::<L>::new(blank);
     tree.first_gap_counted(from, size, limit, &mut steps)

@@ -1,19 +1,20 @@
 -- A range of a region's list is vacant where no entry of the region is on its pages.
-use Rattle.std.proofs.Common.{subst, ◌≡◌, ℕ, ◌+◌, ◌<◌, Bool, true, false, IsTrue, ◌↔◌, Option, None, Some, inl, inr, sym, ap, ◌∙◌, arith}
-use Rattle.std.specs.Option.{MatchOption}
-use Rattle.std.proofs.lemmas.Bool.{cases_Bool, false_from_ne_true, both_ways, eqb-true, eq-eqb}
+use Rattle.std.proofs.Common.{subst, ◌≡◌, ℕ, ◌+◌, ◌<◌, Bool, false, IsTrue, ◌↔◌, Option, None, Some, sym, ap, ◌∙◌, arith}
+use Rattle.std.proofs.lemmas.Bool.{false_from_ne_true, both_ways, eqb-true, eq-eqb}
 use Rattle.vm_base.specs.declared.limits.TheConstants.{NAMES, PAGES_END}
 use Rattle.vm_base.specs.declared.names.RegionName.{RegionName}
 use Rattle.vm_base.proofs.EntryLaws.{passes-some, passes_found}
 use Rattle.vm_base.proofs.SearchLaws.{any_from_found, none_from_at}
 use Rattle.pair_map.specs.declared.stretch_row.Extent.{Extent}
-use Rattle.pair_map.specs.Maps.{IsOpen, HasNoOpen, IsFirstOpen}
+use Rattle.balanced_tree.specs.Gaps.{IsFirstGapOrNone}
+use Rattle.balanced_tree.proofs.GapLaws.{first_gap-same}
+use Rattle.pair_map.specs.Maps.{IsOpen}
 use Rattle.vm_model.specs.declared.space.Entry.{Entry}
 use Rattle.vm_model.specs.Space.Table.{mapping_from, is_in, has_entry}
 use Rattle.mapping_set.specs.declared.piece.Piece.{Piece}
 use Rattle.mapping_set.specs.Pieces.{list_number, table_in, ArePieces, AreListed}
 use Rattle.mapping_set.specs.inside.Taken.{pieces_in}
-use Rattle.mapping_set.specs.Tables.{places_in, IsBare, IsFirstGap, HasNoGap, IsClear, HasNoClear, IsFirstClear}
+use Rattle.mapping_set.specs.Tables.{places_in, IsBare, IsClear}
 use Rattle.mapping_set.proofs.TableLaws.{table_in-found, table_in-at}
 use Rattle.mapping_set.proofs.TakenLaws.{open-both, open-pieces, open-places}
 
@@ -76,22 +77,10 @@ module _ {V : Type 0} (pieces : ℕ → ℕ → Option Piece) (h : ArePieces pie
         absurd cc;
   }
 
-  has-not_open : (p count : ℕ) → (IsOpen list p count → ⊥) → has_entry (table_in pieces) root region p (p + count) ≡ true
-  has-not_open p count shut = elim (cases_Bool (has_entry (table_in pieces) root region p (p + count))) [
-    | inl has ↦ has
-    | inr none ↦ absurd (shut (open-has_no p count none))
-  ]
-
   -- the lowest gap of the list is the lowest one among the entries of the region
-  pub gap_of-list : (from count limit : ℕ) (answer : Option ℕ) → MatchOption answer (HasNoOpen list from count limit) (IsFirstOpen list from count limit)
-      → MatchOption answer (HasNoGap (table_in pieces) root region from count limit) (IsFirstGap (table_in pieces) root region from count limit)
-  gap_of-list from count limit None none = λ p low high. has-not_open p count (none p low high)
-  gap_of-list from count limit (Some p) gap = record {
-    not_before = gap.not_before;
-    not_past = gap.not_past;
-    free = has_no-open p count gap.free;
-    first = λ q low less. has-not_open q count (gap.first q low less);
-  }
+  pub gap_of-list : (from count limit : ℕ) (answer : Option ℕ) → IsFirstGapOrNone (λ p. IsOpen list p count) from count limit answer
+      → IsFirstGapOrNone (λ p. has_entry (table_in pieces) root region p (p + count) ≡ false) from count limit answer
+  gap_of-list from count limit answer = first_gap-same from count limit answer (λ p. has_no-open p count) (λ p. open-has_no p count)
 
   -- no page has an entry of a region with an empty list
   pub no_entry-none : ((p : ℕ) → list p ≡ None) → has_entry (table_in pieces) root region 0 PAGES_END ≡ false
@@ -121,15 +110,9 @@ module _ (pieces : ℕ → ℕ → Option Piece) (h : ArePieces pieces) (taken :
   clear-open p count clear =
       open-both taken (list_number region root) p count (open-has_no pieces h (pieces_in taken) g root region few p count clear.bare) clear.apart
 
-  pub first_clear-is : (from count limit : ℕ) (answer : Option ℕ) → MatchOption answer (HasNoOpen all from count limit) (IsFirstOpen all from count limit)
-      → MatchOption answer (HasNoClear places (table_in pieces) root region from count limit) (IsFirstClear places (table_in pieces) root region from count limit)
-  first_clear-is from count limit None none = λ p low high clear. none p low high (clear-open p count clear)
-  first_clear-is from count limit (Some p) gap = record {
-    not_before = gap.not_before;
-    not_past = gap.not_past;
-    clear = open-clear p count gap.free;
-    first = λ q low less clear. gap.first q low less (clear-open q count clear);
-  }
+  pub first_clear-is : (from count limit : ℕ) (answer : Option ℕ) → IsFirstGapOrNone (λ p. IsOpen all p count) from count limit answer
+      → IsFirstGapOrNone (λ p. IsClear places (table_in pieces) root region p count) from count limit answer
+  first_clear-is from count limit answer = first_gap-same from count limit answer (λ p. open-clear p count) (λ p. clear-open p count)
 
   pub clear-is : (p count : ℕ) (b : Bool) → IsTrue b ↔ IsOpen all p count → IsTrue b ↔ IsClear places (table_in pieces) root region p count
   clear-is p count b vacant = (λ is. open-clear p count (vacant.0 is), λ clear. vacant.1 (clear-open p count clear))

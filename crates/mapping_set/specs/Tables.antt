@@ -1,5 +1,5 @@
 -- The set of mappings as its callers see it: what each page of each address space shows, and room.
-use Rattle.std.specs.Prelude.{◌≡◌, ℕ, ◌+◌, ◌-◌, ◌<◌, ◌≤◌, min, max, true, false, Option, None, Some, IsSome}
+use Rattle.std.specs.Prelude.{◌≡◌, ℕ, ◌+◌, ◌-◌, ◌<◌, ◌≤◌, min, max, false, Option, None, Some, IsSome}
 use Rattle.pair_map.specs.declared.pair_row.PairRow.{PairRow}
 use Rattle.pair_map.specs.declared.stretch_row.Extent.{Extent}
 use Rattle.pair_map.specs.declared.stretch_row.StretchRow.{StretchRow}
@@ -124,31 +124,7 @@ pub record IsPieceWithin (pieces : ℕ → Option Piece) (from end : ℕ) (piece
 abbrev pub entries_in : (ℕ → ℕ → Option Entry) → (root region : ℕ) → ℕ
 entries_in table root region = count_below PAGES_END (λ p. passes (is_in region) (table root p))
 
--- p is the lowest page from `from` on such that it and the next ones, `count` in all, have no entry of the region, and
--- end at the limit or before
-pub record IsFirstGap (table : ℕ → ℕ → Option Entry) (root region from count limit p : ℕ) : Type 0 where
-  pub not_before : from ≤ p
-  pub not_past : p + count ≤ limit
-  pub free : has_entry table root region p (p + count) ≡ false
-  pub first : (q : ℕ) → from ≤ q → q < p → has_entry table root region q (q + count) ≡ true
-
--- there is no such page
-abbrev pub HasNoGap : (ℕ → ℕ → Option Entry) → (root region from count limit : ℕ) → Type 0
-HasNoGap table root region from count limit =
-    (p : ℕ) → from ≤ p → p + count ≤ limit → has_entry table root region p (p + count) ≡ true
-
 -- a range of pages is in no place of a list, and none of its pages has an entry that belongs to the region
 pub record IsClear (places : ℕ → Option (Extent RegionName)) (table : ℕ → ℕ → Option Entry) (root region first count : ℕ) : Type 0 where
   pub apart : IsOpen places first count
   pub bare : has_entry table root region first (first + count) ≡ false
-
--- no range of this many pages from `from` on and below the limit is clear
-abbrev pub HasNoClear : (ℕ → Option (Extent RegionName)) → (ℕ → ℕ → Option Entry) → (root region from count limit : ℕ) → Type 0
-HasNoClear places table root region from count limit = (p : ℕ) → from ≤ p → p + count ≤ limit → IsClear places table root region p count → ⊥
-
--- the range at p is clear, and p is the lowest such page
-pub record IsFirstClear (places : ℕ → Option (Extent RegionName)) (table : ℕ → ℕ → Option Entry) (root region from count limit p : ℕ) : Type 0 where
-  pub not_before : from ≤ p
-  pub not_past : p + count ≤ limit
-  pub clear : IsClear places table root region p count
-  pub first : (q : ℕ) → from ≤ q → q < p → IsClear places table root region q count → ⊥

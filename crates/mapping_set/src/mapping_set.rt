@@ -2,16 +2,17 @@
 
 ghost use Rattle.std.specs.Prelude.{◌≡◌, ℕ, ◌↔◌, ◌+◌, ◌-◌, ◌<◌, ◌≤◌, false, None, Some, IsSome, IfSome, IsTrue, OnOk};
 ghost use Rattle.std.specs.Option.{MatchOption};
+ghost use Rattle.balanced_tree.specs.Gaps.{IsFirstGapOrNone};
 ghost use Rattle.balanced_tree.specs.Pairs.{with_pair};
 ghost use Rattle.pair_map.specs.Maps.{values_of, extents_of, IsOpen};
 ghost use Rattle.vm_base.specs.declared.limits.TheConstants.{NAMES, PAGES_END};
 ghost use Rattle.vm_model.specs.Space.Table.{with_pages, with_perm, has_entry};
 ghost use Rattle.mapping_set.specs.declared.piece.Piece.{Piece};
 ghost use Rattle.mapping_set.specs.Pieces.{list_number, piece_from, piece_until, IsHeld, HasNoHeld, IsOfRegion, IsBorder};
-ghost use Rattle.mapping_set.specs.Tables.{places_of, with_place, IsClear, HasNoClear, IsFirstClear};
+ghost use Rattle.mapping_set.specs.Tables.{places_of, with_place, IsClear};
 ghost use Rattle.mapping_set.specs.Tables.{table_of, pieces_of, mapping_spare, with_piece, without_piece, without_taken};
 ghost use Rattle.mapping_set.specs.Tables.{IsBare, IsBareFrom, IsFull, IsNextPiece, IsPieceOf, IsFirstPiece, IsPieceIn, entries_in};
-ghost use Rattle.mapping_set.specs.Tables.{IsOneOf, IsRestOf, IsPieceWithin, IsFirstGap, HasNoGap};
+ghost use Rattle.mapping_set.specs.Tables.{IsOneOf, IsRestOf, IsPieceWithin};
 
 use crate::piece::Piece;
 use crate::taken::{clear_places, free_place, hold_place};
@@ -147,8 +148,8 @@ impl MappingSet {
     ) -> Option<PageNo>
         requires some { 1 ≤ count }
         requires limit { limit ≤ PAGES_END }
-        ensures { MatchOption result (HasNoGap (table_of self.now) root.0 region.0 from count limit)
-            (IsFirstGap (table_of self.now) root.0 region.0 from count limit) }
+        ensures { IsFirstGapOrNone (λ p. has_entry (table_of self.now) root.0 region.0 p (p + count) ≡ false)
+            from count limit result }
     {
         self.lists
             .first_gap(list_number(region, root), from, count, limit)
@@ -206,10 +207,8 @@ impl MappingSet {
     ) -> Option<PageNo>
         requires some { 1 ≤ count }
         requires limit { limit ≤ PAGES_END }
-        ensures { MatchOption result
-            (HasNoClear (places_of self.now (list_number region.0 root.0)) (table_of self.now) root.0 region.0 from count limit)
-            (IsFirstClear (places_of self.now (list_number region.0 root.0)) (table_of self.now) root.0 region.0
-            from count limit) }
+        ensures { IsFirstGapOrNone (λ p. IsClear (places_of self.now (list_number region.0 root.0)) (table_of self.now)
+            root.0 region.0 p count) from count limit result }
     {
         self.taken
             .first_gap(list_number(region, root), from, count, limit)

@@ -14,7 +14,7 @@ use Rattle.pair_map.specs.Pairs.{IsLast}
 use Rattle.pair_map.specs.declared.stretch_row.Extent.{Extent}
 use Rattle.pair_map.specs.declared.stretch_row.StretchRow.{StretchRow}
 use Rattle.pair_map.specs.StretchRows.{stretch_functions, stretch_extents, extent_of, stretch_rows, stretch_of, IsSound, AreExtents}
-use Rattle.pair_map.specs.Maps.{extents_of, IsOpen, StandApart, HasNoOpen, IsFirstOpen}
+use Rattle.pair_map.specs.Maps.{extents_of, IsOpen, StandApart}
 
 module _ {V : Type 0} (extents : ℕ → Option (Extent V)) (first count : ℕ) (some : 1 ≤ count) where
   -- a range is open where each extent that has a number lies before it or behind it
@@ -174,22 +174,22 @@ module _ {V : Type 0} where
 
       -- what the tree answers, by the ranks that it is asked
       module _ {start size last : ℕ} (begins : start ≡ pair_rank l from) (is_size : size ≡ count) (ends : last ≡ pair_rank l limit) where
-        pub gap-none : HasNoGap stretch_functions stretch_extents was.rows start size last → HasNoOpen (extents_of old l) from count limit
+        pub gap-none : HasNoGap (IsFree stretch_functions stretch_extents was.rows size) start size last → HasNoGap (λ p. IsOpen (extents_of old l) p count) from count limit
         gap-none none p at to free =
             none (pair_rank l p) (omega arith) (omega arith)
             (subst (λ n. IsFree stretch_functions stretch_extents was.rows n (pair_rank l p)) (sym is_size) (free-inside p to free))
 
         pub gap-first : (gap first p : ℕ) → first ≡ pair_rank l 0 → p ≡ gap - first
-            → IsFirstGap stretch_functions stretch_extents was.rows start size last gap → IsFirstOpen (extents_of old l) from count limit p
+            → IsFirstGap (IsFree stretch_functions stretch_extents was.rows size) start size last gap → IsFirstGap (λ p. IsOpen (extents_of old l) p count) from count limit p
         gap-first gap first p zero is g =
             let at = g.not_before in
             let to = g.not_past in
             let rank : gap ≡ pair_rank l p = omega arith in
-            let free = subst (λ n. IsFree stretch_functions stretch_extents was.rows n gap) is_size g.free in
+            let free = subst (λ n. IsFree stretch_functions stretch_extents was.rows n gap) is_size g.is in
             record {
               not_before = omega arith;
               not_past = omega arith;
-              free = subst (λ (m : Rows (StretchRow V)). IsOpen (extents_of m l) p count) seen
+              is = subst (λ (m : Rows (StretchRow V)). IsOpen (extents_of m l) p count) seen
                   (free-open was.rows h l p count (subst (λ n. IsFree stretch_functions stretch_extents was.rows count n) rank free));
               first = λ q after before free.
                   g.first (pair_rank l q) (omega arith) (omega arith)

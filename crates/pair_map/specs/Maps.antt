@@ -43,17 +43,6 @@ module _ {V : Type 0} where
     pub end : (l p : ℕ) (e : Extent V) → extents l p ≡ Some e → p + e.count ≤ 2 ^ 63
     pub apart : (l p q : ℕ) (d e : Extent V) → extents l p ≡ Some d → extents l q ≡ Some e → p < q → p + d.count ≤ q
 
-  -- no range of this many numbers from `from` on and below the limit is open
-  abbrev pub HasNoOpen : (ℕ → Option (Extent V)) → (from count limit : ℕ) → Type 0
-  HasNoOpen extents from count limit = (p : ℕ) → from ≤ p → p + count ≤ limit → IsOpen extents p count → ⊥
-
-  -- the range at p is open, and p is the lowest such number
-  pub record IsFirstOpen (extents : ℕ → Option (Extent V)) (from count limit p : ℕ) : Type 0 where
-    pub not_before : from ≤ p
-    pub not_past : p + count ≤ limit
-    pub free : IsOpen extents p count
-    pub first : (q : ℕ) → from ≤ q → q < p → IsOpen extents q count → ⊥
-
   -- the extent that begins at `first` has this many numbers or more
   pub record IsHead (extents : ℕ → Option (Extent V)) (first count : ℕ) : Type 0 where
     pub extent : Extent V

@@ -2,11 +2,12 @@
 
 ghost use Rattle.std.specs.Prelude.{◌≡◌, ℕ, ◌↔◌, ◌+◌, ◌-◌, ◌≤◌, ◌<◌, ◌^◌, None, Some, OnOk, IsSome, IfSome, IsTrue};
 ghost use Rattle.std.specs.Option.{option_map, MatchOption};
+ghost use Rattle.balanced_tree.specs.Gaps.{IsFirstGapOrNone};
 ghost use Rattle.balanced_tree.specs.Pairs.{with_pair, IsNext};
 ghost use Rattle.pair_map.specs.declared.stretch_row.Extent.{Extent};
 ghost use Rattle.pair_map.specs.Pairs.{IsLast};
 ghost use Rattle.pair_map.specs.Maps.{extents_of, count_of, spare_of};
-ghost use Rattle.pair_map.specs.Maps.{Covers, IsOpen, StandApart, HasNoOpen, IsFirstOpen, IsExtent, IsHead};
+ghost use Rattle.pair_map.specs.Maps.{Covers, IsOpen, StandApart, IsExtent, IsHead};
 ghost use Rattle.pair_map.specs.StretchRows.{extent_of, stretch_in};
 
 use crate::stretch_row::{Extent, StretchRow};
@@ -208,8 +209,7 @@ impl<V: Copy> ExtentMap<V> {
     pub fn first_gap(&self, list: u64, from: u64, count: u64, limit: u64) -> Option<u64>
         requires some { 1 ≤ count }
         requires limit { limit ≤ 2 ^ 63 }
-        ensures { MatchOption result (HasNoOpen (extents_of self.now list) from count limit)
-            (IsFirstOpen (extents_of self.now list) from count limit) }
+        ensures { IsFirstGapOrNone (λ p. IsOpen (extents_of self.now list) p count) from count limit result }
     {
         let _rising = self.tree.len();
         let gap = self.tree.first_gap(

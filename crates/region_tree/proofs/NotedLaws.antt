@@ -18,7 +18,8 @@ use Rattle.vm_model.proofs.SpaceLaws.{child_none}
 use Rattle.balanced_tree.specs.Pairs.{with_pair}
 use Rattle.pair_map.specs.declared.stretch_row.Extent.{Extent}
 use Rattle.mapping_set.specs.Pieces.{list_number}
-use Rattle.mapping_set.specs.Tables.{IsClear, HasNoClear, IsFirstClear, with_place}
+use Rattle.balanced_tree.specs.Gaps.{IsFirstGapOrNone}
+use Rattle.mapping_set.specs.Tables.{IsClear, with_place}
 use Rattle.mapping_set.proofs.PieceLaws.{list_numbers}
 use Rattle.mapping_set.proofs.TableLaws.{with_pair-cases, with_pair-same}
 use Rattle.region_tree.specs.Tree.{with_one_dead, spaces_of, extent_for, IsNoted, IsChildIn, AreNoted, IsVacant}
@@ -83,15 +84,9 @@ module _ (regions : ℕ → Option Region) (children : ℕ → ℕ → Option (E
 
   -- what a search in the list answers
   pub clear-place : (table : ℕ → ℕ → Option Entry) (from count limit : ℕ) (o : Option ℕ)
-      → MatchOption o (HasNoClear list table above.root.0 name from count limit) (IsFirstClear list table above.root.0 name from count limit)
-      → MatchOption o (HasNoClear (children name) table above.root.0 name from count limit) (IsFirstClear (children name) table above.root.0 name from count limit)
-  clear-place table from count limit None none = subst (λ (m : ℕ → Option (Extent RegionName)). HasNoClear m table above.root.0 name from count limit) list_is none
-  clear-place table from count limit (Some p) first = record {
-    not_before = first.not_before;
-    not_past = first.not_past;
-    clear = subst (λ (m : ℕ → Option (Extent RegionName)). IsClear m table above.root.0 name p count) list_is first.clear;
-    first = subst (λ (m : ℕ → Option (Extent RegionName)). (q : ℕ) → from ≤ q → q < p → IsClear m table above.root.0 name q count → ⊥) list_is first.first;
-  }
+      → IsFirstGapOrNone (λ p. IsClear list table above.root.0 name p count) from count limit o
+      → IsFirstGapOrNone (λ p. IsClear (children name) table above.root.0 name p count) from count limit o
+  clear-place table from count limit o = subst (λ (m : ℕ → Option (Extent RegionName)). IsFirstGapOrNone (λ p. IsClear m table above.root.0 name p count) from count limit o) list_is
 
   -- and what a look at it tells of a range in the region
   pub clear-is : (table : ℕ → ℕ → Option Entry) (first count : ℕ) → (nat_lt first (first + count) && reaches_over first (first + count) above) ≡ true

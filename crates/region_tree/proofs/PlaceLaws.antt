@@ -18,7 +18,8 @@ use Rattle.balanced_tree.specs.Rows.{Rows}
 use Rattle.pair_map.specs.declared.pair_row.PairRow.{PairRow}
 use Rattle.pair_map.specs.declared.stretch_row.Extent.{Extent}
 use Rattle.pair_map.specs.Maps.{Covers, IsOpen}
-use Rattle.mapping_set.specs.Tables.{HasNoGap, IsFirstGap, IsClear, HasNoClear, IsFirstClear}
+use Rattle.balanced_tree.specs.Gaps.{HasNoGap, IsFirstGap, IsFirstGapOrNone}
+use Rattle.mapping_set.specs.Tables.{IsClear}
 use Rattle.region_tree.specs.Tree.{regions_of, spaces_of, extent_for}
 use Rattle.region_tree.specs.inside.TreeFields.{IsTree, ReachesOut}
 
@@ -168,7 +169,7 @@ module _ (regions : ℕ → Option Region) (children : ℕ → ℕ → Option (E
 
     -- where no range is clear up to the limit, or to the end of the region, there is no place
     pub place-none : (count limit end : ℕ) → (above.first + limit ≤ end) ⊎ (end_of above ≤ end)
-        → HasNoClear (children name) table above.root.0 name above.first count end → has_place (spaces_of regions table) name count limit ≡ false
+        → HasNoGap (λ p. IsClear (children name) table above.root.0 name p count) above.first count end → has_place (spaces_of regions table) name count limit ≡ false
     unfolding has_place
     place-none count limit end ends none =
         none_below (end_of (region_of regions name))
@@ -182,15 +183,15 @@ module _ (regions : ℕ → Option Region) (children : ℕ → ℕ → Option (E
 
     -- a range that is clear is a free place
     pub place-some : (count limit end first : ℕ) → 1 ≤ count → end ≤ above.first + limit → end ≤ end_of above
-        → IsFirstClear (children name) table above.root.0 name above.first count end first
+        → IsFirstGap (λ p. IsClear (children name) table above.root.0 name p count) above.first count end first
         → (is_free (spaces_of regions table) name first (first + count) ≡ true) × (first + count ≤ (region_of regions name).first + limit)
     place-some count limit end first some short inside place =
         let begins : (region_of regions name).first ≡ above.first = ap (λ (r : Region). r.first) region-is in
-        (clear-free first count some place.not_before (omega (arith, place.not_past)) place.clear, omega (arith, begins, place.not_past))
+        (clear-free first count some place.not_before (omega (arith, place.not_past)) place.is, omega (arith, begins, place.not_past))
 
     -- what a search in the region answers
     pub place-is : (count limit end : ℕ) → 1 ≤ count → end_of above < 2 ^ 64 → end ≡ min (min (above.first + limit) (2 ^ 64 - 1)) (end_of above) → (o : Option ℕ)
-        → MatchOption o (HasNoClear (children name) table above.root.0 name above.first count end) (IsFirstClear (children name) table above.root.0 name above.first count end)
+        → IsFirstGapOrNone (λ p. IsClear (children name) table above.root.0 name p count) above.first count end o
         → MatchOption o (has_place (spaces_of regions table) name count limit ≡ false) (λ (first : ℕ).
         (is_free (spaces_of regions table) name first (first + count) ≡ true) × (first + count ≤ (region_of regions name).first + limit))
     place-is count limit end some few ends None none = place-none count limit end (elim (cases_lt (above.first + limit) (end_of above)) [
@@ -201,7 +202,7 @@ module _ (regions : ℕ → Option Region) (children : ℕ → ℕ → Option (E
 
     -- and no place before it is free
     pub place-lowest : (count end : ℕ) → (o : Option ℕ)
-        → MatchOption o (HasNoClear (children name) table above.root.0 name above.first count end) (IsFirstClear (children name) table above.root.0 name above.first count end)
+        → IsFirstGapOrNone (λ p. IsClear (children name) table above.root.0 name p count) above.first count end o
         → IfSome o (λ first. (p : ℕ) → p < first → is_free (spaces_of regions table) name p (p + count) ≡ false)
     place-lowest count end None none = tt
     place-lowest count end (Some first) place = λ p low. false_from_ne_true (is_free (spaces_of regions table) name p (p + count)) (λ free.
@@ -222,15 +223,18 @@ module _ (regions : ℕ → Option Region) (children : ℕ → ℕ → Option (E
 
     -- where only entries are left to be asked, the gap from the first page on tells
     pub free-gap : (first count : ℕ) → (nat_lt first (first + count) && reaches_over first (first + count) above) ≡ true → meets_child regions name first (first + count) ≡ false
-        → (o : Option ℕ) → MatchOption o (HasNoGap table above.root.0 name first count (first + count)) (IsFirstGap table above.root.0 name first count (first + count))
+        → (o : Option ℕ) → IsFirstGapOrNone (λ p. has_entry table above.root.0 name p (p + count) ≡ false) first count (first + count) o
         → is_some o ≡ is_free (spaces_of regions table) name first (first + count)
     free-gap first count over off o gap =
         bare o gap
         ∙ sym (is_free-is first (first + count) ∙ (ap (λ (b : Bool). b && not (meets_child regions name first (first + count)) && not (has_entry table above.root.0 name first (first + count))) over
         ∙ ap (λ (b : Bool). not b && not (has_entry table above.root.0 name first (first + count))) off)) where
-          bare : (o : Option ℕ) → MatchOption o (HasNoGap table above.root.0 name first count (first + count)) (IsFirstGap table above.root.0 name first count (first + count))
+          bare : (o : Option ℕ) → IsFirstGapOrNone (λ p. has_entry table above.root.0 name p (p + count) ≡ false) first count (first + count) o
               → is_some o ≡ not (has_entry table above.root.0 name first (first + count))
-          bare None none = sym (ap not (none first (omega arith) (omega arith)))
+          bare None none = elim (cases_Bool (has_entry table above.root.0 name first (first + count))) [
+            | inl has ↦ sym (ap not has)
+            | inr free ↦ absurd (none first (omega arith) (omega arith) free)
+          ]
           bare (Some p) gap =
               let here : p ≡ first = omega (arith, gap.not_before, gap.not_past) in
-              sym (ap not (ap (λ (q : ℕ). has_entry table above.root.0 name q (q + count)) (sym here) ∙ gap.free))
+              sym (ap not (ap (λ (q : ℕ). has_entry table above.root.0 name q (q + count)) (sym here) ∙ gap.is))

@@ -3,10 +3,11 @@
 ghost use Rattle.std.specs.Prelude.{◌≡◌, ◌↔◌, ◌+◌, ◌-◌, ◌^◌, ◌≤◌, min, nat_lt, ◌&&◌, true, None, Some, IsSome, IsTrue, ⊤};
 ghost use Rattle.std.specs.Option.{MatchOption};
 ghost use Rattle.vm_base.specs.declared.limits.TheConstants.{PAGES_END};
+ghost use Rattle.balanced_tree.specs.Gaps.{IsFirstGapOrNone};
 ghost use Rattle.balanced_tree.specs.Pairs.{with_pair};
 ghost use Rattle.pair_map.specs.Maps.{values_of, extents_of};
 ghost use Rattle.vm_model.specs.Space.Regions.{end_of, lies_in, reaches_over};
-ghost use Rattle.mapping_set.specs.Tables.{table_of, HasNoClear, IsFirstClear};
+ghost use Rattle.mapping_set.specs.Tables.{table_of, IsClear};
 ghost use Rattle.region_tree.specs.Tree.{is_live_region};
 ghost use Rattle.region_tree.specs.inside.TreeFields.{ReachesOut, IsBetween, HasNoExtentBetween};
 
@@ -68,9 +69,8 @@ pub(crate) fn gap_in(
 ) -> Option<PageNo>
     requires some { 1 ≤ count }
     requires limit { limit ≤ PAGES_END }
-    ensures { MatchOption result
-        (HasNoClear (extents_of children.now region.0) (table_of maps.now) above.root.0 region.0 above.first count limit)
-        (IsFirstClear (extents_of children.now region.0) (table_of maps.now) above.root.0 region.0 above.first count limit) }
+    ensures { IsFirstGapOrNone (λ p. IsClear (extents_of children.now region.0) (table_of maps.now)
+        above.root.0 region.0 p count) above.first count limit result }
 {
     let mut from = above.first;
     'search: loop {

@@ -1,10 +1,9 @@
 -- What a search for a gap answers in a tree, and how many steps it takes.
 use Rattle.std.specs.Prelude.{◌≡◌, ℕ, ◌+◌, ◌*◌, ◌<◌, ◌≤◌, Option, None, Some}
-use Rattle.std.specs.Option.{MatchOption}
 use Rattle.balanced_tree.specs.declared.spans.Span.{Span}
 use Rattle.balanced_tree.specs.Row.{Functions}
 use Rattle.balanced_tree.specs.Extents.{Extents, span_over}
-use Rattle.balanced_tree.specs.Gaps.{HasNoGap, IsFirstGap}
+use Rattle.balanced_tree.specs.Gaps.{IsFree, IsFirstGapOrNone}
 use Rattle.balanced_tree.specs.inside.Tree.{SearchTree, Leaf, Node, height, rows_of}
 
 module _ {R : Type 0} (f : Functions R) (e : Extents R) where
@@ -18,8 +17,7 @@ module _ {R : Type 0} (f : Functions R) (e : Extents R) where
   -- begins below the tree, ends above it, or does neither.
   pub record HasSearched (t : SearchTree R) (low high from size limit : ℕ) (result : Option ℕ) (before after : ℕ) :
       Type 0 where
-    pub gap : MatchOption result (HasNoGap f e (rows_of f t) from size limit)
-        (IsFirstGap f e (rows_of f t) from size limit)
+    pub gap : IsFirstGapOrNone (IsFree f e (rows_of f t) size) from size limit result
     pub steps : after ≤ before + 4 * height t
     pub ahead : from ≤ low → after ≤ before + 2 * height t
     pub none : result ≡ None → high ≤ limit → after ≤ before + 2 * height t

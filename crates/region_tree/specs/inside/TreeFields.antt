@@ -1,12 +1,10 @@
 -- How the fields of the tree hang together, and what its searches find in them.
 use Rattle.std.specs.Prelude.{◌≡◌, ℕ, ◌+◌, ◌<◌, ◌≤◌, ◌⊎◌, true, false, Option, Some}
 use Rattle.vm_base.specs.declared.names.RegionName.{RegionName}
-use Rattle.vm_model.specs.declared.space.Entry.{Entry}
 use Rattle.vm_model.specs.declared.space.Region.{Region}
 use Rattle.vm_model.specs.Space.Regions.{end_of, lies_in, is_child, any_child, is_below, AreGoodRegions}
 use Rattle.pair_map.specs.declared.stretch_row.Extent.{Extent}
 use Rattle.pair_map.specs.Maps.{Covers}
-use Rattle.mapping_set.specs.Tables.{IsClear}
 use Rattle.region_tree.specs.Tree.{extent_for, IsChildAt}
 
 -- The regions are good, and the extents are the live children of each region, under the page where each begins.

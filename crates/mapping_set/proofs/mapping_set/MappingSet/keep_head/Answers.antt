@@ -1,4 +1,4 @@
-use Rattle.std.proofs.Common.{◌+◌, ◌-◌, refl, arith}
+use Rattle.std.proofs.Common.{◌+◌, refl, arith}
 use Rattle.mapping_set.proofs.PartLaws.{LosesPages, none-between, in-lists, in-taken, keep-head}
 use Rattle.mapping_set.proofs.mapping_set.MappingSet.keep_head.Goals as goal
 
