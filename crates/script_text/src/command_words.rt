@@ -26,17 +26,18 @@ pub fn call<'a>(word: &[u8], arguments: &[&[u8]], room: &'a mut [u8]) -> Option<
     ensures { option_map command_of result ≡ command word.now (map (λ a. a.now) arguments.now) }
 {
     match word.len() {
-        4 => call_of_four(word, arguments),
-        7 => call_of_seven(word, arguments),
-        8 => call_of_eight(word, arguments),
-        9 => call_of_nine(word, arguments, room),
-        10 => call_of_ten(word, arguments),
-        11 => call_of_eleven(word, arguments),
-        12 => call_of_twelve(word, arguments),
-        13 => call_of_thirteen(word, arguments),
-        16 => call_of_sixteen(word, arguments),
-        _ => None,
+        4 => return call_of_four(word, arguments),
+        7 => return call_of_seven(word, arguments),
+        8 => return call_of_eight(word, arguments),
+        9 => return call_of_nine(word, arguments, room),
+        10 => return call_of_ten(word, arguments),
+        11 => return call_of_eleven(word, arguments),
+        12 => return call_of_twelve(word, arguments),
+        13 => return call_of_thirteen(word, arguments),
+        16 => return call_of_sixteen(word, arguments),
+        _ => {}
     }
+    None
 }
 
 /// Returns the command of a word of four bytes.
@@ -44,12 +45,12 @@ fn call_of_four<'a>(word: &[u8], arguments: &[&[u8]]) -> Option<Call<'a>>
     ensures { option_map command_of result ≡ by_word (command_rows_of 4) word.now (map (λ a. a.now) arguments.now) }
 {
     if is_word(word, b"stat") {
-        stat(arguments)
-    } else if is_word(word, b"maps") {
-        maps(arguments)
-    } else {
-        None
+        return stat(arguments);
     }
+    if is_word(word, b"maps") {
+        return maps(arguments);
+    }
+    None
 }
 
 /// Returns the command of a word of seven bytes.
@@ -57,10 +58,9 @@ fn call_of_seven<'a>(word: &[u8], arguments: &[&[u8]]) -> Option<Call<'a>>
     ensures { option_map command_of result ≡ by_word (command_rows_of 7) word.now (map (λ a. a.now) arguments.now) }
 {
     if is_word(word, b"vmo_pin") {
-        vmo_pin(arguments)
-    } else {
-        None
+        return vmo_pin(arguments);
     }
+    None
 }
 
 /// Returns the command of a word of eight bytes.
@@ -68,22 +68,27 @@ fn call_of_eight<'a>(word: &[u8], arguments: &[&[u8]]) -> Option<Call<'a>>
     ensures { option_map command_of result ≡ by_word (command_rows_of 8) word.now (map (λ a. a.now) arguments.now) }
 {
     if is_word(word, b"vmo_size") {
-        vmo_size(arguments)
-    } else if is_word(word, b"vmo_read") {
-        vmo_read(arguments)
-    } else if is_word(word, b"vmo_fill") {
-        vmo_fill(arguments)
-    } else if is_word(word, b"vmo_zero") {
-        vmo_zero(arguments)
-    } else if is_word(word, b"vmo_info") {
-        vmo_info(arguments)
-    } else if is_word(word, b"vmar_map") {
-        vmar_map(arguments)
-    } else if is_word(word, b"mem_read") {
-        mem_read(arguments)
-    } else {
-        None
+        return vmo_size(arguments);
     }
+    if is_word(word, b"vmo_read") {
+        return vmo_read(arguments);
+    }
+    if is_word(word, b"vmo_fill") {
+        return vmo_fill(arguments);
+    }
+    if is_word(word, b"vmo_zero") {
+        return vmo_zero(arguments);
+    }
+    if is_word(word, b"vmo_info") {
+        return vmo_info(arguments);
+    }
+    if is_word(word, b"vmar_map") {
+        return vmar_map(arguments);
+    }
+    if is_word(word, b"mem_read") {
+        return mem_read(arguments);
+    }
+    None
 }
 
 /// Returns the command of a word of nine bytes.
@@ -92,16 +97,18 @@ fn call_of_nine<'a>(word: &[u8], arguments: &[&[u8]], room: &'a mut [u8]) -> Opt
     ensures { option_map command_of result ≡ by_word (command_rows_of 9) word.now (map (λ a. a.now) arguments.now) }
 {
     if is_word(word, b"vmo_close") {
-        vmo_close(arguments)
-    } else if is_word(word, b"vmo_write") {
-        vmo_write(arguments, room)
-    } else if is_word(word, b"vmo_unpin") {
-        vmo_unpin(arguments)
-    } else if is_word(word, b"mem_write") {
-        mem_write(arguments, room)
-    } else {
-        None
+        return vmo_close(arguments);
     }
+    if is_word(word, b"vmo_write") {
+        return vmo_write(arguments, room);
+    }
+    if is_word(word, b"vmo_unpin") {
+        return vmo_unpin(arguments);
+    }
+    if is_word(word, b"mem_write") {
+        return mem_write(arguments, room);
+    }
+    None
 }
 
 /// Returns the command of a word of ten bytes.
@@ -109,14 +116,15 @@ fn call_of_ten<'a>(word: &[u8], arguments: &[&[u8]]) -> Option<Call<'a>>
     ensures { option_map command_of result ≡ by_word (command_rows_of 10) word.now (map (λ a. a.now) arguments.now) }
 {
     if is_word(word, b"vmo_create") {
-        vmo_create(arguments)
-    } else if is_word(word, b"vmo_commit") {
-        vmo_commit(arguments)
-    } else if is_word(word, b"vmar_unmap") {
-        vmar_unmap(arguments)
-    } else {
-        None
+        return vmo_create(arguments);
     }
+    if is_word(word, b"vmo_commit") {
+        return vmo_commit(arguments);
+    }
+    if is_word(word, b"vmar_unmap") {
+        return vmar_unmap(arguments);
+    }
+    None
 }
 
 /// Returns the command of a word of eleven bytes.
@@ -124,10 +132,9 @@ fn call_of_eleven<'a>(word: &[u8], arguments: &[&[u8]]) -> Option<Call<'a>>
     ensures { option_map command_of result ≡ by_word (command_rows_of 11) word.now (map (λ a. a.now) arguments.now) }
 {
     if is_word(word, b"root_create") {
-        root_create(arguments)
-    } else {
-        None
+        return root_create(arguments);
     }
+    None
 }
 
 /// Returns the command of a word of twelve bytes.
@@ -135,16 +142,18 @@ fn call_of_twelve<'a>(word: &[u8], arguments: &[&[u8]]) -> Option<Call<'a>>
     ensures { option_map command_of result ≡ by_word (command_rows_of 12) word.now (map (λ a. a.now) arguments.now) }
 {
     if is_word(word, b"vmo_set_size") {
-        vmo_set_size(arguments)
-    } else if is_word(word, b"vmo_decommit") {
-        vmo_decommit(arguments)
-    } else if is_word(word, b"vmar_protect") {
-        vmar_protect(arguments)
-    } else if is_word(word, b"vmar_destroy") {
-        vmar_destroy(arguments)
-    } else {
-        None
+        return vmo_set_size(arguments);
     }
+    if is_word(word, b"vmo_decommit") {
+        return vmo_decommit(arguments);
+    }
+    if is_word(word, b"vmar_protect") {
+        return vmar_protect(arguments);
+    }
+    if is_word(word, b"vmar_destroy") {
+        return vmar_destroy(arguments);
+    }
+    None
 }
 
 /// Returns the command of a word of thirteen bytes.
@@ -152,10 +161,9 @@ fn call_of_thirteen<'a>(word: &[u8], arguments: &[&[u8]]) -> Option<Call<'a>>
     ensures { option_map command_of result ≡ by_word (command_rows_of 13) word.now (map (λ a. a.now) arguments.now) }
 {
     if is_word(word, b"vmar_allocate") {
-        vmar_allocate(arguments)
-    } else {
-        None
+        return vmar_allocate(arguments);
     }
+    None
 }
 
 /// Returns the command of a word of sixteen bytes.
@@ -163,8 +171,7 @@ fn call_of_sixteen<'a>(word: &[u8], arguments: &[&[u8]]) -> Option<Call<'a>>
     ensures { option_map command_of result ≡ by_word (command_rows_of 16) word.now (map (λ a. a.now) arguments.now) }
 {
     if is_word(word, b"vmo_create_child") {
-        vmo_create_child(arguments)
-    } else {
-        None
+        return vmo_create_child(arguments);
     }
+    None
 }

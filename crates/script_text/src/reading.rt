@@ -102,8 +102,8 @@ fn order<'a>(line: &[u8], room: &'a mut [u8]) -> Option<Call<'a>>
 }
 
 /// Does what `order` does, for any command. A line of three words at most is read word by word, with no list of them. The
-/// function is inlined: its result would be copied once more.
-#[inline(always)]
+/// function is not inlined: a function writes all of its locals, and a comment should not pay for those of all commands.
+#[inline(never)]
 fn order_of_words<'a>(line: &[u8], room: &'a mut [u8]) -> Option<Call<'a>>
     requires { DATA_BYTES ≤ length room.old }
     ensures { option_map command_of result ≡ order_in (words line.now) }

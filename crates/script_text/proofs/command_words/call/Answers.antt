@@ -30,6 +30,6 @@ returns-in-13 c = c.call_of_thirteen.ensures ∙ sym (command_of_length 13 _ _ c
 pub returns-in-16 : goal.returns-in-16
 returns-in-16 c = c.call_of_sixteen.ensures ∙ sym (command_of_length 16 _ _ c.in-16.is)
 
-pub returns-in_default : goal.returns-in_default
-returns-in_default c = sym (command_of_other_length _ _ (omega arith) (omega arith) (omega arith) (omega arith)
+pub returns : goal.returns
+returns c = sym (command_of_other_length _ _ (omega arith) (omega arith) (omega arith) (omega arith)
     (omega arith) (omega arith) (omega arith) (omega arith) (omega arith))
