@@ -8,7 +8,7 @@ use Rattle.vm_base.proofs.SearchLaws.{eqb_is}
 use Rattle.vm_base.proofs.EntryLaws.{some_same, without_key-same, without_key-other}
 use Rattle.vm_model.proofs.ContentLaws.{same_page}
 use Rattle.pair_map.specs.Maps.{with_pair}
-use Rattle.checker_pages.specs.inside.Rows.{HasAny, HasNone}
+use Rattle.checker_pages.specs.inside.Rows.{HasViewer, HasNoViewer}
 use Rattle.checker_pages.specs.Eager.{ArePaired}
 
 -- ---- a map of pairs that changes
@@ -115,7 +115,7 @@ module _ (rows : ℕ → ℕ → Option Tag) (viewers : ℕ → ℕ → Option �
 
 -- what becomes of the frame: it stays where some VMO shows it, and is free else
 abbrev pub LetsGo : (ℕ → Option ℕ) → (old new : ℕ → Option (List ℕ)) → ℕ → Type 0
-LetsGo viewers old new t = (HasAny viewers × (new ≡ old)) ⊎ (HasNone viewers × (new ≡ without_key old t))
+LetsGo viewers old new t = (HasViewer viewers × (new ≡ old)) ⊎ (HasNoViewer viewers × (new ≡ without_key old t))
 
 module _ (rows : ℕ → ℕ → Option Tag) (viewers : ℕ → ℕ → Option ℕ) (old new : ℕ → Option (List ℕ)) (v p : ℕ) (tag : Tag)
     (linked : ArePaired rows viewers old) (found : rows v p ≡ Some tag) where

@@ -14,12 +14,12 @@ use Rattle.frame_pool.specs.Pool.{taken_frames, frame_bytes, taken_count}
 use Rattle.frame_pool.proofs.PoolLaws.{taken_count-is}
 use Rattle.pair_map.specs.Maps.{values_of}
 use Rattle.vm_model.specs.Contents.Content.{Page, shown, views, in_use, used, sole}
-use Rattle.vm_base.specs.Search.{any_below}
+use Rattle.vm_base.specs.Search.{any_below, HasNone}
 use Rattle.vm_model.specs.Machine.Attribution.{is_charged, is_charged_page}
 use Rattle.vm_model.specs.Space.Readiness.{frame_at}
 use Rattle.vm_model.proofs.ContentLaws.{bytes_of-none, bytes_of-some, views_found, in_use_at, in_use_found, sole_from, sole_alone, sole-zero}
 use Rattle.vm_model.proofs.SharingLaws.{views_held, koid_held}
-use Rattle.checker_pages.specs.inside.Rows.{IsAlone, HasOther, HasNoLess, HasLess, HasThird, HasNoThird}
+use Rattle.checker_pages.specs.inside.Rows.{is_viewer, IsAlone, HasOther, HasViewerIn, HasThird, HasNoThird}
 use Rattle.checker_pages.specs.Eager.{Eager, eager_content, page_with_tag, IsEager, IsSeenByThird}
 
 -- ---- the row of a page
@@ -173,13 +173,13 @@ module _ (f : Eager) (eager : IsEager f) where
 
     -- ---- charged pages
 
-    pub charged-is : (b : Bool) → (b ≡ true → HasNoLess (values_of f.viewers tag.0) v) → (b ≡ false → HasLess (values_of f.viewers tag.0) v)
+    pub charged-is : (b : Bool) → (b ≡ true → HasNone (is_viewer (values_of f.viewers tag.0)) 0 v) → (b ≡ false → HasViewerIn (values_of f.viewers tag.0) 0 v)
         → b ≡ is_charged (eager_content f) v p
     unfolding is_charged_page
     charged-is b none some = go b none some ∙ sym (ap (is_charged_page (eager_content f) v) (row_page f v p tag found)) where
-      go : (b : Bool) → (b ≡ true → HasNoLess (values_of f.viewers tag.0) v) → (b ≡ false → HasLess (values_of f.viewers tag.0) v)
+      go : (b : Bool) → (b ≡ true → HasNone (is_viewer (values_of f.viewers tag.0)) 0 v) → (b ≡ false → HasViewerIn (values_of f.viewers tag.0) 0 v)
           → b ≡ not (any_below v (views (eager_content f) tag.0))
-      go true none some = sym (ap not (none_below v (views (eager_content f) tag.0) (λ w h. views-is tag.0 w ∙ ap is_some ((none refl).none w h))))
+      go true none some = sym (ap not (none_below v (views (eager_content f) tag.0) (λ w h. views-is tag.0 w ∙ none refl w (omega arith) h)))
       go false none some =
           let less = some refl in
           sym (ap not (any_below_at v less.w (views (eager_content f) tag.0) less.below (views-is tag.0 less.w ∙ less.shows)))

@@ -1,13 +1,15 @@
 -- Held pages that are counted, released and shown by a snapshot, one after another.
-use Rattle.std.proofs.Common.{◌≡◌, ◌≢◌, ℕ, zero, suc, ◌+◌, ◌-◌, ◌<◌, ◌≤◌, Option, None, Some, IsSome, refl, sym, ap, subst, ◌∙◌, arith}
+use Rattle.std.proofs.Common.{◌≡◌, ◌≢◌, ℕ, zero, suc, ◌+◌, ◌-◌, ◌<◌, ◌≤◌, Bool, Option, None, Some, IsSome, is_some, refl, sym, ap, subst, ◌∙◌, arith}
 use Rattle.std.proofs.lemmas.Bool.Decides.{nat_tests}
 use Rattle.vm_base.specs.declared.limits.TheConstants.{VMO_PAGES}
+use Rattle.vm_base.specs.Search.{HasNone, IsFirst}
 use Rattle.vm_base.specs.Entries.{with_key}
 use Rattle.vm_base.proofs.SearchLaws.{bit_le, bit-true, bit-false}
-use Rattle.vm_model.specs.Contents.Content.{Content, Page, is_held, hold, created, IsGood, IsNextBelow, HasNoneBelow}
+use Rattle.vm_base.proofs.EntryLaws.{none_is}
+use Rattle.vm_model.specs.Contents.Content.{Content, Page, is_held, hold, created, IsGood}
 use Rattle.vm_model.specs.Contents.Sharing.{page_seen, snapshotted}
 use Rattle.vm_model.specs.Contents.Zeroing.{zeroed}
-use Rattle.vm_model.proofs.ContentLaws.{same_content, is_held-zero}
+use Rattle.vm_model.proofs.ContentLaws.{same_content}
 use Rattle.vm_model.proofs.SharingLaws.{koid_held, page_seen-out, page-snapshotted_new, page-snapshotted_other, IsGood-snapshotted}
 use Rattle.vm_model.proofs.ZeroingLaws.{zeroed-none}
 use Rattle.checker_pages.proofs.VmoLaws.{koid_apart}
@@ -21,14 +23,14 @@ held_in_le c v from zero = omega arith
 held_in_le c v from (suc n) = omega (arith, bit_le (is_held c v from), held_in_le c v (from + 1) n)
 
 -- zero pages are passed
-held_in-skip : (c : Content) (v from k n : ℕ) → ((q : ℕ) → from ≤ q → q < from + k → c.page v q ≡ None) → held_in c v from (k + n) ≡ held_in c v (from + k) n
+held_in-skip : (c : Content) (v from k n : ℕ) → HasNone (is_held c v) from (from + k) → held_in c v from (k + n) ≡ held_in c v (from + k) n
 unfolding held_in
 held_in-skip c v from zero n none =
     let place : from ≡ from + 0 = omega arith in
     let long : 0 + n ≡ n = omega arith in
     λ i. held_in c v (place i) (long i)
 held_in-skip c v from (suc k) n none =
-    let miss = bit-false (is_held c v from) (is_held-zero c v from (none from (omega arith) (omega arith))) in
+    let miss = bit-false (is_held c v from) (none from (omega arith) (omega arith)) in
     let rest = held_in-skip c v (from + 1) k n (λ q low high. none q (omega arith) (omega arith)) in
     let far : (from + 1) + k ≡ from + suc k = omega arith in
     let long : suc k + n ≡ suc (k + n) = omega arith in
@@ -36,7 +38,7 @@ held_in-skip c v from (suc k) n none =
 
 module _ (c : Content) (v from end : ℕ) where
   -- the next page that is held is one, and those behind it are left
-  pub held_in-next : (p : ℕ) → IsNextBelow c v from end p → held_in c v from (end - from) ≡ 1 + held_in c v (p + 1) (end - (p + 1))
+  pub held_in-next : (p : ℕ) → IsFirst (is_held c v) from end p → held_in c v from (end - from) ≡ 1 + held_in c v (p + 1) (end - (p + 1))
   unfolding held_in
   held_in-next p next =
       let order = next.order in
@@ -44,11 +46,11 @@ module _ (c : Content) (v from end : ℕ) where
       let long : end - from ≡ (p - from) + suc (end - (p + 1)) = omega arith in
       let place : from + (p - from) ≡ p = omega arith in
       let skip = held_in-skip c v from (p - from) (suc (end - (p + 1))) (λ q low high. next.gap q low (omega arith)) in
-      let hit = bit-true (is_held c v p) next.held in
+      let hit = bit-true (is_held c v p) next.hit in
       ap {B = ℕ} (λ (n : ℕ). held_in c v from n) long ∙ (skip ∙ (ap {B = ℕ} (λ (a : ℕ). held_in c v a (suc (end - (p + 1)))) place ∙ omega (arith, hit)))
 
   -- no page is left
-  pub held_in-end : HasNoneBelow c v from end → held_in c v from (end - from) ≡ 0
+  pub held_in-end : HasNone (is_held c v) from end → held_in c v from (end - from) ≡ 0
   unfolding held_in
   held_in-end none =
       let long : end - from ≡ (end - from) + 0 = omega arith in
@@ -58,14 +60,14 @@ module _ (c : Content) (v from end : ℕ) where
 -- ---- pages that become zero
 
 -- one page of a range, and then the range
-pub zeroed-after : (c d : Content) (v first end p : ℕ) → IsNextBelow c v first end p → d ≡ zeroed c v p (p + 1) → zeroed d v first end ≡ zeroed c v first end
+pub zeroed-after : (c d : Content) (v first end p : ℕ) → IsFirst (is_held c v) first end p → d ≡ zeroed c v p (p + 1) → zeroed d v first end ≡ zeroed c v first end
 unfolding zeroed
 zeroed-after c d v first end p next made = ap (λ (s : Content). zeroed s v first end) made ∙ same_content _ _ refl refl (λ w. refl) (λ w q.
     let low = next.order in let high = next.below in grind (arith, nat_tests))
 
 -- none is left
-pub zeroed-done : (c : Content) (v first end : ℕ) → HasNoneBelow c v first end → c ≡ zeroed c v first end
-zeroed-done c v first end none = sym (zeroed-none c v first end none)
+pub zeroed-done : (c : Content) (v first end : ℕ) → HasNone (is_held c v) first end → c ≡ zeroed c v first end
+zeroed-done c v first end none = sym (zeroed-none c v first end (λ q low high. none_is _ (none q low high)))
 
 -- ---- pages that a snapshot shows
 
@@ -89,43 +91,35 @@ module _ (c : Content) (of first n : ℕ) (good : IsGood c) where
     page-seen : (q : ℕ) → d.page of q ≡ c.page of q
     page-seen q = ap (λ (s : Content). s.page of q) is ∙ page-snapshotted_other c of first (from - first) n of q apart
 
-    next-seen : (p : ℕ) → IsNextBelow d of from end p → IsNextBelow c of from end p
-    next-seen p next = record {
-      order = next.order;
-      below = next.below;
-      held = subst IsSome (page-seen p) next.held;
-      gap = λ q l h. sym (page-seen q) ∙ next.gap q l h;
-    }
-
-    none-seen : HasNoneBelow d of from end → HasNoneBelow c of from end
-    none-seen none = λ q l h. sym (page-seen q) ∙ none q l h
+    next-seen : (p : ℕ) → IsFirst (is_held d of) from end p → IsFirst (is_held c of) from end p
+    next-seen p next = subst (λ (held : ℕ → Bool). IsFirst held from end p) (λ i q. is_some (page-seen q i)) next
 
     snapshot-zero : (p : ℕ) → from ≤ p → d.page c.next (p - first) ≡ None
     snapshot-zero p low = ap (λ (s : Content). s.page c.next (p - first)) is
         ∙ (page-snapshotted_new c of first (from - first) n (p - first) ∙ page_seen-out c of first (from - first) (p - first) (omega arith))
 
     -- one page more
-    snapshot-next : (p : ℕ) (held : Page) → IsNextBelow d of from end p → d.page of p ≡ Some held
+    snapshot-next : (p : ℕ) (held : Page) → IsFirst (is_held d of) from end p → d.page of p ≡ Some held
         → hold d c.next (p - first) held ≡ snapshotted c of first (p + 1 - first) n
     unfolding snapshotted page_seen hold
     snapshot-next p held next found = ap (λ (s : Content). hold s c.next (p - first) held) is ∙ same_content _ _ refl refl (λ w. refl) (λ w x.
         let low = next.order in
         let there : c.page of p ≡ Some held = sym (page-seen p) ∙ found in
         let place : x ≡ p - first → first + x ≡ p = λ same. omega arith in
-        let gap : from ≤ first + x → first + x < p → c.page of (first + x) ≡ None = λ l h. sym (page-seen (first + x)) ∙ next.gap (first + x) l h in
+        let gap : from ≤ first + x → first + x < p → c.page of (first + x) ≡ None = λ l h. sym (page-seen (first + x)) ∙ none_is _ (next.gap (first + x) l h) in
         grind (arith, nat_tests))
 
-    snapshot-good : (p : ℕ) (held : Page) → IsNextBelow d of from end p → d.page of p ≡ Some held → end - first ≤ n → n ≤ VMO_PAGES
+    snapshot-good : (p : ℕ) (held : Page) → IsFirst (is_held d of) from end p → d.page of p ≡ Some held → end - first ≤ n → n ≤ VMO_PAGES
         → IsGood (hold d c.next (p - first) held)
     snapshot-good p held next found few many =
         let high = next.below in
         subst IsGood (sym (snapshot-next p held next found)) (IsGood-snapshotted c of first (p + 1 - first) n good (omega arith) many)
 
     -- no page more
-    snapshot-end : from ≤ end → HasNoneBelow d of from end → d ≡ snapshotted c of first (end - first) n
+    snapshot-end : from ≤ end → HasNone (is_held d of) from end → d ≡ snapshotted c of first (end - first) n
     unfolding snapshotted page_seen
     snapshot-end high none = is ∙ same_content _ _ refl refl (λ w. refl) (λ w x.
-        let gap : from ≤ first + x → first + x < end → c.page of (first + x) ≡ None = λ l h. sym (page-seen (first + x)) ∙ none (first + x) l h in
+        let gap : from ≤ first + x → first + x < end → c.page of (first + x) ≡ None = λ l h. sym (page-seen (first + x)) ∙ none_is _ (none (first + x) l h) in
         grind (arith, nat_tests))
 
 -- ---- a snapshot that is made
@@ -153,17 +147,17 @@ showing-start c d of first end n koid good some new made few many = record {
 }
 
 module _ (c d : Content) (of first from end n koid : ℕ) (s : IsShowing c d of first from end n koid) where
-  pub showing-seen : (p : ℕ) → IsNextBelow d of from end p → IsNextBelow c of from end p
+  pub showing-seen : (p : ℕ) → IsFirst (is_held d of) from end p → IsFirst (is_held c of) from end p
   showing-seen p next = next-seen c of first n s.good d from end s.apart s.is s.order p next
 
-  pub showing-zero : (p : ℕ) → IsNextBelow d of from end p → d.page koid (p - first) ≡ None
+  pub showing-zero : (p : ℕ) → IsFirst (is_held d of) from end p → d.page koid (p - first) ≡ None
   showing-zero p next = ap (λ (k : ℕ). d.page k (p - first)) s.new ∙ snapshot-zero c of first n s.good d from end s.apart s.is s.order p next.order
 
-  pub showing-good : (p : ℕ) (held : Page) → IsNextBelow d of from end p → d.page of p ≡ Some held → IsGood (hold d koid (p - first) held)
+  pub showing-good : (p : ℕ) (held : Page) → IsFirst (is_held d of) from end p → d.page of p ≡ Some held → IsGood (hold d koid (p - first) held)
   showing-good p held next found =
       subst (λ (k : ℕ). IsGood (hold d k (p - first) held)) (sym s.new) (snapshot-good c of first n s.good d from end s.apart s.is s.order p held next found s.few s.many)
 
-  pub showing-next : (e : Content) (p : ℕ) (held : Page) → IsNextBelow d of from end p → d.page of p ≡ Some held → e ≡ hold d koid (p - first) held
+  pub showing-next : (e : Content) (p : ℕ) (held : Page) → IsFirst (is_held d of) from end p → d.page of p ≡ Some held → e ≡ hold d koid (p - first) held
       → IsShowing c e of first (p + 1) end n koid
   showing-next e p held next found made = record {
     good = s.good;
@@ -175,7 +169,7 @@ module _ (c d : Content) (of first from end n koid : ℕ) (s : IsShowing c d of 
     many = s.many;
   }
 
-  pub showing-end : (seen : ℕ) → end ≡ first + seen → from ≤ end → HasNoneBelow d of from end → d ≡ snapshotted c of first seen n
+  pub showing-end : (seen : ℕ) → end ≡ first + seen → from ≤ end → HasNone (is_held d of) from end → d ≡ snapshotted c of first seen n
   showing-end seen far high none =
       let long : end - first ≡ seen = omega arith in
       snapshot-end c of first n s.good d from end s.apart s.is s.order high none ∙ ap (λ (k : ℕ). snapshotted c of first k n) long

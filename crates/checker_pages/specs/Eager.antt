@@ -6,7 +6,7 @@ use Rattle.pair_map.specs.declared.pair_map.PairMap.{PairMap}
 use Rattle.pair_map.specs.Maps.{values_of, count_of}
 use Rattle.vm_base.specs.declared.names.Tag.{Tag}
 use Rattle.vm_model.specs.Contents.Content.{Content, Page, vmos_of, IsGood}
-use Rattle.checker_pages.specs.inside.Rows.{HasAny}
+use Rattle.checker_pages.specs.inside.Rows.{HasViewer}
 use Rattle.checker_pages.specs.declared.checker_pages.CheckerPages.TheInside.{Inside}
 
 -- the page frames, the next koid, the page counts by 0 and koid, the frames of the held pages by koid and page number,
@@ -55,7 +55,7 @@ pub record ArePaired (rows : ℕ → ℕ → Option Tag) (viewers : ℕ → ℕ 
   pub there : (v p : ℕ) (tag : Tag) → rows v p ≡ Some tag → viewers tag.0 v ≡ Some p
   pub back : (t v p : ℕ) → viewers t v ≡ Some p → rows v p ≡ Some (record { 0 = t })
   pub taken : (t v p : ℕ) → viewers t v ≡ Some p → IsSome (frames t)
-  pub shown : (t : ℕ) → IsSome (frames t) → HasAny (viewers t)
+  pub shown : (t : ℕ) → IsSome (frames t) → HasViewer (viewers t)
 
 -- What holds of all such pages.
 pub record IsEager (f : Eager) : Type 0 where

@@ -3,8 +3,9 @@
 ghost use Rattle.std.specs.Prelude.{◌≡◌, ◌≢◌, ℕ, ◌+◌, ◌-◌, ◌<◌, ◌≤◌, ◌⊎◌, true, false, length, take, drop, None, Some, IsSome, IfSome, IfNone, IfOk, OnOk, OnErr};
 ghost use Rattle.std.specs.Option.{option_map};
 ghost use Rattle.vm_base.specs.declared.limits.TheConstants.{FRAMES, KOIDS, PAGE, VMO_PAGES};
+ghost use Rattle.vm_base.specs.Search.{HasNone, IsFirst};
 ghost use Rattle.vm_base.specs.Pages.{replaced};
-ghost use Rattle.vm_model.specs.Contents.Content.{nothing, pages_of, shown, used, vmos_of, sole, hold, created, IsGood, IsNextBelow, HasNoneBelow};
+ghost use Rattle.vm_model.specs.Contents.Content.{nothing, pages_of, shown, used, vmos_of, is_held, sole, hold, created, IsGood};
 ghost use Rattle.vm_model.specs.Contents.Owning.{Owns};
 ghost use Rattle.vm_model.specs.Contents.Sharing.{snapshotted, without};
 ghost use Rattle.vm_model.specs.Contents.Writing.{WritesPiece};
@@ -452,9 +453,9 @@ impl CheckerPages {
 
     // The first page of a VMO that is held, from page `from` to below `end`, and its frame.
     fn held_below(&self, v: Koid, from: PageNo, end: PageNo) -> Option<(PageNo, Tag)>
-        ensures some { IfSome result (λ row. IsNextBelow (eager_content self.now) v.0 from end row.0) }
+        ensures some { IfSome result (λ row. IsFirst (is_held (eager_content self.now) v.0) from end row.0) }
         ensures tag { IfSome result (λ row. values_of self.now.rows v.0 row.0 ≡ Some row.1) }
-        ensures none { IfNone result (HasNoneBelow (eager_content self.now) v.0 from end) }
+        ensures none { IfNone result (HasNone (is_held (eager_content self.now) v.0) from end) }
     {
         match self.rows.next(v.0, from) {
             Some((page, tag)) if page < end => Some((page, tag)),

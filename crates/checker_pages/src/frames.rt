@@ -1,11 +1,12 @@
 //! Frames that are taken for a page, and given back if no page shows them any more.
 
 ghost use Rattle.std.specs.Prelude.{◌≡◌, ◌≢◌, ℕ, ◌+◌, ◌<◌, ◌^◌, ◌⊎◌, true, false, None, IsSome};
+ghost use Rattle.vm_base.specs.Search.{HasNone};
 ghost use Rattle.vm_base.specs.Entries.{without_key};
 ghost use Rattle.vm_base.specs.Pages.{zeros};
 ghost use Rattle.frame_pool.specs.Pool.{taken_frames, frame_bytes, taken_count, Takes};
 ghost use Rattle.pair_map.specs.Maps.{values_of};
-ghost use Rattle.checker_pages.specs.inside.Rows.{IsAlone, HasOther, HasNoLess, HasLess, HasAny, HasNone, HasWithin, HasNoViewerIn, HasThird, HasNoThird};
+ghost use Rattle.checker_pages.specs.inside.Rows.{is_viewer, IsAlone, HasOther, HasViewer, HasNoViewer, HasViewerIn, HasThird, HasNoThird};
 
 use frame_pool::FramePool;
 use pair_map::PairMap;
@@ -26,8 +27,8 @@ pub(crate) fn is_alone(viewers: &PairMap<PageNo>, tag: Tag, v: Koid) -> bool
 /// Returns whether no VMO with a lesser koid has a page under the frame that this one shows.
 pub(crate) fn is_least(viewers: &PairMap<PageNo>, tag: Tag, v: Koid) -> bool
     requires { IsSome (values_of viewers.now tag.0 v.0) }
-    ensures none { result ≡ true → HasNoLess (values_of viewers.now tag.0) v.0 }
-    ensures less { result ≡ false → HasLess (values_of viewers.now tag.0) v.0 }
+    ensures none { result ≡ true → HasNone (is_viewer (values_of viewers.now tag.0)) 0 v.0 }
+    ensures less { result ≡ false → HasViewerIn (values_of viewers.now tag.0) 0 v.0 }
 {
     match viewers.next(tag.0 as u64, 0) {
         Some((least, _)) => least == v.0,
@@ -55,8 +56,8 @@ pub(crate) fn has_third(viewers: &PairMap<PageNo>, tag: Tag, v: Koid, w: Koid) -
 
 // Whether a VMO with a koid from one to below another has a page under a frame.
 fn has_within(viewers: &PairMap<PageNo>, tag: Tag, from: u64, end: u64) -> bool
-    ensures some { result ≡ true → HasWithin (values_of viewers.now tag.0) from end }
-    ensures none { result ≡ false → HasNoViewerIn (values_of viewers.now tag.0) from end }
+    ensures some { result ≡ true → HasViewerIn (values_of viewers.now tag.0) from end }
+    ensures none { result ≡ false → HasNone (is_viewer (values_of viewers.now tag.0)) from end }
 {
     match viewers.next(tag.0 as u64, from) {
         Some((koid, _)) => koid < end,
@@ -87,8 +88,8 @@ pub(crate) fn take_copy(pool: &mut FramePool, from: Tag) -> Tag
 pub(crate) fn give_back_unshown(pool: &mut FramePool, viewers: &PairMap<PageNo>, tag: Tag)
     requires { IsSome (taken_frames pool.old tag.0) }
     ensures frames { pool.new.frames ≡ pool.old.frames }
-    ensures taken { (HasAny (values_of viewers.now tag.0) × (taken_frames pool.new ≡ taken_frames pool.old))
-        ⊎ (HasNone (values_of viewers.now tag.0) × (taken_frames pool.new ≡ without_key (taken_frames pool.old) tag.0)) }
+    ensures taken { (HasViewer (values_of viewers.now tag.0) × (taken_frames pool.new ≡ taken_frames pool.old))
+        ⊎ (HasNoViewer (values_of viewers.now tag.0) × (taken_frames pool.new ≡ without_key (taken_frames pool.old) tag.0)) }
 {
     if viewers.next(tag.0 as u64, 0).is_none() {
         pool.give_back(tag);

@@ -7,6 +7,7 @@ use Rattle.std.proofs.lemmas.List.{get_or_past, get_or-replicate, get_or_read, l
 use Rattle.std.proofs.Math.Seq.{take-nil}
 use Rattle.vm_base.specs.declared.limits.TheConstants.{VMO_PAGES}
 use Rattle.vm_base.specs.declared.names.Tag.{Tag}
+use Rattle.vm_base.specs.Search.{HasNone, IsFirst}
 use Rattle.vm_base.specs.Entries.{with_key, without_key}
 use Rattle.vm_base.proofs.SearchLaws.{count_below_same, count_below_none}
 use Rattle.vm_base.proofs.EntryLaws.{some_is, none_is}
@@ -14,7 +15,7 @@ use Rattle.frame_pool.specs.Pool.{Pool, taken_frames, frame_bytes, taken_count}
 use Rattle.frame_pool.proofs.PoolLaws.{taken_count-is}
 use Rattle.pair_map.specs.declared.pair_map.PairMap.{PairMap}
 use Rattle.pair_map.specs.Maps.{values_of, with_pair, count_of, IsNext}
-use Rattle.vm_model.specs.Contents.Content.{Page, Content, has_tag, nothing, pages_of, views, in_use, used, vmos_of, is_sole_page, sole, created, IsGood, IsNextBelow, HasNoneBelow}
+use Rattle.vm_model.specs.Contents.Content.{Page, Content, has_tag, nothing, pages_of, views, in_use, used, vmos_of, is_held, is_sole_page, sole, created, IsGood}
 use Rattle.vm_model.specs.Contents.Sharing.{viewers, IsLeastViewer, snapshotted, without, only}
 use Rattle.vm_model.specs.Contents.Zeroing.{zeroed, resized}
 use Rattle.vm_model.proofs.ContentLaws.{in_use_at, count_from_page, views_found, zero_not_held, held_once, has_tag_held, has_tag_from, IsGood-created, IsGood-nothing, same_content}
@@ -271,27 +272,27 @@ module _ (c : Content) (v t : ℕ) where
   pub shows-found : (p : ℕ) (held : Page) → IsGood c → c.page v p ≡ Some held → held.tag ≡ t → true ≡ views c t v
   shows-found p held good e same = sym (views_held c t v p held good e same)
 
-  pub shows-next : (from end p : ℕ) (held : Page) → ((q : ℕ) → q < from → has_tag t (c.page v q) ≡ false) → IsNextBelow c v from end p → c.page v p ≡ Some held → held.tag ≢ t →
+  pub shows-next : (from end p : ℕ) (held : Page) → ((q : ℕ) → q < from → has_tag t (c.page v q) ≡ false) → IsFirst (is_held c v) from end p → c.page v p ≡ Some held → held.tag ≢ t →
       (q : ℕ) → q < p + 1 → has_tag t (c.page v q) ≡ false
   shows-next from end p held none next e other q less = false_from_ne_true (has_tag t (c.page v q)) (λ hit.
       let found = has_tag_held t (c.page v q) hit in
       elim (cases_lt q from) [
         | inl low ↦ both_ways (has_tag t (c.page v q)) (none q low) hit
         | inr high ↦ elim (cases_lt q p) [
-          | inl before ↦ zero_not_held (c.page v q) found.0 (next.gap q high before) found.1
+          | inl before ↦ zero_not_held (c.page v q) found.0 (none_is _ (next.gap q high before)) found.1
           | inr past ↦
               let same : q ≡ p = omega arith in
               other (held_once (c.page v p) held found.0 e (ap (c.page v) (sym same) ∙ found.1) ∙ found.2)
         ]
       ])
 
-  pub shows-none : (from : ℕ) → IsGood c → ((q : ℕ) → q < from → has_tag t (c.page v q) ≡ false) → HasNoneBelow c v from VMO_PAGES → false ≡ views c t v
+  pub shows-none : (from : ℕ) → IsGood c → ((q : ℕ) → q < from → has_tag t (c.page v q) ≡ false) → HasNone (is_held c v) from VMO_PAGES → false ≡ views c t v
   shows-none from good none rest = sym (false_from_ne_true (views c t v) (λ e.
       let found = views_found c t v e in
       let few = pages_of_le c v good in
       elim (cases_lt found.0 from) [
         | inl low ↦ both_ways (has_tag t (c.page v found.0)) (none found.0 low) (has_tag_from t (c.page v found.0) found.1 found.3 found.4)
-        | inr high ↦ zero_not_held (c.page v found.0) found.1 (rest found.0 high (omega (arith, found.2))) found.3
+        | inr high ↦ zero_not_held (c.page v found.0) found.1 (none_is _ (rest found.0 high (omega (arith, found.2)))) found.3
       ]))
 
 -- ---- the least VMO that shows a frame

@@ -1,12 +1,13 @@
 -- Pages that become zero, or are shown by another VMO, one held page after another.
-use Rattle.std.proofs.Common.{◌≡◌, ◌≢◌, ◌⊎◌, ℕ, zero, suc, ◌+◌, ◌-◌, ◌<◌, ◌≤◌, Bool, None, Some, IsSome, refl, sym, ap, subst, ◌∙◌, arith}
+use Rattle.std.proofs.Common.{◌≡◌, ◌≢◌, ◌⊎◌, ℕ, zero, suc, ◌+◌, ◌-◌, ◌<◌, ◌≤◌, Bool, true, is_some, None, Some, refl, sym, ap, subst, ◌∙◌, arith}
 use Rattle.std.proofs.lemmas.Bool.Decides.{nat_tests}
-use Rattle.vm_base.specs.Search.{count_below}
+use Rattle.vm_base.specs.Search.{count_below, HasNone, IsFirst}
 use Rattle.vm_base.proofs.SearchLaws.{bit-true, count_below-suc, count_below_gap, count_below_le, count_below-zero}
-use Rattle.vm_model.specs.Contents.Content.{Content, Page, is_held, hold, created, IsGood, IsNextBelow, HasNoneBelow}
+use Rattle.vm_base.proofs.EntryLaws.{none_is}
+use Rattle.vm_model.specs.Contents.Content.{Content, Page, is_held, hold, created, IsGood}
 use Rattle.vm_model.specs.Contents.Sharing.{page_seen, snapshotted}
 use Rattle.vm_model.specs.Contents.Zeroing.{zeroed}
-use Rattle.vm_model.proofs.ContentLaws.{same_content, is_held-zero, IsGood-part, own_pages, pages_of-same}
+use Rattle.vm_model.proofs.ContentLaws.{same_content, IsGood-part, own_pages, pages_of-same}
 use Rattle.vm_model.proofs.ZeroingLaws.{zeroed-none}
 use Rattle.vm_base.specs.Entries.{with_key}
 use Rattle.page_store.specs.Held.{held_from, showing}
@@ -39,25 +40,25 @@ module _ (c : Content) (v first : ℕ) where
       let same : (n - m) + m ≡ n = omega arith in
       subst (λ k. count_below m test ≤ count_below k test) same (more_below (n - m) m test)
 
-  gap : (m n : ℕ) → m ≤ n → ((k : ℕ) → m ≤ k → k < n → c.page v (first + k) ≡ None) → held_from c v first n ≡ held_from c v first m
+  gap : (m n : ℕ) → m ≤ n → HasNone (λ k. is_held c v (first + k)) m n → held_from c v first n ≡ held_from c v first m
   unfolding held_from
-  gap m n le none = count_below_gap m n (λ k. is_held c v (first + k)) le (λ k low high. is_held-zero c v (first + k) (none k low high))
+  gap m n le none = count_below_gap m n (λ k. is_held c v (first + k)) le none
 
-  hit : (k : ℕ) → IsSome (c.page v (first + k)) → held_from c v first (k + 1) ≡ held_from c v first k + 1
+  hit : (k : ℕ) → is_held c v (first + k) ≡ true → held_from c v first (k + 1) ≡ held_from c v first k + 1
   unfolding held_from
   hit k some = omega (arith, count_below-suc k (λ k. is_held c v (first + k)), bit-true (is_held c v (first + k)) some)
 
   module _ (from end : ℕ) (order : first ≤ from) where
-    pub held-next : (p : ℕ) → IsNextBelow c v from end p → held_from c v first (p + 1 - first) ≡ held_from c v first (from - first) + 1
+    pub held-next : (p : ℕ) → IsFirst (is_held c v) from end p → held_from c v first (p + 1 - first) ≡ held_from c v first (from - first) + 1
     held-next p next =
         let low = next.order in
         let place : first + (p - first) ≡ p = omega arith in
         let far : (p - first) + 1 ≡ p + 1 - first = omega arith in
-        let one = hit (p - first) (subst (λ q. IsSome (c.page v q)) (sym place) next.held) in
+        let one = hit (p - first) (ap (is_held c v) place ∙ next.hit) in
         let none = gap (from - first) (p - first) (omega arith) (λ k l h. next.gap (first + k) (omega arith) (omega arith)) in
         sym (ap (held_from c v first) far) ∙ (one ∙ ap (λ n. n + 1) none)
 
-    pub held-end : from ≤ end → HasNoneBelow c v from end → held_from c v first (end - first) ≡ held_from c v first (from - first)
+    pub held-end : from ≤ end → HasNone (is_held c v) from end → held_from c v first (end - first) ≡ held_from c v first (from - first)
     held-end le none = gap (from - first) (end - first) (omega arith) (λ k l h. none (first + k) (omega arith) (omega arith))
 
 -- ---- pages that become zero
@@ -66,17 +67,17 @@ pub zeroed-start : (c : Content) (v n : ℕ) → c ≡ zeroed c v n n
 zeroed-start c v n = sym (zeroed-none c v n n (λ p low high. absurd (omega arith)))
 
 module _ (c d : Content) (v first from end : ℕ) (is : d ≡ zeroed c v first from) where
-  pub zeroed-next : (e : Content) (p : ℕ) → first ≤ from → IsNextBelow d v from end p → e ≡ zeroed d v p (p + 1) → e ≡ zeroed c v first (p + 1)
+  pub zeroed-next : (e : Content) (p : ℕ) → first ≤ from → IsFirst (is_held d v) from end p → e ≡ zeroed d v p (p + 1) → e ≡ zeroed c v first (p + 1)
   unfolding zeroed
   zeroed-next e p order next made = made ∙ (ap (λ (s : Content). zeroed s v p (p + 1)) is ∙ same_content _ _ refl refl (λ w. refl) (λ w x.
       let low = next.order in
-      let gap : from ≤ x → x < p → (zeroed c v first from).page v x ≡ None = λ l h. ap (λ (s : Content). s.page v x) (sym is) ∙ next.gap x l h in
+      let gap : from ≤ x → x < p → (zeroed c v first from).page v x ≡ None = λ l h. ap (λ (s : Content). s.page v x) (sym is) ∙ none_is _ (next.gap x l h) in
       grind (arith, nat_tests)))
 
-  pub zeroed-end : (from ≤ end) ⊎ (from ≡ first) → HasNoneBelow d v from end → d ≡ zeroed c v first end
+  pub zeroed-end : (from ≤ end) ⊎ (from ≡ first) → HasNone (is_held d v) from end → d ≡ zeroed c v first end
   unfolding zeroed
   zeroed-end order none = is ∙ same_content _ _ refl refl (λ w. refl) (λ w x.
-      let gap : from ≤ x → x < end → (zeroed c v first from).page v x ≡ None = λ l h. ap (λ (s : Content). s.page v x) (sym is) ∙ none x l h in
+      let gap : from ≤ x → x < end → (zeroed c v first from).page v x ≡ None = λ l h. ap (λ (s : Content). s.page v x) (sym is) ∙ none_is _ (none x l h) in
       grind (arith, nat_tests))
 
 -- ---- pages that another VMO shows
@@ -97,31 +98,26 @@ module _ (c d : Content) (w first from end v : ℕ) (is : d ≡ showing c w firs
   unfolding showing page_seen
   showing-zero p order le = ap (λ (s : Content). s.page v (p - first)) is ∙ grind (arith, nat_tests)
 
-  next-shown : (p : ℕ) → IsNextBelow d w from end p → IsNextBelow c w from end p
-  next-shown p next = record {
-    order = next.order;
-    below = next.below;
-    held = subst IsSome (page-shown p) next.held;
-    gap = λ q l h. sym (page-shown q) ∙ next.gap q l h;
-  }
+  next-shown : (p : ℕ) → IsFirst (is_held d w) from end p → IsFirst (is_held c w) from end p
+  next-shown p next = subst (λ (held : ℕ → Bool). IsFirst held from end p) (λ i q. is_some (page-shown q i)) next
 
-  pub held-shown : (p : ℕ) → first ≤ from → IsNextBelow d w from end p → held_from c w first (p + 1 - first) ≡ held_from c w first (from - first) + 1
+  pub held-shown : (p : ℕ) → first ≤ from → IsFirst (is_held d w) from end p → held_from c w first (p + 1 - first) ≡ held_from c w first (from - first) + 1
   held-shown p order next = held-next c w first from end order p (next-shown p next)
 
-  pub showing-next : (e : Content) (p : ℕ) (held : Page) → first ≤ from → IsNextBelow d w from end p → d.page w p ≡ Some held →
+  pub showing-next : (e : Content) (p : ℕ) (held : Page) → first ≤ from → IsFirst (is_held d w) from end p → d.page w p ≡ Some held →
       e ≡ hold d v (p - first) held → e ≡ showing c w first (p + 1 - first) v
   unfolding showing page_seen hold
   showing-next e p held order next shown made = made ∙ (ap (λ (s : Content). hold s v (p - first) held) is ∙ same_content _ _ refl refl (λ u. refl) (λ u x.
       let low = next.order in
       let there : c.page w p ≡ Some held = sym (page-shown p) ∙ shown in
       let place : x ≡ p - first → first + x ≡ p = λ same. omega arith in
-      let gap : from ≤ first + x → first + x < p → c.page w (first + x) ≡ None = λ l h. sym (page-shown (first + x)) ∙ next.gap (first + x) l h in
+      let gap : from ≤ first + x → first + x < p → c.page w (first + x) ≡ None = λ l h. sym (page-shown (first + x)) ∙ none_is _ (next.gap (first + x) l h) in
       grind (arith, nat_tests)))
 
-  pub showing-end : first ≤ from → from ≤ end → HasNoneBelow d w from end → d ≡ showing c w first (end - first) v
+  pub showing-end : first ≤ from → from ≤ end → HasNone (is_held d w) from end → d ≡ showing c w first (end - first) v
   unfolding showing page_seen
   showing-end order le none = is ∙ same_content _ _ refl refl (λ u. refl) (λ u x.
-      let gap : from ≤ first + x → first + x < end → c.page w (first + x) ≡ None = λ l h. sym (page-shown (first + x)) ∙ none (first + x) l h in
+      let gap : from ≤ first + x → first + x < end → c.page w (first + x) ≡ None = λ l h. sym (page-shown (first + x)) ∙ none_is _ (none (first + x) l h) in
       grind (arith, nat_tests))
 
 -- fewer of the pages are good too

@@ -2,8 +2,9 @@
 
 ghost use Rattle.std.specs.Prelude.{◌≡◌, ◌≢◌, ℕ, ◌+◌, ◌-◌, ◌<◌, ◌≤◌, ◌⊎◌, ◌==◌, ◌&&◌, if◌then◌else◌, true, IsSome, IfSome, IfNone, OnOk, IfOk, OnErr, None, Some};
 ghost use Rattle.vm_base.specs.declared.limits.TheConstants.{VMO_PAGES, KOIDS};
+ghost use Rattle.vm_base.specs.Search.{HasNone, IsFirst};
 ghost use Rattle.vm_base.specs.Pages.{zeros};
-ghost use Rattle.vm_model.specs.Contents.Content.{nothing, pages_of, views, used, sole, hold, created, IsGood, IsNextBelow, HasNoneBelow};
+ghost use Rattle.vm_model.specs.Contents.Content.{nothing, pages_of, views, used, sole, is_held, hold, created, IsGood};
 ghost use Rattle.vm_model.specs.Contents.Owning.{Owns};
 ghost use Rattle.vm_model.specs.Contents.Zeroing.{zeroed};
 ghost use Rattle.frame_pool.specs.Pool.{taken_frames, frame_bytes, taken_count, Takes};
@@ -119,9 +120,9 @@ impl FlatStore {
 
     // The first page of a VMO that is held, from page `from` to below `end`, and its frame.
     fn held_below(&self, v: Koid, from: PageNo, end: PageNo) -> Option<(PageNo, Tag)>
-        ensures some { IfSome result (λ row. IsNextBelow (flat_content self.now) v.0 from end row.0) }
+        ensures some { IfSome result (λ row. IsFirst (is_held (flat_content self.now) v.0) from end row.0) }
         ensures tag { IfSome result (λ row. values_of self.now.rows v.0 row.0 ≡ Some row.1) }
-        ensures none { IfNone result (HasNoneBelow (flat_content self.now) v.0 from end) }
+        ensures none { IfNone result (HasNone (is_held (flat_content self.now) v.0) from end) }
     {
         match self.rows.next(v.0, from) {
             Some((page, tag)) if page < end => Some((page, tag)),

@@ -4,6 +4,7 @@ use Rattle.std.proofs.Common.{◌≡◌, ◌≢◌, ℕ, ◌+◌, ◌<◌, ◌�
 use Rattle.std.specs.Prelude.{IsSome, is_some, nat_lt}
 use Rattle.std.specs.Cmp.{both_ways}
 use Rattle.std.proofs.lemmas.Bool.{cases_Bool, cases_eq, false_from_ne_true}
+use Rattle.vm_base.specs.Search.{IsFirst}
 use Rattle.vm_base.specs.Entries.{with_key, without_key, passes, any_entry, entry_count}
 use Rattle.vm_base.proofs.SearchLaws.{eqb_same, eqb_apart, any_below_found, any_below_at, any_below-count, count_below_le, count_below_same, count_below_none, count_below_hit, count_below_change, bit_same, bit-false}
 
@@ -37,6 +38,10 @@ pub passes_found : {A : Type 0} (test : A → Bool) (o : Option A) → passes te
 unfolding passes
 passes_found test None e = absurd cc
 passes_found test (Some a) e = (a, refl, e)
+
+-- the first key from one on, by what a search in the map answers
+pub first_key : {A : Type 0} (map : ℕ → Option A) (from k : ℕ) → (from ≤ k) × IsSome (map k) × ((q : ℕ) → from ≤ q → q < k → map q ≡ None) → IsFirst (λ q. is_some (map q)) from (k + 1) k
+first_key map from k next = record { order = next.0; below = omega arith; hit = next.1; gap = λ q low high. ap is_some (next.2 q low high) }
 
 -- ---- one key
 

@@ -2,8 +2,8 @@
 use Rattle.std.proofs.Common.{◌≡◌, ◌≢◌, ℕ, zero, suc, ◌+◌, ◌*◌, ◌<◌, ◌≤◌, Bool, true, false, cond, ◌&&◌, ◌||◌, ◌⊎◌, refl, sym, ap, ◌∙◌, inl, inr, arith, ◌==◌}
 use Rattle.std.specs.Prelude.{nat_le, nat_lt}
 use Rattle.std.specs.Cmp.{both_ways}
-use Rattle.std.proofs.lemmas.Bool.{cases_order, cases_eq, cases_lt, cases_Bool, and_parts, and_from, or_cases, or_from, or_left, or_right, lt-ltb, le-leb, leb-true, false_from_ne_true}
-use Rattle.vm_base.specs.Search.{any_below, any_from, count_below, sum_below}
+use Rattle.std.proofs.lemmas.Bool.{cases_order, cases_eq, cases_lt, cases_Bool, and_parts, and_from, or_cases, or_from, or_left, or_right, lt-ltb, le-ltb, le-leb, leb-true, false_from_ne_true}
+use Rattle.vm_base.specs.Search.{any_below, any_from, HasNone, IsFirst, count_below, sum_below}
 use Rattle.std.proofs.lemmas.Bool.Decides.{Decides-eqb}
 
 -- ---- equal numbers as tests
@@ -67,7 +67,7 @@ module _ (test : ℕ → Bool) where
   any_from_at first end k low high e = any_below_at end k (λ j. nat_le first j && test j) high (and_from (nat_le first k) (test k) (le-leb first k low) e)
 
   -- where nothing passes, nothing is found
-  pub none_from : (first end : ℕ) → ((k : ℕ) → first ≤ k → k < end → test k ≡ false) → any_from first end test ≡ false
+  pub none_from : (first end : ℕ) → HasNone test first end → any_from first end test ≡ false
   none_from first end each = false_from_ne_true (any_from first end test) (λ e.
       let found = any_from_found first end e in
       absurd (let miss = each found.0 found.1 found.2 in let hit = found.3 in cc))
@@ -89,6 +89,24 @@ module _ (test : ℕ → Bool) where
         | inl left ↦ let found = any_from_found first mid left in any_from_at first end found.0 found.1 (omega (arith, found.2)) found.3
         | inr right ↦ let found = any_from_found mid end right in any_from_at first end found.0 (omega (arith, found.1)) found.2 found.3
       ])
+
+-- ---- the first number that passes
+
+module _ {test : ℕ → Bool} {from end k : ℕ} (first : IsFirst test from end k) (to : ℕ) where
+  -- it is the first below any end behind it
+  pub first-below : k < to → IsFirst test from to k
+  first-below less = record { order = first.order; below = less; hit = first.hit; gap = first.gap }
+
+  -- none passes below an end up to it
+  pub first-past : to ≤ k → HasNone test from to
+  first-past past j low high = first.gap j low (omega (arith, past, high))
+
+  -- so some number passes below the ends behind it alone
+  pub any_from-first : any_from from to test ≡ nat_lt k to
+  any_from-first = elim (cases_lt k to) [
+    | inl less ↦ any_from_at test from to k first.order less first.hit ∙ sym (lt-ltb k to less)
+    | inr past ↦ none_from test from to (first-past past) ∙ sym (le-ltb k to past)
+  ]
 
 -- ---- tests that agree
 
@@ -200,7 +218,7 @@ count_below_split zero p q r each = refl
 count_below_split (suc n) p q r each = omega (arith, each n, count_below_split n p q r each)
 
 -- where nothing passes from m on, the numbers below m are all that count
-pub count_below_gap : (m n : ℕ) (p : ℕ → Bool) → m ≤ n → ((k : ℕ) → m ≤ k → k < n → p k ≡ false) → count_below n p ≡ count_below m p
+pub count_below_gap : (m n : ℕ) (p : ℕ → Bool) → m ≤ n → HasNone p m n → count_below n p ≡ count_below m p
 unfolding count_below
 count_below_gap m zero p h none = count_below-bound zero m p (omega arith)
 count_below_gap m (suc n) p h none = elim (cases_eq m (suc n)) [

@@ -3,6 +3,7 @@ use Rattle.std.proofs.Common.{◌≡◌, ℕ, ◌+◌, ◌<◌, ◌≤◌, true,
 use Rattle.std.proofs.lemmas.Bool.{and_parts, and_from}
 use Rattle.std.proofs.lemmas.Bool.Decides.{Decides-eqb}
 use Rattle.vm_base.specs.declared.limits.TheConstants.{NAMES}
+use Rattle.vm_base.specs.Search.{HasNone}
 use Rattle.vm_base.proofs.SearchLaws.{any_from_at, none_from, eqb_is}
 use Rattle.vm_base.proofs.EntryLaws.{any_entry_at, entry_count_le}
 use Rattle.vm_model.specs.Contents.Zeroing.{is_within}
@@ -33,7 +34,7 @@ pub any_pinned_at : (pins : ℕ → Option Pin) (v first end p : ℕ) → first 
 unfolding any_pinned
 any_pinned_at pins v = any_from_at (is_pinned pins v)
 
-pub none_pinned : (pins : ℕ → Option Pin) (v first end : ℕ) → ((p : ℕ) → first ≤ p → p < end → is_pinned pins v p ≡ false) → any_pinned pins v first end ≡ false
+pub none_pinned : (pins : ℕ → Option Pin) (v first end : ℕ) → HasNone (is_pinned pins v) first end → any_pinned pins v first end ≡ false
 unfolding any_pinned
 none_pinned pins v = none_from (is_pinned pins v)
 

@@ -1,5 +1,5 @@
 -- What is found among the rows of a VMO, and among the VMOs that show a frame.
-use Rattle.std.specs.Prelude.{◌≡◌, ◌≢◌, ℕ, zero, suc, ◌+◌, ◌<◌, ◌≤◌, cond, Option, None, IsSome}
+use Rattle.std.specs.Prelude.{◌≡◌, ◌≢◌, ℕ, zero, suc, ◌+◌, ◌<◌, ◌≤◌, cond, Bool, Option, None, IsSome, is_some}
 use Rattle.vm_model.specs.Contents.Content.{Content, is_held}
 
 -- how many of the n pages of v from one on are held
@@ -17,26 +17,16 @@ pub record HasOther (viewers : ℕ → Option ℕ) (v : ℕ) : Type 0 where
   pub other : w ≢ v
   pub shows : IsSome (viewers w)
 
--- no VMO with a lesser koid than v shows the frame
-pub record HasNoLess (viewers : ℕ → Option ℕ) (v : ℕ) : Type 0 where
-  pub none : (w : ℕ) → w < v → viewers w ≡ None
-
--- a VMO with a lesser koid than v shows the frame
-pub record HasLess (viewers : ℕ → Option ℕ) (v : ℕ) : Type 0 where
-  pub w : ℕ
-  pub below : w < v
-  pub shows : IsSome (viewers w)
+-- w is the koid of a VMO that shows the frame
+abbrev pub is_viewer : (ℕ → Option ℕ) → ℕ → Bool
+is_viewer viewers w = is_some (viewers w)
 
 -- a VMO with a koid from `from` to below `end` shows the frame
-pub record HasWithin (viewers : ℕ → Option ℕ) (from end : ℕ) : Type 0 where
+pub record HasViewerIn (viewers : ℕ → Option ℕ) (from end : ℕ) : Type 0 where
   pub w : ℕ
   pub order : from ≤ w
   pub below : w < end
   pub shows : IsSome (viewers w)
-
--- no such VMO shows the frame
-pub record HasNoViewerIn (viewers : ℕ → Option ℕ) (from end : ℕ) : Type 0 where
-  pub none : (w : ℕ) → from ≤ w → w < end → viewers w ≡ None
 
 -- a VMO other than v and w shows the frame
 pub record HasThird (viewers : ℕ → Option ℕ) (v w : ℕ) : Type 0 where
@@ -50,10 +40,10 @@ pub record HasNoThird (viewers : ℕ → Option ℕ) (v w : ℕ) : Type 0 where
   pub none : (u : ℕ) → u ≢ v → u ≢ w → viewers u ≡ None
 
 -- some VMO shows the frame
-pub record HasAny (viewers : ℕ → Option ℕ) : Type 0 where
+pub record HasViewer (viewers : ℕ → Option ℕ) : Type 0 where
   pub w : ℕ
   pub shows : IsSome (viewers w)
 
 -- no VMO shows the frame
-pub record HasNone (viewers : ℕ → Option ℕ) : Type 0 where
+pub record HasNoViewer (viewers : ℕ → Option ℕ) : Type 0 where
   pub none : (w : ℕ) → viewers w ≡ None

@@ -1,6 +1,6 @@
 -- What a page store contains: page frames, and VMOs that show them. From the kernel's VMO pages: sparse, zero until
 -- written.
-use Rattle.std.specs.Prelude.{◌≡◌, ℕ, ◌+◌, ◌<◌, ◌≤◌, Bool, false, not, ◌&&◌, ◌==◌, List, length, if◌then◌else◌, Option, None, Some, is_some, unwrap_or, IsSome}
+use Rattle.std.specs.Prelude.{◌≡◌, ℕ, ◌+◌, ◌<◌, ◌≤◌, Bool, false, not, ◌&&◌, ◌==◌, List, length, if◌then◌else◌, Option, None, Some, is_some, unwrap_or}
 use Rattle.vm_base.specs.declared.limits.TheConstants.{PAGE, VMO_PAGES}
 use Rattle.vm_base.specs.Search.{any_below, count_below}
 use Rattle.vm_base.specs.Pages.{zeros}
@@ -40,17 +40,6 @@ shown c v p = bytes_of (c.page v p)
 -- page p of the VMO v is held
 abbrev pub is_held : Content → ℕ → ℕ → Bool
 is_held c v p = is_some (c.page v p)
-
--- page p is the first of v that is held from page `from` on, and is below `end`
-pub record IsNextBelow (c : Content) (v from end p : ℕ) : Type 0 where
-  pub order : from ≤ p
-  pub below : p < end
-  pub held : IsSome (c.page v p)
-  pub gap : (q : ℕ) → from ≤ q → q < p → c.page v q ≡ None
-
--- no page of v from `from` to below `end` is held
-abbrev pub HasNoneBelow : Content → (v from end : ℕ) → Type 0
-HasNoneBelow c v from end = (q : ℕ) → from ≤ q → q < end → c.page v q ≡ None
 
 -- how many pages the VMO has
 unfoldable pub pages_of : Content → ℕ → ℕ

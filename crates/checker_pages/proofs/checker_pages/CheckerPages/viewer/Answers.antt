@@ -1,4 +1,4 @@
-use Rattle.std.proofs.Common.{ap, refl, arith}
+use Rattle.std.proofs.Common.{ap}
 use Rattle.std.specs.Option.{option_map}
 use Rattle.vm_model.specs.Contents.Content.{Page}
 use Rattle.checker_pages.specs.Eager.{eager_of}
