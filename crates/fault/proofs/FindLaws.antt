@@ -2,14 +2,15 @@
 use Rattle.std.proofs.Common.{◌≡◌, ℕ, ◌+◌, ◌<◌, ◌≤◌, Bool, Option, None, Some, IsSome, is_some, refl, sym, ap, ◌∙◌, arith}
 use Rattle.std.specs.Prelude.{IfSome}
 use Rattle.std.specs.Option.{option_map}
-use Rattle.vm_base.proofs.EntryLaws.{some_same, some_is}
+use Rattle.vm_base.specs.Search.{HasNone, IsFirst}
+use Rattle.vm_base.proofs.EntryLaws.{some_same, some_is, first_key}
 use Rattle.vm_base.specs.declared.names.Tag.{Tag}
 use Rattle.balanced_tree.specs.Pairs.{IsNext}
 use Rattle.fault.specs.declared.translation.Translation.{Translation}
 use Rattle.fault.specs.declared.translation.Link.{Link}
 use Rattle.fault.specs.Table.{translation_at, translations_in}
 use Rattle.fault.specs.inside.Lists.{Links, Shown, Holds, page_and_frame, shown_in, previous_in, next_in, AreLinkedInLists}
-use Rattle.fault.specs.inside.Walks.{HasFrame, HasNoList, IsNextList, HasNoTranslation, IsNextPlace}
+use Rattle.fault.specs.inside.Walks.{HasFrame, HasNoList, IsNextList, is_translated}
 use Rattle.fault.proofs.PairLaws.{missing}
 use Rattle.fault.proofs.ListLaws.{reached}
 use Rattle.fault.proofs.LinkLaws.{link-there}
@@ -147,20 +148,12 @@ module _ (places lists : ℕ → ℕ → Option ℕ) (links : Links) where
           least = λ root q t found of. list-missing v t.entry.page root q t (least.2 t.entry.page of.order of.below) found of.koid refl;
         }
 
-    pub no-place : (root from end : ℕ) → IsNext (places root) from None → HasNoTranslation (translations_in links places) root from end
-    no-place root from end none p low high = translation-none root p (none.none refl p low)
+    pub no-place : (root from end : ℕ) → IsNext (places root) from None → HasNone (is_translated (translations_in links places) root) from end
+    no-place root from end none p low high = ap is_some (translation-none root p (none.none refl p low))
 
-    pub far-place : (root from end page : ℕ) → IsNext (places root) from (Some page) → end ≤ page → HasNoTranslation (translations_in links places) root from end
-    far-place root from end page next far p low high =
-        let least = next.least page refl in translation-none root p (least.2 p low (omega arith))
-
-    pub next-place : (root from end page : ℕ) → IsNext (places root) from (Some page) → page < end → IsNextPlace (translations_in links places) root from end page
-    next-place root from end page next below =
+    pub next-place : (root from page : ℕ) → IsNext (places root) from (Some page) → IsFirst (is_translated (translations_in links places) root) from (page + 1) page
+    next-place root from page next =
         let least = next.least page refl in
         let x = some_is (places root page) least.1 in
-        record {
-          order = least.0;
-          below = below;
-          is = translation-some root page x.0 x.1;
-          least = λ p low high. translation-none root p (least.2 p low high);
-        }
+        first_key (translations_in links places root) from page
+        (least.0, translation-some root page x.0 x.1, λ p low high. translation-none root p (least.2 p low high))

@@ -1,22 +1,21 @@
 -- Laws of the pages that a snapshot shares: they are left for reading alone, one gap between pinned pages after another.
-use Rattle.std.proofs.Common.{◌≡◌, ◌≢◌, ℕ, ◌+◌, ◌-◌, ◌<◌, ◌≤◌, ◌==◌, ◌||◌, Bool, true, false, not, cond, Option, None, Some, refl, sym, ap, subst, ◌∙◌, inl, inr, arith}
+use Rattle.std.proofs.Common.{◌≡◌, ◌≢◌, ℕ, ◌+◌, ◌-◌, ◌≤◌, ◌==◌, ◌||◌, Bool, true, false, not, cond, Option, None, Some, refl, sym, ap, ◌∙◌, inl, inr, arith}
 use Rattle.std.specs.Cmp.{both_ways}
 use Rattle.std.specs.Option.{option_map}
 use Rattle.std.proofs.lemmas.Bool.{cases_lt, and_parts, and_from, or_left, or_right, or_cases, not-true, false_from_ne_true, both_ways as either}
+use Rattle.vm_base.specs.Search.{HasNone, IsFirst}
 use Rattle.vm_model.specs.declared.space.Entry.{Entry}
 use Rattle.vm_model.specs.declared.space.Readiness.TheVariants.{Read}
 use Rattle.vm_model.specs.Contents.Zeroing.{is_within}
 use Rattle.vm_model.specs.Space.Readiness.{shows_in, shows_but}
 use Rattle.vm_model.proofs.ZeroingLaws.{is_within-true, is_within-parts}
-use Rattle.pin_table.specs.Table.{IsNextPinned}
 use Rattle.fault.specs.declared.translation.Translation.{Translation}
 use Rattle.fault.specs.Table.{Places, with_read_only, restricted}
-use Rattle.fault.specs.inside.Left.{restricted_but, with_read_only_but, IsFirstBelow}
+use Rattle.fault.specs.inside.Left.{restricted_but, with_read_only_but}
 
 -- the entry shows a page of one range or of the range behind it, where no page of this one passes
 shows_but-more : (stays : ℕ → Bool) (v first from end : ℕ) (entry : Entry) → first ≤ from → from ≤ end
-    → ((q : ℕ) → from ≤ q → q < end → stays q ≡ false)
-    → shows_but stays v first end entry ≡ (shows_but stays v first from entry || shows_in v from end entry)
+    → HasNone stays from end → shows_but stays v first end entry ≡ (shows_but stays v first from entry || shows_in v from end entry)
 shows_but-more stays v first from end entry low high none = both_ways (shows_but stays v first end entry) (shows_but stays v first from entry || shows_in v from end entry) there back where
   there : shows_but stays v first end entry ≡ true → (shows_but stays v first from entry || shows_in v from end entry) ≡ true
   there e =
@@ -72,7 +71,7 @@ entry-restricted : (b : Bool) (x : Translation) → (cond b (record x { readines
 entry-restricted true x = refl
 entry-restricted false x = refl
 
-module _ (stays : ℕ → Bool) (v first from end : ℕ) (low : first ≤ from) (high : from ≤ end) (none : (q : ℕ) → from ≤ q → q < end → stays q ≡ false) where
+module _ (stays : ℕ → Bool) (v first from end : ℕ) (low : first ≤ from) (high : from ≤ end) (none : HasNone stays from end) where
   restricted_but-more : (x : Translation) → restricted v from end (restricted_but stays v first from x) ≡ restricted_but stays v first end x
   restricted_but-more x =
       ap (λ (e : Entry). cond (shows_in v from end e) (record (restricted_but stays v first from x) { readiness = Read }) (restricted_but stays v first from x))
@@ -90,39 +89,16 @@ module _ (stays : ℕ → Bool) (v first from end : ℕ) (low : first ≤ from) 
     at (Some x) = ap (λ (y : Translation). Some y) (restricted_but-more x)
 
 -- and the pinned page behind it
-pub gaps-next : (stays : ℕ → Bool) (v first from p end : ℕ) → first ≤ from → IsFirstBelow stays from end (Some p) → (now next old : Places)
+pub gaps-next : (stays : ℕ → Bool) (v first from p end : ℕ) → first ≤ from → IsFirst stays from end p → (now next old : Places)
     → now ≡ with_read_only_but stays v first from old → next ≡ with_read_only v from (from + (p - from)) now → next ≡ with_read_only_but stays v first (p + 1) old
 unfolding with_read_only_but
 gaps-next stays v first from p end low is now next old before made =
-    let parts = is.least p refl in
-    let e : from + (p - from) ≡ p = omega (arith, parts.0) in
-    gaps-end stays v first from p low parts.0 (λ q from_le below. parts.3 q from_le below) now next old before (made ∙ ap (λ (n : ℕ). with_read_only v from n now) e)
+    let e : from + (p - from) ≡ p = omega (arith, is.order) in
+    gaps-end stays v first from p low is.order is.gap now next old before (made ∙ ap (λ (n : ℕ). with_read_only v from n now) e)
     ∙ (λ i root q. at (old root q) i) where
       at : (o : Option Translation) → option_map (restricted_but stays v first p) o ≡ option_map (restricted_but stays v first (p + 1)) o
       at None = refl
-      at (Some x) = ap (λ (b : Bool). Some (cond b (record x { readiness = Read }) x)) (sym (shows_but-passes stays v first p x.entry (is.least p refl).2))
-
--- the next pinned page, where it lies before the end
-pub first_below-some : (pinned : ℕ → Bool) (from end page : ℕ) → IsNextPinned pinned from (Some page) → page < end → IsFirstBelow pinned from end (Some page)
-first_below-some pinned from end page next below =
-    let parts = next.least page refl in
-    record {
-      none = λ e. absurd cc;
-      least = λ p e.
-          let same : page ≡ p = cc in
-          subst (λ (q : ℕ). (from ≤ q) × (q < end) × (pinned q ≡ true) × ((x : ℕ) → from ≤ x → x < q → pinned x ≡ false)) same (parts.0, below, parts.1, parts.2);
-    }
-
--- where it lies behind, there is none
-pub first_below-past : (pinned : ℕ → Bool) (from end page : ℕ) → IsNextPinned pinned from (Some page) → end ≤ page → IsFirstBelow pinned from end None
-first_below-past pinned from end page next past = record {
-  none = λ e p low high. (next.least page refl).2 p low (omega (arith, past, high));
-  least = λ p e. absurd cc;
-}
-
--- nor is there one where there is none at all
-pub first_below-none : (pinned : ℕ → Bool) (from end : ℕ) → IsNextPinned pinned from None → IsFirstBelow pinned from end None
-first_below-none pinned from end next = record { none = λ e p low high. next.none refl p low; least = λ p e. absurd cc }
+      at (Some x) = ap (λ (b : Bool). Some (cond b (record x { readiness = Read }) x)) (sym (shows_but-passes stays v first p x.entry is.hit))
 
 -- no page is in an empty range
 pub gaps-start : (stays : ℕ → Bool) (v first : ℕ) (places : Places) → places ≡ with_read_only_but stays v first first places

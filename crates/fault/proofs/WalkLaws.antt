@@ -2,11 +2,13 @@
 use Rattle.std.proofs.Common.{◌≡◌, ◌≢◌, ℕ, ◌+◌, ◌<◌, ◌≤◌, Bool, true, false, ◌&&◌, ◌==◌, Option, sym, ap, ◌∙◌, inl, inr, arith}
 use Rattle.std.proofs.lemmas.Bool.{cases_eq}
 use Rattle.std.proofs.lemmas.Bool.Decides.{nat_tests}
+use Rattle.vm_base.specs.Search.{HasNone, IsFirst}
+use Rattle.vm_base.proofs.EntryLaws.{none_is}
 use Rattle.vm_model.specs.Contents.Zeroing.{is_within}
 use Rattle.vm_model.specs.Space.Readiness.{shows_in}
 use Rattle.fault.specs.declared.translation.Translation.{Translation}
 use Rattle.fault.specs.Table.{Places}
-use Rattle.fault.specs.inside.Walks.{changed_where, is_place, HasNoTranslation, IsNextPlace, HasNoList, IsNextList}
+use Rattle.fault.specs.inside.Walks.{changed_where, is_place, is_translated, HasNoList, IsNextList}
 use Rattle.fault.proofs.PairLaws.{missing}
 use Rattle.fault.proofs.PlaceLaws.{IsOnce, changed-none, changed-then, changed-rest}
 
@@ -104,11 +106,11 @@ module _ (change : Translation → Option Translation) (once : IsOnce change) (r
 
   module _ (old mid : Places) (from end : ℕ) (is : mid ≡ changed_where change (place_below root first from) old) where
     -- the next page is changed
-    pub places-next : (page : ℕ) (new : Places) → first ≤ from → IsNextPlace mid root from end page
+    pub places-next : (page : ℕ) (new : Places) → first ≤ from → IsFirst (is_translated mid root) from end page
         → new ≡ changed_where change (λ r p k. is_place root page r p) mid → new ≡ changed_where change (place_below root first (page + 1)) old
     places-next page new low next e = changed-then change once old mid (place_below root first from) is new _ (place_below root first (page + 1)) e
         (λ r p k h. let order = next.order in more r p (omega arith) h)
-        (λ r p k at h. step r p low next.order (λ one lower upper. missing (ap (λ n. mid n p) (sym one) ∙ at) (next.least p lower upper)) h)
+        (λ r p k at h. step r p low next.order (λ one lower upper. missing (ap (λ n. mid n p) (sym one) ∙ at) (none_is _ (next.gap p lower upper))) h)
       where
         more : (r p : ℕ) → from ≤ page + 1 → ((r == root) && is_within first from p) ≡ true → ((r == root) && is_within first (page + 1) p) ≡ true
         more r p le e = grind (arith, nat_tests)
@@ -118,10 +120,10 @@ module _ (change : Translation → Option Translation) (once : IsOnce change) (r
         step r p low order gap e = grind (arith, nat_tests)
 
     -- where no page is left, all of the range are changed
-    pub places-end : from ≤ end → HasNoTranslation mid root from end → mid ≡ changed_where change (place_below root first end) old
+    pub places-end : from ≤ end → HasNone (is_translated mid root) from end → mid ≡ changed_where change (place_below root first end) old
     places-end le none = changed-rest change once old mid (place_below root first from) is (place_below root first end)
         (λ r p k h. more r p h)
-        (λ r p k at h. rest r p (λ one lower upper. missing (ap (λ n. mid n p) (sym one) ∙ at) (none p lower upper)) h)
+        (λ r p k at h. rest r p (λ one lower upper. missing (ap (λ n. mid n p) (sym one) ∙ at) (none_is _ (none p lower upper))) h)
       where
         more : (r p : ℕ) → ((r == root) && is_within first from p) ≡ true → ((r == root) && is_within first end p) ≡ true
         more r p e = grind (arith, nat_tests)

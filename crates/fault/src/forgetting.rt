@@ -2,13 +2,14 @@
 
 ghost use Rattle.std.specs.Prelude.{◌≡◌, ◌+◌, ◌≤◌, Some, IsSome};
 ghost use Rattle.vm_base.specs.declared.limits.TheConstants.{PAGES_END};
+ghost use Rattle.vm_base.specs.Search.{IsFirstOrNone};
 ghost use Rattle.vm_model.specs.Contents.Content.{pages_of};
 ghost use Rattle.vm_model.specs.Naming.Pins.{is_pinned};
 ghost use Rattle.pin_table.specs.Table.{pins_of};
 ghost use Rattle.fault.specs.Table.{translations_of, first_links_of, room_of, translations_without, is_translation_of, is_stale, is_outdated, is_at, with_read_only};
 ghost use Rattle.vm_model.specs.Space.Readiness.{frame_number};
 ghost use Rattle.fault.specs.inside.Walks.{HasFrame, changed_where, change_by, dropped};
-ghost use Rattle.fault.specs.inside.Left.{with_read_only_but, IsFirstBelow};
+ghost use Rattle.fault.specs.inside.Left.{with_read_only_but};
 
 use crate::frames::{frame_of, have_same_frame};
 use crate::translation::{Change, FrameList};
@@ -150,7 +151,7 @@ impl Translations {
 
 // The first pinned page of a VMO from `from` to below `end`. `None` if and only if none is.
 fn next_pinned_below(pins: &PinTable, v: Koid, from: PageNo, end: PageNo) -> Option<PageNo>
-    ensures { IsFirstBelow (is_pinned (pins_of pins.now) v.0) from end result }
+    ensures { IsFirstOrNone (is_pinned (pins_of pins.now) v.0) from end result }
 {
     let Some(page) = pins.next_pinned(v, from) else {
         return None;

@@ -6,7 +6,7 @@ ghost use Rattle.balanced_tree.specs.Pairs.{with_pair};
 ghost use Rattle.fault.specs.inside.Pages.{link_numbers, room_left};
 ghost use Rattle.vm_model.specs.Space.Readiness.{is_same_frame, frame_number};
 ghost use Rattle.fault.specs.Table.{is_translation_of, translations_in};
-ghost use Rattle.fault.specs.inside.Lists.{AreLinkedInLists, IsFirst, Holds, place_in_space, place_in, previous_in, next_in, set_in, to_previous, to_next, linked_behind, unlinked, first_after, restricted_beside, room_in};
+ghost use Rattle.fault.specs.inside.Lists.{AreLinkedInLists, BeginsList, Holds, place_in_space, place_in, previous_in, next_in, set_in, to_previous, to_next, linked_behind, unlinked, first_after, restricted_beside, room_in};
 ghost use Rattle.fault.specs.inside.Walks.{changed_where, dropped};
 
 use crate::frames::have_same_frame;
@@ -131,7 +131,7 @@ pub(crate) fn may_hold(link: &Link, frame: Option<Tag>) -> bool
 /// Leaves the translations of a list, which begins with the link `first`, for reading alone. It costs a step for each of
 /// them, and no look-up.
 pub(crate) fn restrict_list(links: &mut Slab<Link>, first: usize)
-    requires { IsFirst links.old first }
+    requires { BeginsList links.old first }
     ensures links { get links.new ≡ restricted_beside (get links.old) first }
     ensures len { slab_len links.new ≡ slab_len links.old }
     ensures capacity { links.new.capacity ≡ links.old.capacity }

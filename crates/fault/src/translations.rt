@@ -2,11 +2,12 @@
 
 ghost use Rattle.std.specs.Prelude.{◌≡◌, ◌↔◌, ℕ, IsTrue, ◌+◌, ◌<◌, ◌≤◌, None, Some, OnOk, IsSome, IfSome, IfNone};
 ghost use Rattle.std.specs.Option.{MatchOption};
+ghost use Rattle.vm_base.specs.Search.{IsFirstOrNone};
 ghost use Rattle.balanced_tree.specs.Pairs.{with_pair};
 ghost use Rattle.slab.specs.Slab.{get};
 ghost use Rattle.fault.specs.Table.{translations_of, link_of, first_links_of, room_of, translated_frame, with_translation, translations_without, is_translation_of, is_outdated, IsOfEntry};
 ghost use Rattle.vm_model.specs.Space.Readiness.{frame_number};
-ghost use Rattle.fault.specs.inside.Walks.{changed_where, change_by, dropped, is_place, HasNoTranslation, IsNextPlace};
+ghost use Rattle.fault.specs.inside.Walks.{changed_where, change_by, dropped, is_place, is_translated};
 ghost use Rattle.fault.specs.inside.Walks.{HasNoList, IsNextList, HasFrame, HoldElsewhere, HoldsOther};
 ghost use Rattle.fault.specs.inside.Lists.{MayHold, translation_in};
 
@@ -261,8 +262,7 @@ impl Translations {
 
     /// Returns the first page of an address space from `from` to below `end` that is translated.
     pub(crate) fn place_below(&self, root: RegionName, from: PageNo, end: PageNo) -> Option<PageNo>
-        ensures { MatchOption result (HasNoTranslation (translations_of self.now) root.0 from end)
-            (IsNextPlace (translations_of self.now) root.0 from end) }
+        ensures { IsFirstOrNone (is_translated (translations_of self.now) root.0) from end result }
     {
         match self.places.next(root.0 as u64, from) {
             Some((page, _)) if page < end => Some(page),

@@ -1,15 +1,15 @@
 -- The entries count the pins, as pins come and go, and say which pages are pinned.
-use Rattle.std.proofs.Common.{◌≡◌, ℕ, ◌+◌, ◌<◌, ◌≤◌, Bool, true, false, ltb, Option, None, Some, is_some, refl, sym, ap, subst, ◌∙◌, inl, inr, arith}
-use Rattle.std.proofs.lemmas.Bool.{cases_eq, lt-ltb, le-ltb, cases_lt}
+use Rattle.std.proofs.Common.{◌≡◌, ℕ, ◌+◌, ◌<◌, ◌≤◌, true, false, ltb, Option, None, Some, is_some, refl, sym, ap, subst, ◌∙◌, inl, inr, arith}
+use Rattle.std.proofs.lemmas.Bool.{cases_eq, lt-ltb, le-ltb}
 use Rattle.vm_base.specs.declared.limits.TheConstants.{PAGES_END, NAMES}
+use Rattle.vm_base.specs.Search.{HasNone, IsFirst}
 use Rattle.vm_base.specs.Entries.{with_key, without_key}
 use Rattle.vm_model.specs.Naming.Pins.{Pin, covers, is_pinned, any_pinned}
 use Rattle.vm_base.specs.Entries.{passes, entry_count}
-use Rattle.vm_base.proofs.SearchLaws.{bit_same}
+use Rattle.vm_base.proofs.SearchLaws.{bit_same, any_from-first}
 use Rattle.vm_base.proofs.EntryLaws.{passes-some, any_entry-count, entry_count_le, entry_count_hit, entry_count-empty, entry_count-with_key, entry_count-without_key, with_key-other, with_key-cases, without_key-other, without_key-some}
-use Rattle.vm_model.proofs.PinLaws.{covers_at, any_pinned_at, none_pinned}
+use Rattle.vm_model.proofs.PinLaws.{covers_at}
 use Rattle.pin_table.specs.inside.Pages.{pins_at, AllHavePins, AddsPin}
-use Rattle.pin_table.specs.Table.{IsNextPinned}
 use Rattle.pin_table.specs.inside.TableFields.{AreCountedByPage}
 use Rattle.pair_map.specs.Maps.{IsNext}
 use Rattle.std.specs.Prelude.{unwrap_or, IsSome}
@@ -87,27 +87,26 @@ module _ (pins : ℕ → Option Pin) (entries : ℕ → ℕ → Option ℕ) (cou
   unpinned_at : (v p : ℕ) → pins_at v p entries ≡ 0 → is_pinned pins v p ≡ false
   unpinned_at v p none = any_entry-count NAMES (covers v p) pins ∙ le-ltb 0 (entry_count NAMES (covers v p) pins) (omega (arith, counted.counted v p))
 
-  pub next_pinned-is : (v from : ℕ) (answer : Option ℕ) → IsNext (entries v) from answer → IsNextPinned (is_pinned pins v) from answer
-  next_pinned-is v from answer next = record {
-    none = λ e p h. unpinned_at v p (ap (λ o. unwrap_or o 0) (next.none e p h));
-    least = λ p e.
-        let is = next.least p e in
-        (is.0, pinned_at v p (some p (entries v p) refl is.1), λ q g h. unpinned_at v q (ap (λ o. unwrap_or o 0) (is.2 q g h)));
-  }
+  -- no page behind the last entry is pinned
+  pub pinned-none : (v from end : ℕ) → IsNext (entries v) from None → HasNone (is_pinned pins v) from end
+  pinned-none v from end next p low high = unpinned_at v p (ap (λ o. unwrap_or o 0) (next.none refl p low))
+
+  -- the page of the next entry is the next that is pinned
+  pub pinned-first : (v from p : ℕ) → IsNext (entries v) from (Some p) → IsFirst (is_pinned pins v) from (p + 1) p
+  pinned-first v from p next =
+      let is = next.least p refl in
+      record {
+        order = is.0;
+        below = omega arith;
+        hit = pinned_at v p (some p (entries v p) refl is.1);
+        gap = λ q low high. unpinned_at v q (ap (λ o. unwrap_or o 0) (is.2 q low high));
+      }
     where
       some : (p : ℕ) (o : Option ℕ) → entries v p ≡ o → IsSome o → 1 ≤ unwrap_or o 0
       some p None e there = absurd (cc)
       some p (Some n) e there = counted.kept.pinned v p n e
 
 -- whether a page of a range is pinned, by the next that is
-pub pinned-none : (pins : ℕ → Option Pin) (v first end : ℕ) → IsNextPinned (is_pinned pins v) first None → false ≡ any_pinned pins v first end
-pinned-none pins v first end next = sym (none_pinned pins v first end (λ p low high. next.none refl p low))
-
-pub pinned-some : (pins : ℕ → Option Pin) (v first end p : ℕ) (b : Bool) → IsNextPinned (is_pinned pins v) first (Some p) →
-    b ≡ ltb p end → b ≡ any_pinned pins v first end
-pinned-some pins v first end p b next e =
-    let is = next.least p refl in
-    elim (cases_lt p end) [
-      | inl here ↦ e ∙ (lt-ltb p end here ∙ sym (any_pinned_at pins v first end p is.0 here is.1))
-      | inr past ↦ e ∙ (le-ltb p end past ∙ sym (none_pinned pins v first end (λ q low high. is.2 q low (omega arith))))
-    ]
+pub any_pinned-first : (pins : ℕ → Option Pin) (v first end p : ℕ) → IsFirst (is_pinned pins v) first (p + 1) p → any_pinned pins v first end ≡ ltb p end
+unfolding any_pinned
+any_pinned-first pins v first end p next = any_from-first next end

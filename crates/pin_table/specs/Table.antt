@@ -1,5 +1,5 @@
 -- The table of pins as a plain list, and what it is to its callers: a map from names, and room.
-use Rattle.std.specs.Prelude.{◌≡◌, ℕ, ◌<◌, ◌≤◌, ◌==◌, Bool, true, false, List, Option, None, Some}
+use Rattle.std.specs.Prelude.{ℕ, ◌==◌, List, Option}
 use Rattle.std.specs.Option.{option_map}
 use Rattle.std.specs.Map.{lookup}
 use Rattle.vm_base.specs.declared.names.Koid.{Koid}
@@ -31,9 +31,3 @@ pins_of t = pins_in t.pins
 -- how many pins may be added without asking the host for memory
 abbrev pub pin_room : Pins → ℕ
 pin_room t = t.room
-
--- The answer is the least page from `from` on that is pinned. If it is None, none is.
-pub record IsNextPinned (pinned : ℕ → Bool) (from : ℕ) (answer : Option ℕ) : Type 0 where
-  pub none : answer ≡ None → (p : ℕ) → from ≤ p → pinned p ≡ false
-  pub least : (p : ℕ) → answer ≡ Some p →
-      (from ≤ p) × (pinned p ≡ true) × ((q : ℕ) → from ≤ q → q < p → pinned q ≡ false)

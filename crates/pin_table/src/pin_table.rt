@@ -1,10 +1,11 @@
 //! The table of pins.
 
-ghost use Rattle.std.specs.Prelude.{◌≡◌, ℕ, ◌+◌, ◌≤◌, None, Some, IsSome, OnOk};
+ghost use Rattle.std.specs.Prelude.{◌≡◌, ℕ, ◌+◌, ◌≤◌, None, Some, IsSome, IfSome, IfNone, OnOk};
 ghost use Rattle.std.specs.Option.{option_map};
+ghost use Rattle.vm_base.specs.Search.{HasNone, IsFirst};
 ghost use Rattle.vm_base.specs.Entries.{with_key, without_key};
 ghost use Rattle.vm_model.specs.Naming.Pins.{any_pinned, is_pinned};
-ghost use Rattle.pin_table.specs.Table.{pin_of, pins_of, pin_room, IsNextPinned};
+ghost use Rattle.pin_table.specs.Table.{pin_of, pins_of, pin_room};
 
 use crate::pages::{pin_pages, unpin_pages};
 use pair_map::PairMap;
@@ -108,7 +109,8 @@ impl PinTable {
 
     /// Returns the least pinned page of a VMO from `from` on. `None` if and only if there is none.
     pub fn next_pinned(&self, koid: Koid, from: PageNo) -> Option<PageNo>
-        ensures { IsNextPinned (is_pinned (pins_of self.now) koid.0) from result }
+        ensures some { IfSome result (λ page. IsFirst (is_pinned (pins_of self.now) koid.0) from (page + 1) page) }
+        ensures none { IfNone result ((end : ℕ) → HasNone (is_pinned (pins_of self.now) koid.0) from end) }
     {
         match self.pages.next(koid.0, from) {
             Some((page, _)) => Some(page),

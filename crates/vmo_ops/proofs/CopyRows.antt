@@ -4,6 +4,7 @@ use Rattle.std.proofs.Common.{List, ◌∷◌, length, Option, None, Some, refl,
 use Rattle.std.specs.Prelude.{nat_lt, is_some}
 use Rattle.std.specs.List.{filter, range_with_len}
 use Rattle.std.proofs.lemmas.Bool.{le-ltb}
+use Rattle.vm_base.specs.Search.{HasNone, IsFirst}
 use Rattle.vm_base.specs.Entries.{with_key}
 use Rattle.vm_base.specs.Pages.{rounded}
 use Rattle.vm_base.specs.declared.limits.TheConstants.{PAGE, VMO_PAGES}
@@ -29,14 +30,13 @@ use Rattle.vm_model.proofs.NamesLaws.{target_of-at}
 use Rattle.vm_model.proofs.OwningLaws.{Owned-from_Owns}
 use Rattle.vm_model.proofs.SharingLaws.{page-snapshotted_cases, count-snapshotted_new, IsGood-snapshotted}
 use Rattle.vm_model.proofs.StepLaws.{Step-done, Step-lacks}
-use Rattle.pin_table.specs.Table.{IsNextPinned}
-use Rattle.vmo_ops.specs.inside.Copies.{copies_of, IsNextCopy}
+use Rattle.vmo_ops.specs.inside.Copies.{is_copy, copies_of}
 use Rattle.vmo_ops.proofs.CreateLaws.{snapshotted-first}
 
 -- ---- the copies
 
 -- pages in a row that do not pass
-passing-gap : (test : ℕ → Bool) (from n m : ℕ) → ((q : ℕ) → from ≤ q → q < from + n → test q ≡ false)
+passing-gap : (test : ℕ → Bool) (from n m : ℕ) → HasNone test from (from + n)
     → filter test (range_with_len from (n + m)) ≡ filter test (range_with_len (from + n) m)
 passing-gap test from zero m none =
     let e : from ≡ from + zero = omega arith in
@@ -53,70 +53,54 @@ passing-gap test from (suc n) m none =
 
 module _ (pinned : ℕ → Bool) (first seen : ℕ) where
   -- the next of them, and those behind it
-  pub copies-next : (from q : ℕ) → IsNextCopy pinned first seen from (Some q) → copies_of pinned first seen from ≡ q ∷ copies_of pinned first seen (q + 1)
+  pub copies-next : (from q : ℕ) → IsFirst (is_copy pinned first) from seen q → copies_of pinned first seen from ≡ q ∷ copies_of pinned first seen (q + 1)
   unfolding copies_of
   copies-next from q next =
-      let parts = next.least q refl in
-      let test : ℕ → Bool = λ x. pinned (first + x) in
-      let e : seen - from ≡ (q - from) + suc (seen - (q + 1)) = omega (arith, parts.0, parts.1) in
-      let f : from + (q - from) ≡ q = omega (arith, parts.0) in
+      let test = is_copy pinned first in
+      let e : seen - from ≡ (q - from) + suc (seen - (q + 1)) = omega (arith, next.order, next.below) in
+      let f : from + (q - from) ≡ q = omega (arith, next.order) in
       let rest = filter test (range_with_len (q + 1) (seen - (q + 1))) in
       ap (λ (n : ℕ). filter test (range_with_len from n)) e
-      ∙ (passing-gap test from (q - from) (suc (seen - (q + 1))) (λ x low high. parts.3 x low (omega (arith, high, f)))
+      ∙ (passing-gap test from (q - from) (suc (seen - (q + 1))) (λ x low high. next.gap x low (omega (arith, high, f)))
       ∙ (ap (λ (a : ℕ). filter test (range_with_len a (suc (seen - (q + 1))))) f
-      ∙ ap (λ (b : Bool). cond b (q ∷ rest) rest) parts.2))
+      ∙ ap (λ (b : Bool). cond b (q ∷ rest) rest) next.hit))
 
   -- where there is no next one, there is none
-  pub copies-none : (from : ℕ) → from ≤ seen → IsNextCopy pinned first seen from None → copies_of pinned first seen from ≡ []
+  pub copies-none : (from : ℕ) → from ≤ seen → HasNone (is_copy pinned first) from seen → copies_of pinned first seen from ≡ []
   unfolding copies_of
-  copies-none from bound next =
-      let test : ℕ → Bool = λ x. pinned (first + x) in
+  copies-none from bound none =
+      let test = is_copy pinned first in
       let e : seen - from ≡ (seen - from) + zero = omega arith in
       ap (λ (n : ℕ). filter test (range_with_len from n)) e
-      ∙ passing-gap test from (seen - from) zero (λ x low high. next.none refl x low (omega (arith, bound, high)))
+      ∙ passing-gap test from (seen - from) zero (λ x low high. none x low (omega (arith, bound, high)))
 
   -- one more counted
-  pub copies-counted : (from q : ℕ) → IsNextCopy pinned first seen from (Some q)
+  pub copies-counted : (from q : ℕ) → IsFirst (is_copy pinned first) from seen q
       → length (copies_of pinned first seen from) ≡ length (copies_of pinned first seen (q + 1)) + 1
   copies-counted from q next =
       let e : length (q ∷ copies_of pinned first seen (q + 1)) ≡ length (copies_of pinned first seen (q + 1)) + 1 = omega arith in
       ap length (copies-next from q next) ∙ e
 
   -- none is left
-  pub copies-counted_none : (from : ℕ) → from ≤ seen → IsNextCopy pinned first seen from None → length (copies_of pinned first seen from) ≡ 0
-  copies-counted_none from bound next = ap length (copies-none from bound next)
+  pub copies-counted_none : (from : ℕ) → from ≤ seen → HasNone (is_copy pinned first) from seen → length (copies_of pinned first seen from) ≡ 0
+  copies-counted_none from bound none = ap length (copies-none from bound none)
 
 -- the next pinned page, as a page of the snapshot
-pub next_copy-some : (pinned : ℕ → Bool) (first seen from page : ℕ) → IsNextPinned pinned (first + from) (Some page) → page < first + seen
-    → IsNextCopy pinned first seen from (Some (page - first))
-next_copy-some pinned first seen from page next below =
-    let parts = next.least page refl in
+pub copy-first : (pinned : ℕ → Bool) (first seen from page : ℕ) → IsFirst pinned (first + from) (first + seen) page → IsFirst (is_copy pinned first) from seen (page - first)
+unfolding is_copy
+copy-first pinned first seen from page next =
+    let at : first + (page - first) ≡ page = omega (arith, next.order) in
     record {
-      none = λ e. absurd cc;
-      least = λ q e.
-          let same : page - first ≡ q = cc in
-          let at : first + q ≡ page = omega (arith, same, parts.0) in (
-            omega (arith, same, parts.0),
-            omega (arith, at, below),
-            ap pinned at ∙ parts.1,
-            λ x low high. parts.2 (first + x) (omega arith) (omega (arith, high, at)),
-          );
+      order = omega (arith, next.order);
+      below = omega (arith, at, next.below);
+      hit = ap pinned at ∙ next.hit;
+      gap = λ q low high. next.gap (first + q) (omega arith) (omega (arith, high, at));
     }
 
--- where it is behind what the snapshot sees, there is none
-pub next_copy-past : (pinned : ℕ → Bool) (first seen from page : ℕ) → IsNextPinned pinned (first + from) (Some page) → first + seen ≤ page
-    → IsNextCopy pinned first seen from None
-next_copy-past pinned first seen from page next past = record {
-  none = λ e q low high. (next.least page refl).2 (first + q) (omega arith) (omega (arith, past, high));
-  least = λ q e. absurd cc;
-}
-
--- nor is there one where there is none at all
-pub next_copy-none : (pinned : ℕ → Bool) (first seen from : ℕ) → IsNextPinned pinned (first + from) None → IsNextCopy pinned first seen from None
-next_copy-none pinned first seen from next = record {
-  none = λ e q low high. next.none refl (first + q) (omega arith);
-  least = λ q e. absurd cc;
-}
+-- where no page is pinned that the snapshot sees, there is no copy
+pub no_copy : (pinned : ℕ → Bool) (first seen from : ℕ) → HasNone pinned (first + from) (first + seen) → HasNone (is_copy pinned first) from seen
+unfolding is_copy
+no_copy pinned first seen from none q low high = none (first + q) (omega arith) (omega arith)
 
 -- ---- owning them
 
@@ -136,10 +120,10 @@ used_most true before after e = omega (arith, e)
 used_most false before after e = omega (arith, e)
 
 module _ {pinned : ℕ → Bool} {first seen w : ℕ} {old now : Content} {from spare : ℕ} (owning : IsOwningCopies pinned first seen w old now from spare) where
-  module _ {q : ℕ} (next : IsNextCopy pinned first seen from (Some q)) where
+  module _ {q : ℕ} (next : IsFirst (is_copy pinned first) from seen q) where
     -- the next one is a page of the snapshot
     pub owning-page : q < pages_of now w
-    owning-page = omega (arith, (next.least q refl).1, owning.inside)
+    owning-page = omega (arith, next.below, owning.inside)
 
     -- there are room and a frame for it
     pub owning-room : (sole now w q ≡ true) ⊎ ((1 ≤ spare) × (used now < now.frames))
@@ -154,7 +138,7 @@ module _ {pinned : ℕ → Bool} {first seen w : ℕ} {old now : Content} {from 
         let owned = Owned-from_Owns now mid w q tag owning.good owning-page owns in
         let most = used_most (sole now w q) (used now) (used mid) owned.used in
         record {
-          bound = omega (arith, (next.least q refl).1);
+          bound = omega (arith, next.below);
           good = owned.good;
           inside = omega (arith, owning.inside, owned.pages w);
           room = omega (arith, one, owning.room, cost);
@@ -164,7 +148,7 @@ module _ {pinned : ℕ → Bool} {first seen w : ℕ} {old now : Content} {from 
         }
 
   -- all are owned
-  pub owning-end : IsNextCopy pinned first seen from None → OwnsAll old w (copies_of pinned first seen 0) now
+  pub owning-end : HasNone (is_copy pinned first) from seen → OwnsAll old w (copies_of pinned first seen 0) now
   owning-end none = owning.reach now (subst (λ (ps : List ℕ). OwnsAll now w ps now) (sym (copies-none pinned first seen from owning.bound none)) refl)
 
 -- ---- a snapshot
@@ -245,7 +229,7 @@ module _ {s : State} {name parent : VmoName} {t : Target} {offset size : ℕ} {r
 
   -- the copies of pinned pages are those of the definition
   pub copies-all : copies ≡ pinned_copies s t (offset / PAGE) (rounded size / PAGE)
-  unfolding copies_of
+  unfolding copies_of is_copy
   copies-all =
       let pinned = is_pinned s.pins t.koid.0 in
       let none : seen - 0 ≡ seen = omega arith in

@@ -4,6 +4,7 @@ use Rattle.vmo_ops.proofs.ModelLaws.{used_le}
 use Rattle.std.proofs.Common.{◌≡◌, ℕ, zero, suc, ◌+◌, ◌-◌, ◌/◌, ◌%◌, ◌<◌, ◌≤◌, Bool, true, false, not, ◌&&◌, Option, ◌∙◌, arith}
 use Rattle.std.specs.List.{range_with_len}
 use Rattle.std.proofs.lemmas.Bool.{and_from, and_left, and_right, not_from_true, not_from_false, le-leb}
+use Rattle.vm_base.specs.Search.{HasNone}
 use Rattle.vm_base.specs.declared.limits.TheConstants.{PAGE}
 use Rattle.vm_model.specs.Contents.Content.{Content, is_held, sole}
 use Rattle.vm_model.specs.Contents.Owning.{need}
@@ -16,17 +17,13 @@ use Rattle.vmo_ops.proofs.ZeroLaws.{takes_frame}
 
 -- ---- a range of whole pages
 
--- no page from `first` to below `end` passes
-abbrev pub NoneWithin : (ℕ → Bool) → ℕ → ℕ → Type 0
-NoneWithin test first end = (p : ℕ) → first ≤ p → p < end → test p ≡ false
-
 module _ (offset len : ℕ) (start : offset % PAGE ≡ 0) (whole : len % PAGE ≡ 0) where
   -- it touches no other page
   pub touched-pages : touched offset len ≡ range_with_len (offset / PAGE) ((offset + len) / PAGE - offset / PAGE)
   touched-pages = grind (arith, touched-nil, touched_end-is, touched-row)
 
   -- none of its pages is pinned
-  module _ (pinned : ℕ → Bool) (free : NoneWithin pinned (offset / PAGE) ((offset + len) / PAGE)) where
+  module _ (pinned : ℕ → Bool) (free : HasNone pinned (offset / PAGE) ((offset + len) / PAGE)) where
     -- each page of it lies wholly in it, and so is cleared
     is_cleared-pages : (p : ℕ) → offset / PAGE ≤ p → p < (offset + len) / PAGE → is_cleared pinned offset len p ≡ true
     is_cleared-pages = grind (arith, and_from, le-leb, not_from_false)
@@ -55,7 +52,7 @@ module _ (offset len : ℕ) (start : offset % PAGE ≡ 0) (whole : len % PAGE �
   -- where no page of it is found pinned, none is
   pub none_within : (pins : ℕ → Option Pin) (v : ℕ)
       → any_pinned pins v (offset / PAGE) (offset / PAGE + len / PAGE) ≡ false
-      → NoneWithin (is_pinned pins v) (offset / PAGE) ((offset + len) / PAGE)
+      → HasNone (is_pinned pins v) (offset / PAGE) ((offset + len) / PAGE)
   none_within = grind (arith, any_pinned_none)
 
 -- a range of whole pages of which none is pinned is zeroed with no frame, and is zero then

@@ -3,11 +3,12 @@
 
 ghost use Rattle.std.specs.Prelude.{◌≡◌, ℕ, ◌+◌, ◌≤◌, length};
 ghost use Rattle.vm_base.specs.declared.limits.TheConstants.{VMO_PAGES};
+ghost use Rattle.vm_base.specs.Search.{IsFirstOrNone};
 ghost use Rattle.vm_model.specs.Contents.Content.{pages_of, used, IsGood};
 ghost use Rattle.vm_model.specs.Contents.Owning.{OwnsAll};
 ghost use Rattle.vm_model.specs.Naming.Pins.{is_pinned};
 ghost use Rattle.pin_table.specs.Table.{pins_of};
-ghost use Rattle.vmo_ops.specs.inside.Copies.{copies_of, IsNextCopy};
+ghost use Rattle.vmo_ops.specs.inside.Copies.{is_copy, copies_of};
 
 use pages::Pages;
 use pin_table::PinTable;
@@ -24,7 +25,7 @@ pub fn next_copy(
 ) -> Option<PageNo>
     requires order { from ≤ seen }
     requires range { first + seen ≤ VMO_PAGES }
-    ensures { IsNextCopy (is_pinned (pins_of pins.now) of.0) first seen from result }
+    ensures { IsFirstOrNone (is_copy (is_pinned (pins_of pins.now) of.0) first) from seen result }
 {
     let end = first + seen;
     let Some(page) = pins.next_pinned(of, first + from) else {

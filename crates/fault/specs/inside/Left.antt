@@ -1,5 +1,5 @@
 -- What a change of pages leaves of the translations.
-use Rattle.std.specs.Prelude.{◌≡◌, ℕ, ◌<◌, ◌≤◌, Bool, true, false, if◌then◌else◌, Option, None, Some}
+use Rattle.std.specs.Prelude.{ℕ, Bool, if◌then◌else◌, Option}
 use Rattle.std.specs.Option.{option_map}
 use Rattle.vm_base.specs.declared.limits.TheConstants.{VMO_PAGES}
 use Rattle.vm_model.specs.declared.space.Readiness.TheVariants.{Read}
@@ -18,11 +18,6 @@ restricted_but stays v first end x = if shows_but stays v first end x.entry then
 -- the translations, with those of such pages left for reading alone
 unfoldable pub with_read_only_but : (stays : ℕ → Bool) → (v first end : ℕ) → Places → Places
 with_read_only_but stays v first end places root p = option_map (restricted_but stays v first end) (places root p)
-
--- The answer is the first page from `from` to below `end` that passes. If it is None, none does.
-pub record IsFirstBelow (passes : ℕ → Bool) (from end : ℕ) (answer : Option ℕ) : Type 0 where
-  pub none : answer ≡ None → (p : ℕ) → from ≤ p → p < end → passes p ≡ false
-  pub least : (p : ℕ) → answer ≡ Some p → (from ≤ p) × (p < end) × (passes p ≡ true) × ((q : ℕ) → from ≤ q → q < p → passes q ≡ false)
 
 -- the translations that the change leaves, once the content is this
 abbrev pub left_by : Change → Content → (ℕ → Option Pin) → Places → Places

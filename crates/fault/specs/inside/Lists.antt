@@ -94,7 +94,7 @@ pub record AreLinkedInLists (places lists : ℕ → ℕ → Option ℕ) (links :
   pub listed : AreLists (shown_in links) (previous_in links) (next_in links) lists count
 
 -- the link is the first of a list
-pub record IsFirst (links : Slab Link) (first : ℕ) : Type 0 where
+pub record BeginsList (links : Slab Link) (first : ℕ) : Type 0 where
   pub lists : ℕ → ℕ → Option ℕ
   pub listed : AreLists (shown_in (get links)) (previous_in (get links)) (next_in (get links)) lists (slab_len links)
   pub v : ℕ

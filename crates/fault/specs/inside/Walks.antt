@@ -1,5 +1,5 @@
 -- How translations change over a list or a range, and what the searches for the next page answer.
-use Rattle.std.specs.Prelude.{◌≡◌, ℕ, ◌<◌, ◌≤◌, ◌&&◌, ◌==◌, Bool, true, not, if◌then◌else◌, Option, None, Some, IsSome, IfSome}
+use Rattle.std.specs.Prelude.{◌≡◌, ℕ, ◌<◌, ◌≤◌, ◌&&◌, ◌==◌, Bool, true, not, if◌then◌else◌, Option, None, Some, is_some, IfSome}
 use Rattle.vm_base.specs.declared.names.Tag.{Tag}
 use Rattle.vm_model.specs.declared.space.Readiness.TheVariants.{Read}
 use Rattle.vm_model.specs.Space.Readiness.{is_same_frame}
@@ -42,16 +42,9 @@ abbrev pub change_by : Change → Translation → Option Translation
 change_by Forget = dropped
 change_by Restrict = left_read_only
 
--- no page of the address space from `from` to below `end` is translated
-abbrev pub HasNoTranslation : Places → (root from end : ℕ) → Type 0
-HasNoTranslation places root from end = (p : ℕ) → from ≤ p → p < end → places root p ≡ None
-
--- the page is the first of the address space from `from` to below `end` that is translated
-pub record IsNextPlace (places : Places) (root from end page : ℕ) : Type 0 where
-  pub order : from ≤ page
-  pub below : page < end
-  pub is : IsSome (places root page)
-  pub least : (p : ℕ) → from ≤ p → p < page → places root p ≡ None
+-- page p of an address space is translated
+abbrev pub is_translated : Places → (root p : ℕ) → Bool
+is_translated places root p = is_some (places root p)
 
 -- the translation is of a page of the VMO from `from` to below `end`
 pub record IsOf (v from end : ℕ) (x : Translation) : Type 0 where

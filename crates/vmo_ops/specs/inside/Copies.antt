@@ -1,5 +1,5 @@
 -- The pages of a snapshot that are copies of pinned pages.
-use Rattle.std.specs.Prelude.{◌≡◌, ℕ, ◌+◌, ◌-◌, ◌*◌, ◌/◌, ◌%◌, ◌<◌, ◌≤◌, ◌==◌, ◌&&◌, ◌||◌, ◌⊎◌, not, Bool, true, false, List, length, Option, None, Some}
+use Rattle.std.specs.Prelude.{◌≡◌, ℕ, ◌+◌, ◌-◌, ◌*◌, ◌/◌, ◌%◌, ◌≤◌, ◌==◌, ◌&&◌, ◌||◌, ◌⊎◌, not, Bool, false, List, length}
 use Rattle.std.specs.List.{filter, range_with_len}
 use Rattle.vm_base.specs.Pages.{rounded}
 use Rattle.vm_base.specs.declared.limits.TheConstants.{PAGE, VMO_PAGES}
@@ -8,16 +8,15 @@ use Rattle.vm_model.specs.Contents.Content.{Content, pages_of, used}
 use Rattle.vm_model.specs.Machine.State.{seen_pages}
 use Rattle.vmo_ops.specs.declared.snapshots.SeenPart.{SeenPart}
 
--- The pages of a snapshot, from `from` on, that are copies of pinned pages, in ascending order. The snapshot sees
--- `seen` pages of a VMO from the VMO's page `first` on. A page of the VMO is pinned if it passes the test.
-unfoldable pub copies_of : (pinned : ℕ → Bool) → (first seen from : ℕ) → List ℕ
-copies_of pinned first seen from = filter (λ q. pinned (first + q)) (range_with_len from (seen - from))
+-- A page of a snapshot is the copy of a pinned page. The snapshot sees pages of a VMO from the VMO's page `first` on. A page
+-- of the VMO is pinned if it passes the test.
+unfoldable pub is_copy : (pinned : ℕ → Bool) → (first : ℕ) → ℕ → Bool
+is_copy pinned first = λ q. pinned (first + q)
 
--- The answer is the first of these pages. If it is None, there is none.
-pub record IsNextCopy (pinned : ℕ → Bool) (first seen from : ℕ) (answer : Option ℕ) : Type 0 where
-  pub none : answer ≡ None → (q : ℕ) → from ≤ q → q < seen → pinned (first + q) ≡ false
-  pub least : (q : ℕ) → answer ≡ Some q
-      → (from ≤ q) × (q < seen) × (pinned (first + q) ≡ true) × ((x : ℕ) → from ≤ x → x < q → pinned (first + x) ≡ false)
+-- The pages of a snapshot, from `from` on, that are copies of pinned pages, in ascending order. The snapshot sees `seen`
+-- pages.
+unfoldable pub copies_of : (pinned : ℕ → Bool) → (first seen from : ℕ) → List ℕ
+copies_of pinned first seen from = filter (is_copy pinned first) (range_with_len from (seen - from))
 
 -- This is what a snapshot of so many bytes of a name sees, and nothing refuses it. A page of the VMO is pinned if it passes
 -- the test.

@@ -1,11 +1,11 @@
-use Rattle.fault.proofs.SharedLaws.{first_below-some, first_below-past, first_below-none}
+use Rattle.vm_base.proofs.SearchLaws.{first-below, first-past}
 use Rattle.fault.proofs.forgetting.next_pinned_below.Goals as goal
 
 pub returns-in_default : goal.returns-in_default
-returns-in_default c = first_below-none _ _ _ c.in_default.ensures
+returns-in_default c = c.in_default.ensures.none c.args.end
 
 pub returns-then-page-end : goal.returns-then-page-end
-returns-then-page-end c = first_below-past _ _ _ _ c.in-Some.ensures c.if-page-end.true
+returns-then-page-end c = first-past c.in-Some.ensures.some c.args.end c.if-page-end.true
 
 pub returns : goal.returns
-returns c = first_below-some _ _ _ _ c.in-Some.ensures c.if-page-end.false
+returns c = first-below c.in-Some.ensures.some c.args.end c.if-page-end.false

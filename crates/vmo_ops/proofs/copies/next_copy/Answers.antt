@@ -1,15 +1,16 @@
-use Rattle.std.proofs.Common.{refl, arith}
-use Rattle.vmo_ops.proofs.CopyRows.{next_copy-some, next_copy-past, next_copy-none}
+use Rattle.std.proofs.Common.{◌+◌, arith}
+use Rattle.vm_base.proofs.SearchLaws.{first-below, first-past}
+use Rattle.vmo_ops.proofs.CopyRows.{copy-first, no_copy}
 use Rattle.vmo_ops.proofs.copies.next_copy.Goals as goal
 
 pub returns-in_default : goal.returns-in_default
-returns-in_default c = next_copy-none _ _ _ _ c.in_default.ensures
+returns-in_default c = no_copy _ _ _ _ (c.in_default.ensures.none (c.args.first + c.args.seen))
 
 pub returns-then-page-end : goal.returns-then-page-end
-returns-then-page-end c = next_copy-past _ _ _ _ _ c.in-Some.ensures c.if-page-end.true
+returns-then-page-end c = no_copy _ _ _ _ (first-past c.in-Some.ensures.some (c.args.first + c.args.seen) c.if-page-end.true)
 
 pub returns : goal.returns
-returns c = next_copy-some _ _ _ _ _ c.in-Some.ensures c.if-page-end.false
+returns c = copy-first _ _ _ _ _ (first-below c.in-Some.ensures.some (c.args.first + c.args.seen) c.if-page-end.false)
 
 pub overflow_sub-result : goal.overflow_sub-result
-overflow_sub-result c = omega (arith, (c.in-Some.ensures.least c.in-Some.page refl).0)
+overflow_sub-result c = omega (arith, c.in-Some.ensures.some.order)

@@ -1,4 +1,4 @@
-use Rattle.std.proofs.Common.{refl, arith}
+use Rattle.std.proofs.Common.{arith}
 use Rattle.vmo_ops.proofs.CopyRows.{owning-page, owning-room, owning-next, owning-end}
 use Rattle.vmo_ops.proofs.copies.own_copies.Goals as goal
 
@@ -25,7 +25,7 @@ pub returns : goal.returns
 returns g c = owning-end c.loop-page.invariant c.in_default.ensures
 
 pub loop-page-smaller : goal.loop-page-smaller
-loop-page-smaller g c = let next = c.in-Some.ensures.least c.in-Some.page refl in omega (arith, next.0, next.1)
+loop-page-smaller g c = omega (arith, c.in-Some.ensures.order, c.in-Some.ensures.below)
 
 pub overflow_add-from : goal.overflow_add-from
-overflow_add-from g c = omega (arith, (c.in-Some.ensures.least c.in-Some.page refl).1, c.requires.range)
+overflow_add-from g c = omega (arith, c.in-Some.ensures.below, c.requires.range)

@@ -1,17 +1,16 @@
-use Rattle.std.proofs.Common.{arith}
+use Rattle.std.proofs.Common.{◌+◌, arith}
 use Rattle.vm_model.specs.Naming.Pins.{is_pinned}
 use Rattle.pin_table.specs.Table.{pins_of}
 use Rattle.vmo_ops.proofs.ZeroLaws.{is_cleared-whole}
 use Rattle.vmo_ops.proofs.zeroing.cleared_until.Goals as goal
 
 pub returns-in-Some-clause-order : goal.returns-in-Some-clause-order
-returns-in-Some-clause-order c = let next = c.next_pinned.ensures.least c.in-Some.pinned c.in-Some.is in omega (arith, next.0)
+returns-in-Some-clause-order c = omega (arith, c.in-Some.ensures.some.order)
 
 pub returns-in-Some-clause-cleared : goal.returns-in-Some-clause-cleared
 returns-in-Some-clause-cleared c = λ p low less.
-    let next = c.next_pinned.ensures.least c.in-Some.pinned c.in-Some.is in
-    is_cleared-whole (is_pinned (pins_of c.args.pins.now) c.args.v.0) c.args.offset c.args.len p (omega arith) (omega arith) (next.2 p low (omega arith))
+    is_cleared-whole (is_pinned (pins_of c.args.pins.now) c.args.v.0) c.args.offset c.args.len p (omega arith) (omega arith) (c.in-Some.ensures.some.gap p low (omega arith))
 
 pub returns-in-None-clause-cleared : goal.returns-in-None-clause-cleared
 returns-in-None-clause-cleared c = λ p low less.
-    is_cleared-whole (is_pinned (pins_of c.args.pins.now) c.args.v.0) c.args.offset c.args.len p (omega arith) (omega arith) (c.next_pinned.ensures.none c.in-None.is p low)
+    is_cleared-whole (is_pinned (pins_of c.args.pins.now) c.args.v.0) c.args.offset c.args.len p (omega arith) (omega arith) (c.in-None.ensures.none (p + 1) p low (omega arith))

@@ -1,4 +1,4 @@
-use Rattle.std.proofs.Common.{◌+◌, ◌-◌, ◌≡◌, refl, ap, ◌∙◌, ℕ, arith}
+use Rattle.std.proofs.Common.{◌+◌, ◌-◌, ◌≡◌, ap, ◌∙◌, ℕ, arith}
 use Rattle.fault.specs.Table.{translations_of, with_read_only}
 use Rattle.fault.proofs.SharedLaws.{gaps-start, gaps-next, gaps-end}
 use Rattle.fault.proofs.translations.Translations.make_readonly_but.Goals as goal
@@ -9,10 +9,9 @@ loop-pinned-init c = record { first = omega arith; bound = omega arith; left = g
 pub loop-pinned-preserved : goal.loop-pinned-preserved
 loop-pinned-preserved c =
     let inv = c.loop-pinned.invariant in
-    let next = c.in-Some.ensures.least c.in-Some.pinned refl in
     record {
-      first = omega (arith, inv.first, next.0);
-      bound = omega (arith, next.1);
+      first = omega (arith, inv.first, c.in-Some.ensures.order);
+      bound = omega (arith, c.in-Some.ensures.below);
       left = gaps-next _ _ _ _ _ _ inv.first c.in-Some.ensures _ _ _ inv.left c.make_readonly.ensures.at;
     }
 
@@ -20,24 +19,23 @@ pub returns : goal.returns
 returns c =
     let inv = c.loop-pinned.invariant in
     let e : c.loop-pinned.from + (c.args.end - c.loop-pinned.from) ≡ c.args.end = omega (arith, inv.bound) in
-    gaps-end _ _ _ _ _ inv.first inv.bound (c.in_default.ensures.none refl) _ _ _ inv.left
+    gaps-end _ _ _ _ _ inv.first inv.bound c.in_default.ensures _ _ _ inv.left
     (c.make_readonly-2.ensures.at ∙ ap (λ (n : ℕ). with_read_only c.args.v.0 c.loop-pinned.from n (translations_of c.loop-pinned.self)) e)
 
 pub loop-pinned-smaller : goal.loop-pinned-smaller
-loop-pinned-smaller c = let next = c.in-Some.ensures.least c.in-Some.pinned refl in omega (arith, next.0, next.1)
+loop-pinned-smaller c = omega (arith, c.in-Some.ensures.order, c.in-Some.ensures.below)
 
 pub overflow_add-from : goal.overflow_add-from
-overflow_add-from c = omega (arith, (c.in-Some.ensures.least c.in-Some.pinned refl).1, c.requires.range)
+overflow_add-from c = omega (arith, c.in-Some.ensures.below, c.requires.range)
 
 pub overflow_sub-pinned : goal.overflow_sub-pinned
-overflow_sub-pinned c = omega (arith, (c.in-Some.ensures.least c.in-Some.pinned refl).0)
+overflow_sub-pinned c = omega (arith, c.in-Some.ensures.order)
 
 pub overflow_sub-end : goal.overflow_sub-end
 overflow_sub-end c = omega (arith, c.loop-pinned.invariant.bound)
 
 pub make_readonly-requires : goal.make_readonly-requires
-make_readonly-requires c =
-    let next = c.in-Some.ensures.least c.in-Some.pinned refl in omega (arith, next.0, next.1, c.requires.range)
+make_readonly-requires c = omega (arith, c.in-Some.ensures.order, c.in-Some.ensures.below, c.requires.range)
 
 pub make_readonly-requires-2 : goal.make_readonly-requires-2
 make_readonly-requires-2 c = omega (arith, c.loop-pinned.invariant.bound, c.requires.range)
