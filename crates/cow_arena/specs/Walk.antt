@@ -1,5 +1,5 @@
 -- How a page of a node is looked for, from the node upwards. From the Zircon notes on hidden parents.
-use Rattle.std.specs.Prelude.{ℕ, zero, suc, ◌+◌, nat_lt, if◌then◌else◌, Option, None, Some}
+use Rattle.std.specs.Prelude.{ℕ, zero, suc, ◌+◌, nat_lt, if◌then◌else◌, Bool, Option, None, Some, is_some}
 use Rattle.std.specs.Option.{option_map, option_or}
 use Rattle.page_list.specs.declared.row.Slot.{Slot}
 use Rattle.page_list.specs.declared.row.Slot.TheVariants as slot
@@ -71,3 +71,7 @@ frame_found (Some it) = frame_in it.slot
 -- the frame that page p of node k shows. None if the page is zero
 abbrev pub frame_shown : Tree → ℕ → ℕ → Option ℕ
 frame_shown t k p = frame_found (walk t k p)
+
+-- page p of node k shows a frame
+abbrev pub shows_frame : Tree → (k p : ℕ) → Bool
+shows_frame t k p = is_some (frame_shown t k p)

@@ -1,8 +1,8 @@
 -- A look upwards for the first page from a page of a visible node on that comes to a row.
 use Rattle.cow_forest.proofs.Words.{rules, ◌≡◌, ℕ, ◌+◌, ◌-◌, ◌^◌, ◌<◌, ◌≤◌, min, Bool, Option, None, Some, inl, inr, IsSome, refl, sym, ap}
-use Rattle.cow_forest.proofs.Words.{subst, ◌∙◌, arith, IsSomeAnd, IfSome, IfNone, unwrap_or, cases_lt, IsNext, some_same, Node, NodeId}
+use Rattle.cow_forest.proofs.Words.{subst, ◌∙◌, arith, IsSomeAnd, IfSome, IfNone, unwrap_or, cases_lt, some_same, Node, NodeId}
 use Rattle.cow_forest.proofs.Words.{IsVisible, side_in, Tree, walk, frame_shown, frame_found, Slot, nodes_up, IsPage, IsExact, all_in_sight}
-use Rattle.cow_forest.proofs.Words.{ShowsNoneIn, ShowsNoneFrom, IsNextRowBelow, nearer_page}
+use Rattle.cow_forest.proofs.Words.{HasNone, IsFirstOrNone, has_row, shows_frame, none_is, is_some, nearer_page}
 use Rattle.cow_arena.proofs.WalkLaws.{walk-past, walk-up}
 use Rattle.cow_split.proofs.CostLaws.{parent-there}
 use Rattle.cow_merge.proofs.PassingLaws.{frame-from, up-less}
@@ -10,29 +10,16 @@ use Rattle.cow_forest.proofs.LookLaws.{page-past}
 
 -- ---- one node
 
--- the next row of a list, where it is below a page, and where it is not
-pub below-some : (rows : ℕ → Option Slot) (from to : ℕ) (answer : Option ℕ) (row : ℕ) → IsNext rows from answer → answer ≡ Some row → row < to →
-    IsNextRowBelow rows from to (Some row)
-below-some rows from to answer row next is less = record {
-  found = λ page e.
-      let same : row ≡ page = some_same e in
-      let least = (next.least row is).0 in
-      (omega arith, omega arith, subst (λ p. IsSome (rows p)) same (next.least row is).1);
-  free = λ page start before. (next.least row is).2 page start before;
-}
-
-pub below-none : (rows : ℕ → Option Slot) (from to : ℕ) (answer : Option ℕ) (row : ℕ) → IsNext rows from answer → answer ≡ Some row → to ≤ row →
-    IsNextRowBelow rows from to None
-below-none rows from to answer row next is past = record {
-  found = λ page e. absurd (cc);
-  free = λ page start before. (next.least row is).2 page start (omega arith);
-}
-
 -- the next row is not before any page that is at or before the first
-pub row-past : (rows : ℕ → Option Slot) (from to shift : ℕ) (answer : Option ℕ) → IsNextRowBelow rows from to answer → shift ≤ from →
+pub row-past : (rows : ℕ → Option Slot) (from to shift : ℕ) (answer : Option ℕ) → IsFirstOrNone (has_row rows) from to answer → shift ≤ from →
     IfSome answer (λ page. shift ≤ page)
 row-past rows from to shift None next le = search rules
-row-past rows from to shift (Some row) next le = let found = next.found row refl in omega arith
+row-past rows from to shift (Some row) next le = omega (arith, next.order)
+
+-- before it, or where there is none before the end, no page has a row
+row-free : (rows : ℕ → Option Slot) (from to : ℕ) (answer : Option ℕ) → IsFirstOrNone (has_row rows) from to answer → HasNone (has_row rows) from (unwrap_or answer to)
+row-free rows from to None next = next
+row-free rows from to (Some row) next = next.gap
 
 -- ---- from node to node
 
@@ -59,7 +46,7 @@ pub record IsLookingUp (t : Tree) (v from : ℕ) (best : Option ℕ) (at : Node)
 pub record HasPassed (t : Tree) (v from : ℕ) (best : Option ℕ) (at : Node) (here end : ℕ) : Type 0 where
   pub to : ℕ
   pub looking : IsLookingUp t v from best at here to
-  pub free : (p : ℕ) → here ≤ p → p < to → t.slots at.list.0 p ≡ None
+  pub free : HasNone (has_row (t.slots at.list.0)) here to
   pub end_is : end ≡ min to at.seen
 
 module _ (t : Tree) (exact : (in_use : ℕ → Bool) × IsExact t all_in_sight in_use) (v from : ℕ) where
@@ -84,7 +71,7 @@ module _ (t : Tree) (exact : (in_use : ℕ → Bool) × IsExact t all_in_sight i
 
   -- the node's next row leads to a better page, before which the node has none
   better : (best : Option ℕ) (at : Node) (here to : ℕ) → IsLookingUp t v from best at here to → (row : Option ℕ) →
-      IsNextRowBelow (t.slots at.list.0) here to row → IsLookingUp t v from (nearer_page best row (here - from)) at here (unwrap_or row to)
+      IsFirstOrNone (has_row (t.slots at.list.0)) here to row → IsLookingUp t v from (nearer_page best row (here - from)) at here (unwrap_or row to)
   better best at here to was None next = was
   better best at here to was (Some row) next = record {
     leaf = was.leaf;
@@ -94,22 +81,23 @@ module _ (t : Tree) (exact : (in_use : ℕ → Bool) × IsExact t all_in_sight i
     there = was.there;
     risen = was.risen;
     known = λ page e.
-        let found = next.found row refl in
         let page_is : row - (here - from) ≡ page = some_same e in
+        let low = next.order in
+        let less = next.below in
         (omega (arith, was.risen), omega (arith, was.risen, was.within (row - here) (omega arith)));
-    within = λ d less. was.within d (omega (arith, next.found row refl));
-    same = λ d less. was.same d (omega (arith, next.found row refl));
-    rest = λ d past before. absurd (omega (arith, was.risen, next.found row refl));
+    within = λ d less. was.within d (omega (arith, next.below));
+    same = λ d less. was.same d (omega (arith, next.below));
+    rest = λ d past before. absurd (omega (arith, was.risen, next.order));
   }
 
   -- the rows of the node are passed
   pub look-passed : (best : Option ℕ) (at : Node) (here to : ℕ) → IsLookingUp t v from best at here to → (row : Option ℕ) →
-      IsNextRowBelow (t.slots at.list.0) here to row → (now : Option ℕ) → now ≡ nearer_page best row (here - from) → (upto : ℕ) → upto ≡ unwrap_or row to →
+      IsFirstOrNone (has_row (t.slots at.list.0)) here to row → (now : Option ℕ) → now ≡ nearer_page best row (here - from) → (upto : ℕ) → upto ≡ unwrap_or row to →
       (end : ℕ) → end ≡ min upto at.seen → HasPassed t v from now at here end
   look-passed best at here to was row next now now_is upto upto_is end end_is = record {
     to = unwrap_or row to;
     looking = subst (λ b. IsLookingUp t v from b at here (unwrap_or row to)) (sym now_is) (better best at here to was row next);
-    free = next.free;
+    free = row-free (t.slots at.list.0) here to row next;
     end_is = subst (λ n. end ≡ min n at.seen) upto_is end_is;
   }
 
@@ -119,7 +107,7 @@ module _ (t : Tree) (exact : (in_use : ℕ → Bool) × IsExact t all_in_sight i
     outside d past before = elim (cases_lt (here + d) has.to) [
       | inr further ↦ has.looking.rest d further before
       | inl less ↦
-          let free = has.free (here + d) (omega arith) less in
+          let free = none_is (t.slots at.list.0 (here + d)) (has.free (here + d) (omega arith) less) in
           let end_is = has.end_is in
           has.looking.same d less
           ∙ ap frame_found (walk-past t exact.1.forest has.looking.h (here + d) at has.looking.there free (omega arith))
@@ -141,7 +129,7 @@ module _ (t : Tree) (exact : (in_use : ℕ → Bool) × IsExact t all_in_sight i
           known = was.known;
           within = λ d less. was.within d (omega arith);
           same = λ d less.
-              let free = has.free (here + d) (omega arith) (omega arith) in
+              let free = none_is (t.slots at.list.0 (here + d)) (has.free (here + d) (omega arith) (omega arith)) in
               let on = walk-up t exact.1.forest was.h (here + d) parent.0 at was.there free (omega arith) parent_is in
               let page : at.first + (here + d) ≡ (here + at.first) + d = omega arith in
               was.same d (omega arith) ∙ (ap frame_found on ∙ (frame-from (side_in t.nodes was.h) (walk t parent.0 (at.first + (here + d)))
@@ -156,24 +144,24 @@ module _ (t : Tree) (exact : (in_use : ℕ → Bool) × IsExact t all_in_sight i
         subst (λ p. frame_shown t v p ≡ None) page (outside (p - from) (omega arith) (subst (IsBefore best) (sym page) before))
 
     -- what is found then, and what not
-    pub look-some : end ≤ here → IfSome best (λ page. (from ≤ page) × IsPage t v page × ShowsNoneIn t v from page)
+    pub look-some : end ≤ here → IfSome best (λ page. (from ≤ page) × IsPage t v page × HasNone (shows_frame t v) from page)
     look-some stop = go best refl
       where
-        go : (o : Option ℕ) → best ≡ o → IfSome o (λ page. (from ≤ page) × IsPage t v page × ShowsNoneIn t v from page)
+        go : (o : Option ℕ) → best ≡ o → IfSome o (λ page. (from ≤ page) × IsPage t v page × HasNone (shows_frame t v) from page)
         go None is = search rules
         go (Some page) is =
             let was = has.looking in
             let known = was.known page is in (
               known.0,
               record { node = was.leaf; visible = was.visible; below = known.1 },
-              λ p start less. before-best stop p start (subst (λ o. IsBefore o p) (sym is) less),
+              λ p start less. ap is_some (before-best stop p start (subst (λ o. IsBefore o p) (sym is) less)),
             )
 
-    pub look-none : end ≤ here → IfNone best (ShowsNoneFrom t v from)
+    pub look-none : end ≤ here → IfNone best ((stop : ℕ) → HasNone (shows_frame t v) from stop)
     look-none stop = go best refl
       where
-        go : (o : Option ℕ) → best ≡ o → IfNone o (ShowsNoneFrom t v from)
-        go None is = λ p start. before-best stop p start (subst (λ o. IsBefore o p) (sym is) (search rules))
+        go : (o : Option ℕ) → best ≡ o → IfNone o ((stop : ℕ) → HasNone (shows_frame t v) from stop)
+        go None is = λ past p start less. ap is_some (before-best stop p start (subst (λ o. IsBefore o p) (sym is) (search rules)))
         go (Some page) is = search rules
 
     -- there is a page behind the best one

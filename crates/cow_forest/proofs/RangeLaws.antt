@@ -4,8 +4,8 @@ use Rattle.cow_forest.proofs.Words.{refl, sym, ap, subst, ◌∙◌, inl, inr, a
 use Rattle.cow_forest.proofs.Words.{and_from, or_cases, leb-true, le-leb, false_from_ne_true, eqb_same, eqb_apart, eqb_is}
 use Rattle.cow_forest.proofs.Words.{count_below_less, count_below_one_more, count_below_hit}
 use Rattle.cow_forest.proofs.Words.{Rows, Pool, Row, Slot, slots_of, Node, Arena, nodes_of, Tree, frame_shown, tree_of}
-use Rattle.cow_forest.proofs.Words.{IsPage, IsNextRowBelow, ShowsNoneIn, rows_in, shown_from, IsReadyToZero}
-use Rattle.cow_forest.proofs.Words.{HasZeroed, AreZero, HasNoFrame}
+use Rattle.cow_forest.proofs.Words.{IsPage, HasNone, IsFirst, has_row, shows_frame, rows_in, shown_from, IsReadyToZero}
+use Rattle.cow_forest.proofs.Words.{HasZeroed, HasNoFrame}
 use Rattle.cow_fork.proofs.ZeroLaws.{some-from, zeroed-none}
 use Rattle.cow_forest.proofs.LookLaws.{none-from}
 
@@ -156,15 +156,15 @@ module _ (arena : Arena) (old now : Rows Row) (before after : Pool) (v first end
 
   -- the page that comes to the next row is zero now
   pub sweep-on : (own : (node : Node) → nodes_of arena v ≡ Some node → list ≡ node.list.0 → here ≡ first) (row : ℕ) →
-      IsNextRowBelow (slots_of now list) from to (Some row) → (new : Rows Row) (last : Pool) →
+      IsFirst (has_row (slots_of now list)) from to row → (new : Rows Row) (last : Pool) →
       HasZeroed arena now new after last v (row - (here - first)) (row - (here - first) + 1) →
       frame_shown (tree_of arena new) v (row - (here - first)) ≡ None → (taken : ℕ) → taken ≡ steps + 1 →
       IsSweeping arena old new before last v first list here to begun taken (row + 1)
   sweep-on own row next new last z none taken taken_is = record {
-    order = omega (arith, is.order, found.0);
-    near = inl (omega (arith, found.1));
+    order = omega (arith, is.order, next.order);
+    near = inl (omega (arith, next.below));
     some = zeroed-then arena old now new before after last v first (first + (from - here)) (row - (here - first)) (row - (here - first) + 1) first (first + (row + 1 - here))
-        is.some z (omega arith) (omega (arith, is.order, found.0)) page.0 (omega (arith, is.order, found.0, page.2));
+        is.some z (omega arith) (omega (arith, is.order, next.order)) page.0 (omega (arith, is.order, next.order, page.2));
     passed = λ d tag shown at_row less shows at frame.
         let had = z.stood list (here + d) at_row shown at frame in
         elim (cases_lt (here + d) from) [
@@ -172,7 +172,7 @@ module _ (arena : Arena) (old now : Rows Row) (before after : Pool) (v first end
               is.passed d tag shown had.row passed
               (z.part v (first + d) tag (sweep-leaf-of d passed) shows) had.at (sym had.frame ∙ frame)
           | inr past ↦ elim (cases_lt (here + d) row) [
-            | inl before ↦ let free = next.free (here + d) past before in let there = had.at in absurd (cc)
+            | inl before ↦ let free = next.gap (here + d) past before in let there = ap is_some had.at in absurd (cc)
             | inr same ↦
                 let place : row - (here - first) ≡ first + d = omega (arith, is.order) in
                 let zero : frame_shown (tree_of arena new) v (first + d) ≡ None = subst (λ p. frame_shown (tree_of arena new) v p ≡ None) place none in
@@ -180,38 +180,38 @@ module _ (arena : Arena) (old now : Rows Row) (before after : Pool) (v first end
           ]
         ];
     cost =
-        let one = rows-next (slots_of old list) from to row found.0 found.1 there in
+        let one = rows-next (slots_of old list) from to row next.order next.below there in
         omega (arith, one, is.cost, taken_is);
   }
     where
-      found : (from ≤ row) × (row < to) × IsSome (slots_of now list row)
-      found = next.found row refl
-
       page : first ≤ row - (here - first) × (row - (here - first) < end) × (first + (row - here) ≡ row - (here - first))
-      page = sweep-page row found.0 found.1
+      page = sweep-page row next.order next.below
 
       sweep-leaf-of : (d : ℕ) → here + d < from → IsPage (tree_of arena now) v (first + d)
-      sweep-leaf-of d passed = ready-page arena now after v first end now-ready (first + d) (within d (omega (arith, found.0, found.1)))
+      sweep-leaf-of d passed = ready-page arena now after v first end now-ready (first + d) (within d (omega (arith, next.order, next.below)))
 
       -- the row stood there from the start
       there : IsSome (slots_of old list row)
-      there = elim (is.some.places ready.node ready.visible.at list row found.2) [
+      there = elim (is.some.places ready.node ready.visible.at list row next.hit) [
         | inl was ↦ was
-        | inr place ↦ absurd (let start = own ready.node ready.visible.at place.0 in omega (arith, place.2, found.0, is.order))
+        | inr place ↦ absurd (let start = own ready.node ready.visible.at place.0 in omega (arith, place.2, next.order, is.order))
       ]
 
 -- a page is zero, and those behind it
-pub zero-run : (t : Tree) (v p next : ℕ) → frame_shown t v p ≡ None → ShowsNoneIn t v (p + 1) next → AreZero t v p next
-zero-run t v p next zero none q low less = elim (cases_eq q p) [ inl here ↦ ap (frame_shown t v) here ∙ zero | inr further ↦ none q (omega arith) less ]
+pub zero-run : (t : Tree) (v p next : ℕ) → frame_shown t v p ≡ None → HasNone (shows_frame t v) (p + 1) next → HasNone (shows_frame t v) p next
+zero-run t v p next zero none q low less = elim (cases_eq q p) [
+  | inl here ↦ ap (shows_frame t v) here ∙ ap is_some zero
+  | inr further ↦ none q (omega arith) less
+]
 
 -- pages that were zero stay so, and those behind them are zero too
 pub zero-on : (arena : Arena) (old new : Rows Row) (before after : Pool) (v first from next a b : ℕ) → IsPage (tree_of arena old) v from →
-    HasZeroed arena old new before after v a b → AreZero (tree_of arena old) v first from → AreZero (tree_of arena new) v from next →
-    AreZero (tree_of arena new) v first next
+    HasZeroed arena old new before after v a b → HasNone (shows_frame (tree_of arena old) v) first from →
+    HasNone (shows_frame (tree_of arena new) v) from next → HasNone (shows_frame (tree_of arena new) v) first next
 zero-on arena old new before after v first from next a b page z zero behind p low high = elim (cases_lt p from) [
   | inr past ↦ behind p past high
-  | inl passed ↦ none-from (frame_shown (tree_of arena new) v p) (λ t shows.
-      let had = z.part v p t (record { node = page.node; visible = page.visible; below = omega (arith, page.below) }) shows in
+  | inl passed ↦ ap is_some (none-from (frame_shown (tree_of arena new) v p) (λ t shows.
+      let had = ap is_some (z.part v p t (record { node = page.node; visible = page.visible; below = omega (arith, page.below) }) shows) in
       let none = zero p low passed in
-      absurd (cc))
+      absurd (cc)))
 ]

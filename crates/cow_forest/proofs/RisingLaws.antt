@@ -3,7 +3,7 @@ use Rattle.cow_forest.proofs.Words.{◌≡◌, ℕ, zero, suc, ◌+◌, ◌-◌,
 use Rattle.cow_forest.proofs.Words.{inr, arith, cases_lt, Rows, some_same, Pool, Row, slots_of, Node, NodeId, Arena, Nodes, nodes_of}
 use Rattle.cow_forest.proofs.Words.{link_to, IsVisible, parent_node_in, side_in, Tree, walk, frame_shown, frame_found, IsForest, HasAsChild}
 use Rattle.cow_forest.proofs.Words.{tree_of, nodes_up, depth, IsPage, rows_in, rows_over, rows_up, rows_reached, IsReadyToZero}
-use Rattle.cow_forest.proofs.Words.{HasZeroed, AreZero, HasNoFrame}
+use Rattle.cow_forest.proofs.Words.{HasZeroed, HasNone, HasNoFrame, shows_frame, false, is_some}
 use Rattle.cow_arena.proofs.WalkLaws.{walk-own, walk-past, walk-up}
 use Rattle.cow_arena.proofs.ReachLaws.{walk-ends, hidden-apart}
 use Rattle.cow_split.proofs.RowLaws.{frame-shown}
@@ -103,13 +103,13 @@ module _ {arena : Arena} {old : Rows Row} {before : Pool} {v first end begun : �
       ])
 
       -- it ends where no page goes on
-      pub rise-zero : (stop : ℕ) → stop ≡ min to at.seen → stop ≤ here → AreZero (tree_of arena new) v first end
+      pub rise-zero : (stop : ℕ) → stop ≡ min to at.seen → stop ≤ here → HasNone (shows_frame (tree_of arena new) v) first end
       rise-zero stop stop_is none p low less =
           let place : first + (p - first) ≡ p = omega arith in
-          subst (λ q. frame_shown (tree_of arena new) v q ≡ None) place (outside stop stop_is (p - first) (omega arith) (omega arith))
+          subst (λ q. shows_frame (tree_of arena new) v q ≡ false) place (ap is_some (outside stop stop_is (p - first) (omega arith) (omega arith)))
 
       -- that is so at a root
-      pub rise-root : at.parent ≡ None → AreZero (tree_of arena new) v first end
+      pub rise-root : at.parent ≡ None → HasNone (shows_frame (tree_of arena new) v) first end
       rise-root none =
           let seen = is.forest.by.root is.h at is.there none in
           rise-zero (min to at.seen) refl (omega arith)

@@ -15,13 +15,13 @@ pub use Rattle.std.specs.List.{All, AllByRecursion, cons_option, Contains, filte
 unfoldable pub use Rattle.std.specs.List.{IsDistinct}
 pub use Rattle.std.specs.Option.{option_map, option_or}
 pub use Rattle.std.specs.Prelude.{eqb, filter, IsOk, MatchOption, nat_le, nat_lt, unwrap_or}
-pub use Rattle.vm_base.proofs.EntryLaws.{entry_count_hit, none_is, some_is, some_same, with_key-cases, with_key-here, with_key-other}
+pub use Rattle.vm_base.proofs.EntryLaws.{first_key, entry_count_hit, none_is, some_is, some_same, with_key-cases, with_key-here, with_key-other}
 pub use Rattle.vm_base.proofs.EntryLaws.{with_key-same, without_key-other, without_key-same, without_key-some}
-pub use Rattle.vm_base.proofs.SearchLaws.{any_below_at, any_below_found, bit-false, bit-true, bit_le, count_below_change, count_below_hit}
+pub use Rattle.vm_base.proofs.SearchLaws.{first-below, first-past, any_below_at, any_below_found, bit-false, bit-true, bit_le, count_below_change, count_below_hit}
 pub use Rattle.vm_base.proofs.SearchLaws.{count_below_le, count_below_less, count_below_none, count_below_one_more, count_below_same}
 pub use Rattle.vm_base.proofs.SearchLaws.{eqb_apart, eqb_is, eqb_same}
 unfoldable pub use Rattle.vm_base.specs.Entries.{with_key, without_key}
-pub use Rattle.vm_base.specs.Search.{count_below}
+pub use Rattle.vm_base.specs.Search.{count_below, HasNone, IsFirst, IsFirstOrNone}
 pub use Rattle.vm_base.specs.declared.names.Koid.{Koid}
 pub use Rattle.vm_base.specs.declared.names.Tag.{Tag}
 pub use Rattle.vm_model.proofs.ContentLaws.{bytes_of-none, bytes_of-some, count_from_page, page-hold_here, page-hold_other, same_content}
@@ -40,7 +40,7 @@ pub use Rattle.balanced_tree.specs.Pairs.{IsNext, pair_rank}
 unfoldable pub use Rattle.balanced_tree.specs.Pairs.{value_at}
 pub use Rattle.balanced_tree.specs.Rows.{IsRising, RisesWithin, row_at, Rows}
 pub use Rattle.page_list.proofs.SlotLaws.{row_pairs}
-pub use Rattle.page_list.specs.Lists.{row_count, slots_of}
+pub use Rattle.page_list.specs.Lists.{has_row, row_count, slots_of}
 pub use Rattle.page_list.specs.Order.{row_functions, slot_of}
 pub use Rattle.page_list.specs.declared.row.ListId.{ListId}
 pub use Rattle.page_list.specs.declared.row.Row.{Row}
@@ -56,7 +56,7 @@ unfoldable pub use Rattle.cow_arena.specs.Counts.{visible_count}
 pub use Rattle.cow_arena.specs.Forest.{HasAsChild, IsChild, IsForest}
 pub use Rattle.cow_arena.specs.Nodes.{AreFamily, Arena, IsVisible, link_to, Nodes, nodes_of, other_side, parent_node_in, sibling_in}
 pub use Rattle.cow_arena.specs.Nodes.{side_in}
-pub use Rattle.cow_arena.specs.Walk.{Found, frame_found, frame_in, frame_shown, Slots, Tree, tree_with, walk}
+pub use Rattle.cow_arena.specs.Walk.{Found, frame_found, frame_in, frame_shown, shows_frame, Slots, Tree, tree_with, walk}
 pub use Rattle.cow_arena.specs.Ways.{Arrives, Climbs, HadRow, IsPartOf, KeepsBare, Reaches, ReachesIn}
 pub use Rattle.cow_arena.specs.declared.node.Node.{Node}
 pub use Rattle.cow_arena.specs.declared.node.NodeId.{NodeId}
@@ -82,7 +82,7 @@ unfoldable pub use Rattle.cow_fork.specs.Zeroing.{shown_from}
 pub use Rattle.cow_merge.specs.Merging.{HasGone, HasListOfParent, IsRaised, KeepsPages, WasUnder, with_count}
 pub use Rattle.cow_merge.specs.Ranges.{AreLinked, GivesBack}
 pub use Rattle.cow_forest.specs.Owning.{own_frame, tag_in, tag_there}
-pub use Rattle.cow_forest.specs.Ranges.{AreZero, HasNoFrame, IsReadyToZero, rows_over, rows_reached}
+pub use Rattle.cow_forest.specs.Ranges.{HasNoFrame, IsReadyToZero, rows_over, rows_reached}
 unfoldable pub use Rattle.cow_forest.specs.Ranges.{rows_in, rows_up}
 pub use Rattle.cow_forest.specs.Store.{count_from, Forest, forest_content, frame_from, HasNode, IsNodeOf, IsStore, page_showing}
 pub use Rattle.cow_forest.specs.Store.{page_with_frame, pages_in, tree}
@@ -91,6 +91,6 @@ unfoldable pub use Rattle.cow_forest.specs.Tables.{displaced_in, node_in}
 pub use Rattle.cow_forest.specs.declared.founders.FounderTable.{FounderTable}
 pub use Rattle.cow_forest.specs.inside.Fields.{AreStore, forest_of}
 pub use Rattle.cow_forest.specs.inside.Founders.{AreFounders, AreFoundersBy, eldest, founders_in, IsElderFor, IsUnder, koid_or}
-pub use Rattle.cow_forest.specs.inside.Looking.{IsLook, IsNextRowBelow, look_in, nearer_page, ShowsFrameOrNone, ShowsNoneFrom, ShowsNoneIn}
+pub use Rattle.cow_forest.specs.inside.Looking.{IsLook, look_in, nearer_page, ShowsFrameOrNone}
 pub use Rattle.cow_forest.specs.inside.TableFields.{entries_of, IsPlacedByNumber}
 pub use Rattle.cow_forest.specs.inside.Viewing.{AreViewers, HasFrameRow, HasLesserOf, IsLeastKoidOf, IsViewerCount, ShowsFrame}

@@ -3,7 +3,7 @@ use Rattle.cow_forest.proofs.Words.{◌≡◌, ◌⊎◌, ℕ, ◌+◌, ◌-◌,
 use Rattle.cow_forest.proofs.Words.{is_some, count_below_same, Rows, Page, is_held, pages_of, zeroed, cases_zeroed, page-zeroed_in}
 use Rattle.cow_forest.proofs.Words.{page-zeroed_out, Backlink, Pool, is_taken, frame_bytes, Row, NodeId, nodes_of, link_to, frame_shown}
 use Rattle.cow_forest.proofs.Words.{tree_of, all_in_sight, AreLinked, same_content, node_in, Forest, tree, forest_content, count_from}
-use Rattle.cow_forest.proofs.Words.{page_showing, HasNode, IsStore, shown_from, IsReadyToZero, HasZeroed, AreZero, forest_of, AreStore}
+use Rattle.cow_forest.proofs.Words.{page_showing, HasNode, IsStore, shown_from, IsReadyToZero, HasZeroed, HasNone, shows_frame, none_is, forest_of, AreStore}
 use Rattle.vm_base.specs.declared.limits.TheConstants.{VMO_PAGES}
 use Rattle.cow_split.proofs.RowLaws.{frame-in_use}
 use Rattle.page_store.specs.Held.{held_from}
@@ -80,12 +80,12 @@ module _ (f : Forest) (s : IsStore f) (v : ℕ) (at : NodeId) (is : node_in f.no
         ]) in
         record { frame = same; bytes = λ t e. bytes j q t (same ∙ e) })
 
-    pub content-ranged : AreZero (tree_of f.arena rows) at.0 first end → forest_content (with_rows f rows pool) ≡ zeroed (forest_content f) v first end
+    pub content-ranged : HasNone (shows_frame (tree_of f.arena rows) at.0) first end → forest_content (with_rows f rows pool) ≡ zeroed (forest_content f) v first end
     unfolding zeroed
     content-ranged zero = same_content _ _ z.frames refl (λ w. refl) (λ w q. elim (cases_zeroed v first end w q) [
       | inl inside ↦
           ap (λ u. (forest_content (with_rows f rows pool)).page u q) inside.0
-          ∙ (page-of (with_rows f rows pool) store-ranged v at.0 q (node-kept f rows pool v at.0 h) ∙ ap (page_showing pool) (zero q inside.1 inside.2))
+          ∙ (page-of (with_rows f rows pool) store-ranged v at.0 q (node-kept f rows pool v at.0 h) ∙ ap (page_showing pool) (none_is (frame_shown (tree_of f.arena rows) at.0 q) (zero q inside.1 inside.2)))
           ∙ sym (page-zeroed_in (forest_content f) v first end w q inside.0 inside.1 inside.2)
       | inr out ↦ outside w q out ∙ sym (page-zeroed_out (forest_content f) v first end w q out)
     ])

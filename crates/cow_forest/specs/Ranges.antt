@@ -1,8 +1,9 @@
 -- Making a range of pages of a VMO's node zero: what it needs and leaves, and what it costs in steps from row to row.
-use Rattle.std.specs.Prelude.{◌≡◌, ℕ, zero, suc, ◌+◌, ◌-◌, ◌<◌, ◌≤◌, min, nat_le, ◌&&◌, is_some, Option, None, Some}
+use Rattle.std.specs.Prelude.{◌≡◌, ℕ, zero, suc, ◌+◌, ◌-◌, ◌<◌, ◌≤◌, min, nat_le, ◌&&◌, Option, None, Some}
 use Rattle.balanced_tree.specs.Rows.{Rows}
 use Rattle.vm_base.specs.Search.{count_below}
 use Rattle.frame_pool.specs.Pool.{Pool, is_taken}
+use Rattle.page_list.specs.Lists.{has_row}
 use Rattle.page_list.specs.declared.row.Row.{Row}
 use Rattle.page_list.specs.declared.row.Slot.{Slot}
 use Rattle.cow_arena.specs.declared.node.Node.{Node}
@@ -17,7 +18,7 @@ use Rattle.cow_fork.specs.Zeroing.{shown_from}
 
 -- how many pages from `from` to below `end` have a row
 unfoldable pub rows_in : (ℕ → Option Slot) → (from end : ℕ) → ℕ
-rows_in rows from end = count_below end (λ p. nat_le from p && is_some (rows p))
+rows_in rows from end = count_below end (λ p. nat_le from p && has_row rows p)
 
 -- how many rows a node has on these pages, and those further up as `further` says: a page goes on to the parent where it lies in
 -- the node's window
@@ -48,10 +49,6 @@ pub record IsReadyToZero (arena : Arena) (rows : Rows Row) (pool : Pool) (v firs
   pub order : first ≤ end
   pub below : end ≤ node.count
   pub room : shown_from (tree_of arena rows) v first (end - first) ≤ rows.spare
-
--- no page of node v from `first` to below `end` shows a frame
-abbrev pub AreZero : Tree → (v first end : ℕ) → Type 0
-AreZero t v first end = (p : ℕ) → first ≤ p → p < end → frame_shown t v p ≡ None
 
 -- A page of node v from `first` on that shows a frame has no row with a frame in this list, where the page of the list that is as
 -- far from `here` as it is from `first` lies below `to`.

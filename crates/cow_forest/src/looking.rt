@@ -1,17 +1,18 @@
 //! Looking at pages: what a page is, and which page is the next one that is held.
 
 ghost use Rattle.std.specs.Prelude.{◌≡◌, ◌↔◌, ◌+◌, ◌*◌, ◌^◌, ◌<◌, ◌≤◌, ℕ, Bool, true, None, Some, IsSome, IsSomeAnd, IfSome, IfNone};
-ghost use Rattle.page_list.specs.Lists.{row_count, slots_of};
+ghost use Rattle.vm_base.specs.Search.{HasNone, IsFirstOrNone};
+ghost use Rattle.page_list.specs.Lists.{row_count, slots_of, has_row};
 ghost use Rattle.cow_arena.specs.Nodes.{nodes_of};
 ghost use Rattle.cow_arena.specs.Forest.{IsForest};
-ghost use Rattle.cow_arena.specs.Walk.{walk, frame_shown};
+ghost use Rattle.cow_arena.specs.Walk.{walk, frame_shown, shows_frame};
 ghost use Rattle.cow_split.specs.Trees.{tree_of, holder_of};
 ghost use Rattle.cow_split.specs.Cost.{IsMostOfLookUp, depth};
 ghost use Rattle.cow_split.specs.Sight.{IsPage};
 ghost use Rattle.cow_split.specs.Exact.{IsExact, all_in_sight};
 ghost use Rattle.cow_jump.specs.Jumps.{AreJumps};
 ghost use Rattle.cow_forest.specs.Store.{frame_from};
-ghost use Rattle.cow_forest.specs.inside.Looking.{look_in, IsLook, ShowsFrameOrNone, ShowsNoneIn, ShowsNoneFrom, IsNextRowBelow, nearer_page};
+ghost use Rattle.cow_forest.specs.inside.Looking.{look_in, IsLook, ShowsFrameOrNone, nearer_page};
 ghost use Rattle.cow_forest.specs.Owning.{tag_in};
 
 use cow_arena::{CowArena, NodeId};
@@ -208,8 +209,8 @@ pub(crate) fn next_shown(
     requires jumps { (next : ℕ) × AreJumps (tree_of arena.now lists.now) next jumps.now }
     requires leaf { IsSomeAnd (nodes_of arena.now leaf.0) (λ node. IsSome node.koid) }
     ensures some { IfSome result (λ page. (from ≤ page) × IsSome (frame_shown (tree_of arena.now lists.now) leaf.0 page)
-        × ShowsNoneIn (tree_of arena.now lists.now) leaf.0 from page) }
-    ensures none { IfNone result (ShowsNoneFrom (tree_of arena.now lists.now) leaf.0 from) }
+        × HasNone (shows_frame (tree_of arena.now lists.now) leaf.0) from page) }
+    ensures none { IfNone result ((end : ℕ) → HasNone (shows_frame (tree_of arena.now lists.now) leaf.0) from end) }
 {
     if holder_by_jumps(arena, lists, jumps, leaf, from)
         .frame()
@@ -232,8 +233,8 @@ fn next_shown_by_rows(
     requires jumps { (next : ℕ) × AreJumps (tree_of arena.now lists.now) next jumps.now }
     requires leaf { IsSomeAnd (nodes_of arena.now leaf.0) (λ node. IsSome node.koid) }
     ensures some { IfSome result (λ page. (from ≤ page) × IsSome (frame_shown (tree_of arena.now lists.now) leaf.0 page)
-        × ShowsNoneIn (tree_of arena.now lists.now) leaf.0 from page) }
-    ensures none { IfNone result (ShowsNoneFrom (tree_of arena.now lists.now) leaf.0 from) }
+        × HasNone (shows_frame (tree_of arena.now lists.now) leaf.0) from page) }
+    ensures none { IfNone result ((end : ℕ) → HasNone (shows_frame (tree_of arena.now lists.now) leaf.0) from end) }
 {
     let mut at = from;
     while let Some(page) = next_row(arena, lists, leaf, at) {
@@ -263,7 +264,7 @@ pub(crate) fn next_shown_below(
     requires leaf { IsSomeAnd (nodes_of arena.now leaf.0) (λ node. IsSome node.koid) }
     requires order { from ≤ end }
     ensures range { (from ≤ result) × (result ≤ end) }
-    ensures none { ShowsNoneIn (tree_of arena.now lists.now) leaf.0 from result }
+    ensures none { HasNone (shows_frame (tree_of arena.now lists.now) leaf.0) from result }
 {
     if from == end || shown_frame(arena, lists, jumps, leaf, from).is_some() {
         return from;
@@ -287,8 +288,8 @@ fn next_row(arena: &CowArena, lists: &PageLists, leaf: NodeId, from: PageNo) -> 
     requires exact { (in_use : ℕ → Bool) × IsExact (tree_of arena.now lists.now) all_in_sight in_use }
     requires leaf { IsSomeAnd (nodes_of arena.now leaf.0) (λ node. IsSome node.koid) }
     ensures some { IfSome result (λ page. (from ≤ page) × IsPage (tree_of arena.now lists.now) leaf.0 page
-        × ShowsNoneIn (tree_of arena.now lists.now) leaf.0 from page) }
-    ensures none { IfNone result (ShowsNoneFrom (tree_of arena.now lists.now) leaf.0 from) }
+        × HasNone (shows_frame (tree_of arena.now lists.now) leaf.0) from page) }
+    ensures none { IfNone result ((end : ℕ) → HasNone (shows_frame (tree_of arena.now lists.now) leaf.0) from end) }
     ensures fits { IfSome result (λ page. page + 1 < 2 ^ 64) }
 {
     let mut at = arena.node(leaf);
@@ -315,7 +316,7 @@ fn next_row(arena: &CowArena, lists: &PageLists, leaf: NodeId, from: PageNo) -> 
 
 /// Returns the least page of a list from `from` to below `to` that has a row.
 fn next_below(lists: &PageLists, list: ListId, from: PageNo, to: PageNo) -> Option<PageNo>
-    ensures { IsNextRowBelow (slots_of lists.now list.0) from to result }
+    ensures { IsFirstOrNone (has_row (slots_of lists.now list.0)) from to result }
 {
     let row = lists.next(list, from)?;
     if row < to { Some(row) } else { None }

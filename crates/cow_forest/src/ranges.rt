@@ -1,19 +1,19 @@
 //! Making a range of pages zero, from row to row.
 
 ghost use Rattle.std.specs.Prelude.{◌≡◌, ◌≢◌, ◌+◌, ◌<◌, ◌≤◌, ℕ, Bool, None, IsSome, IsSomeAnd};
-ghost use Rattle.page_list.specs.Lists.{slots_of};
+ghost use Rattle.vm_base.specs.Search.{HasNone, IsFirstOrNone};
+ghost use Rattle.page_list.specs.Lists.{slots_of, has_row};
 ghost use Rattle.frame_pool.specs.Pool.{is_taken};
 ghost use Rattle.cow_arena.specs.declared.node.Node.{Node};
 ghost use Rattle.cow_arena.specs.Nodes.{nodes_of};
-ghost use Rattle.cow_arena.specs.Walk.{frame_shown};
+ghost use Rattle.cow_arena.specs.Walk.{frame_shown, shows_frame};
 ghost use Rattle.cow_split.specs.Trees.{tree_of};
 ghost use Rattle.cow_split.specs.Cost.{depth};
 ghost use Rattle.cow_split.specs.Sight.{IsPage};
 ghost use Rattle.cow_split.specs.Exact.{IsExact, all_in_sight};
 ghost use Rattle.cow_jump.specs.Jumps.{AreJumps};
 ghost use Rattle.cow_fork.specs.Zeroing.{HasZeroed};
-ghost use Rattle.cow_forest.specs.inside.Looking.{IsNextRowBelow, ShowsNoneIn};
-ghost use Rattle.cow_forest.specs.Ranges.{rows_in, rows_reached, IsReadyToZero, AreZero, HasNoFrame};
+ghost use Rattle.cow_forest.specs.Ranges.{rows_in, rows_reached, IsReadyToZero, HasNoFrame};
 
 use crate::looking::next_shown_below;
 use cow_arena::{CowArena, NodeId};
@@ -40,7 +40,7 @@ pub(crate) fn zero_pages<L: Ledger>(
     requires ready { IsReadyToZero arena.now lists.old frames.old leaf.0 first end }
     requires jumps { (next : ℕ) × AreJumps (tree_of arena.now lists.old) next jumps.now }
     ensures some { HasZeroed arena.now lists.old lists.new frames.old frames.new leaf.0 first end }
-    ensures zero { AreZero (tree_of arena.now lists.new) leaf.0 first end }
+    ensures zero { HasNone (shows_frame (tree_of arena.now lists.new) leaf.0) first end }
     ensures cost { steps.new ≤ steps.old + rows_reached (tree_of arena.now lists.old) leaf.0 first end
         + depth (nodes_of arena.now) arena.now.lists leaf.0 }
 {
@@ -88,7 +88,7 @@ pub(crate) fn zero_in_turn(
     requires ready { IsReadyToZero arena.now lists.old frames.old leaf.0 pages.from pages.end }
     requires jumps { (next : ℕ) × AreJumps (tree_of arena.now lists.old) next jumps.now }
     ensures some { HasZeroed arena.now lists.old lists.new frames.old frames.new leaf.0 pages.from pages.end }
-    ensures zero { AreZero (tree_of arena.now lists.new) leaf.0 pages.from pages.end }
+    ensures zero { HasNone (shows_frame (tree_of arena.now lists.new) leaf.0) pages.from pages.end }
 {
     let mut run = first_to_zero(arena, lists, jumps, leaf, pages);
     while run.from < run.end {
@@ -110,7 +110,7 @@ fn first_to_zero(
     requires leaf { IsSomeAnd (nodes_of arena.now leaf.0) (λ node. IsSome node.koid) }
     requires order { pages.from ≤ pages.end }
     ensures range { (pages.from ≤ result.from) × (result.from ≤ pages.end) × (result.end ≡ pages.end) }
-    ensures none { ShowsNoneIn (tree_of arena.now lists.now) leaf.0 pages.from result.from }
+    ensures none { HasNone (shows_frame (tree_of arena.now lists.now) leaf.0) pages.from result.from }
 {
     if arena.look(leaf).parent.is_none() {
         return pages;
@@ -139,7 +139,7 @@ fn zero_next(
     requires jumps { (next : ℕ) × AreJumps (tree_of arena.now lists.old) next jumps.now }
     ensures range { (pages.from < result.from) × (result.from ≤ pages.end) × (result.end ≡ pages.end) }
     ensures some { HasZeroed arena.now lists.old lists.new frames.old frames.new leaf.0 pages.from (pages.from + 1) }
-    ensures zero { AreZero (tree_of arena.now lists.new) leaf.0 pages.from result.from }
+    ensures zero { HasNone (shows_frame (tree_of arena.now lists.new) leaf.0) pages.from result.from }
 {
     let behind = pages.from + 1;
     let held = zero_by_jumps(arena, lists, frames, jumps, leaf, pages.from);
@@ -197,7 +197,7 @@ fn next_counted_below<L: Ledger>(
     to: PageNo,
     steps: &mut Steps<L>,
 ) -> Option<PageNo>
-    ensures next { IsNextRowBelow (slots_of lists.now list.0) from to result }
+    ensures next { IsFirstOrNone (has_row (slots_of lists.now list.0)) from to result }
     ensures cost { steps.new ≡ steps.old + 1 }
 {
     let row = lists.next_counted(list, from, steps)?;

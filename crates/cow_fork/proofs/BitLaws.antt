@@ -2,7 +2,7 @@
 use Rattle.cow_fork.proofs.Words.{◌≡◌, ◌≢◌, ℕ, ◌+◌, ◌<◌, ◌≤◌, Bool, true, false, Option, None, Some, inl, inr, refl, sym, ap, subst, ◌∙◌}
 use Rattle.cow_fork.proofs.Words.{arith, ◌==◌, nat_le, nat_lt, option_map, cases_eq, cases_lt, and_parts, and_from, le-leb, lt-ltb}
 use Rattle.cow_fork.proofs.Words.{leb-true, ltb-true, cond-true, cond-false, false_from_ne_true, with_pair, Tag, eqb_same, eqb_apart, Slot}
-use Rattle.cow_fork.proofs.Words.{Slots, is_taken_in, split_row, split_slots, hidden_row, hidden_slots, ArePlain, HasNoneIn}
+use Rattle.cow_fork.proofs.Words.{Slots, is_taken_in, split_row, split_slots, hidden_row, hidden_slots, ArePlain, HasNone, has_row, none_is}
 use Rattle.std.proofs.lemmas.Grind.{common_steps}
 use Rattle.cow_fork.proofs.SnapshotLaws.{split-other, split-here}
 
@@ -40,20 +40,20 @@ rows-alike a b l others own = λ i m q. at m q i
     ]
 
 -- where no page of the range has a row, nothing changes
-pub hidden-none : (slots : Slots) (l from end : ℕ) → HasNoneIn (slots l) from end → hidden_slots slots l from end ≡ slots
+pub hidden-none : (slots : Slots) (l from end : ℕ) → HasNone (has_row (slots l)) from end → hidden_slots slots l from end ≡ slots
 hidden-none slots l from end none = rows-alike _ _ l (hidden-other slots l from end) own
   where
     own : (q : ℕ) → hidden_slots slots l from end l q ≡ slots l q
     own q = elim (cases_lt q from) [
       | inl low ↦ hidden-out slots l from end l q (λ first. omega (arith, low, first))
       | inr first ↦ elim (cases_lt q end) [
-        | inl high ↦ hidden-free slots l from end q (none q first high) ∙ sym (none q first high)
+        | inl high ↦ let free = none_is (slots l q) (none q first high) in hidden-free slots l from end q free ∙ sym free
         | inr past ↦ hidden-out slots l from end l q (λ first high. omega (arith, past, high))
       ]
     ]
 
 -- the first row of the range, and then the others
-pub hidden-step : (slots : Slots) (l from page end : ℕ) → from ≤ page → page < end → HasNoneIn (slots l) from page →
+pub hidden-step : (slots : Slots) (l from page end : ℕ) → from ≤ page → page < end → HasNone (has_row (slots l)) from page →
     hidden_slots (hidden_slots slots l page (page + 1)) l (page + 1) end ≡ hidden_slots slots l from end
 hidden-step slots l from page end low high none = rows-alike _ _ l others own
   where
@@ -77,7 +77,7 @@ hidden-step slots l from page end low high none = rows-alike _ _ l others own
     own q = elim (cases_lt q page) [
       | inl less ↦ before q less ∙ elim (cases_lt q from) [
         | inl lower ↦ sym (hidden-out slots l from end l q (λ first up. omega (arith, lower, first)))
-        | inr first ↦ none q first less ∙ sym (hidden-free slots l from end q (none q first less))
+        | inr first ↦ let free = none_is (slots l q) (none q first less) in free ∙ sym (hidden-free slots l from end q free)
       ]
       | inr up ↦ elim (cases_eq q page) [
         | inl here ↦

@@ -5,15 +5,16 @@ pub use Rattle.std.proofs.lemmas.Bool.{and_from, and_parts, both_ways, cases_Boo
 pub use Rattle.std.proofs.lemmas.Bool.{false_from_ne_true, le-leb, leb-true, lt-ltb, ltb-true, not-false, not-true}
 pub use Rattle.std.specs.Option.{option_map}
 pub use Rattle.std.specs.Prelude.{◌&&◌, ◌==◌, IsSomeAnd, nat_le, nat_lt, not, ◌||◌}
-pub use Rattle.vm_base.proofs.EntryLaws.{none_is, some_is, some_same, with_key-cases, with_key-here, with_key-other, with_key-same}
+pub use Rattle.vm_base.proofs.EntryLaws.{first_key, none_is, some_is, some_same, with_key-cases, with_key-here, with_key-other, with_key-same}
 pub use Rattle.vm_base.proofs.EntryLaws.{without_key-other, without_key-same}
-pub use Rattle.vm_base.proofs.SearchLaws.{bit-false, bit-true, count_below_change, eqb_apart, eqb_same}
+pub use Rattle.vm_base.proofs.SearchLaws.{first-below, first-past, bit-false, bit-true, count_below_change, eqb_apart, eqb_same}
 pub use Rattle.vm_base.specs.Entries.{with_key, without_key}
+pub use Rattle.vm_base.specs.Search.{HasNone}
 pub use Rattle.vm_base.specs.declared.names.Koid.{Koid}
 pub use Rattle.vm_base.specs.declared.names.Tag.{Tag}
 unfoldable pub use Rattle.balanced_tree.specs.Pairs.{with_pair}
 pub use Rattle.balanced_tree.specs.Rows.{Rows}
-pub use Rattle.page_list.specs.Lists.{row_count, slots_of}
+pub use Rattle.page_list.specs.Lists.{has_row, row_count, slots_of}
 pub use Rattle.page_list.specs.declared.row.Row.{Row}
 pub use Rattle.page_list.specs.declared.row.Slot.{Slot}
 pub use Rattle.frame_pool.specs.Pool.{is_taken, links_of, Pool, taken_frames, Takes}
@@ -34,7 +35,7 @@ pub use Rattle.cow_split.specs.Trees.{frame_held, holder_of, tree_of, with_row}
 pub use Rattle.cow_split.specs.declared.answers.Cut.{Cut}
 pub use Rattle.cow_split.specs.declared.answers.Holder.{Holder}
 pub use Rattle.cow_fork.specs.Frames.{bytes_shown, GivesSole, HasFree, HasSole, IsSole, LeavesFrame}
-pub use Rattle.cow_fork.specs.Snapshots.{ArePlain, HasNoneIn, hidden_row, is_taken_in, split_row}
+pub use Rattle.cow_fork.specs.Snapshots.{ArePlain, hidden_row, is_taken_in, split_row}
 unfoldable pub use Rattle.cow_fork.specs.Snapshots.{hidden_slots, split_slots}
 pub use Rattle.cow_fork.specs.Zeroing.{HasZeroed, IsNeeded}
 unfoldable pub use Rattle.cow_fork.specs.Zeroing.{shown_from}

@@ -1,5 +1,5 @@
 -- What the rows of a VMO's node say of sides after a snapshot of it.
-use Rattle.std.specs.Prelude.{◌≡◌, ℕ, ◌+◌, ◌<◌, ◌≤◌, Bool, true, false, not, ◌&&◌, ◌==◌, nat_le, nat_lt, if◌then◌else◌, Option, None, Some}
+use Rattle.std.specs.Prelude.{◌≡◌, ℕ, ◌+◌, ◌<◌, Bool, true, false, not, ◌&&◌, ◌==◌, nat_le, nat_lt, if◌then◌else◌, Some}
 use Rattle.std.specs.Option.{option_map}
 use Rattle.vm_base.specs.declared.names.Tag.{Tag}
 use Rattle.page_list.specs.declared.row.Slot.{Slot}
@@ -33,13 +33,3 @@ hidden_slots slots l from end = λ m q. if (m == l) && (nat_le from q && nat_lt 
 pub record ArePlain (slots : Slots) (l count : ℕ) : Type 0 where
   pub plain : (q : ℕ) (tag : Tag) (left right : Bool) → slots l q ≡ Some (slot.Frame tag left right) → (left ≡ false) × (right ≡ false)
   pub below : (q : ℕ) (row : Slot) → slots l q ≡ Some row → q < count
-
--- no page from `from` to below `end` has a row
-abbrev pub HasNoneIn : (ℕ → Option Slot) → (from end : ℕ) → Type 0
-HasNoneIn row from end = (q : ℕ) → from ≤ q → q < end → row q ≡ None
-
--- page p is the first from `from` to below `end` that has a row
-pub record IsFirstIn (row : ℕ → Option Slot) (from end p : ℕ) : Type 0 where
-  pub order : from ≤ p
-  pub below : p < end
-  pub gap : HasNoneIn row from p

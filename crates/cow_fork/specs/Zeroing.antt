@@ -1,5 +1,5 @@
 -- What it is to make pages of a VMO's node zero.
-use Rattle.std.specs.Prelude.{◌≡◌, ◌≢◌, ◌⊎◌, ℕ, ◌+◌, ◌<◌, ◌≤◌, is_some, None, Some, IsSome}
+use Rattle.std.specs.Prelude.{◌≡◌, ◌≢◌, ◌⊎◌, ℕ, ◌+◌, ◌<◌, ◌≤◌, None, Some, IsSome}
 use Rattle.balanced_tree.specs.Rows.{Rows}
 use Rattle.page_list.specs.declared.row.Row.{Row}
 use Rattle.page_list.specs.declared.row.Slot.{Slot}
@@ -9,7 +9,7 @@ use Rattle.vm_base.specs.Search.{count_below}
 use Rattle.frame_pool.specs.Pool.{Pool, taken_frames, is_taken, links_of}
 use Rattle.cow_arena.specs.declared.node.Node.{Node}
 use Rattle.cow_arena.specs.Nodes.{Arena, nodes_of}
-use Rattle.cow_arena.specs.Walk.{Tree, frame_shown, frame_in}
+use Rattle.cow_arena.specs.Walk.{Tree, frame_shown, frame_in, shows_frame}
 use Rattle.cow_arena.specs.Ways.{HadRow}
 use Rattle.cow_split.specs.Trees.{tree_of, with_row}
 use Rattle.cow_split.specs.Sight.{IsPage, ShowsSame}
@@ -22,7 +22,7 @@ IsNeeded arena rows v p = (node : Node) → nodes_of arena v ≡ Some node → s
 
 -- how many of the n pages of node v from page `first` on show a frame
 unfoldable pub shown_from : Tree → (v first n : ℕ) → ℕ
-shown_from t v first n = count_below n (λ k. is_some (frame_shown t v (first + k)))
+shown_from t v first n = count_below n (λ k. shows_frame t v (first + k))
 
 -- Some pages of the visible node v from `first` to below `end` were made zero, and all others show what they showed. Frames that
 -- nobody shows any more are given back.

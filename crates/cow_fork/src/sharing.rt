@@ -1,12 +1,13 @@
 //! What a snapshot does to the tree.
 
-ghost use Rattle.std.specs.Prelude.{◌≡◌, ℕ, ◌+◌, ◌≤◌, ◌<◌, ◌^◌, Bool, IsSome, IsSomeAnd, IfOk, OnErr, IfSome, IfNone};
-ghost use Rattle.page_list.specs.Lists.{slots_of, row_count};
+ghost use Rattle.std.specs.Prelude.{◌≡◌, ℕ, ◌+◌, ◌≤◌, ◌<◌, ◌^◌, Bool, IsSome, IsSomeAnd, IfOk, OnErr};
+ghost use Rattle.vm_base.specs.Search.{IsFirstOrNone};
+ghost use Rattle.page_list.specs.Lists.{slots_of, row_count, has_row};
 ghost use Rattle.cow_arena.specs.Nodes.{nodes_of};
 ghost use Rattle.cow_arena.specs.Counts.{hidden_count, visible_count};
 ghost use Rattle.cow_split.specs.Trees.{tree_of};
 ghost use Rattle.cow_split.specs.Exact.{IsExact, all_in_sight};
-ghost use Rattle.cow_fork.specs.Snapshots.{ArePlain, split_slots, hidden_slots, HasNoneIn, IsFirstIn};
+ghost use Rattle.cow_fork.specs.Snapshots.{ArePlain, split_slots, hidden_slots};
 ghost use Rattle.cow_fork.specs.Sharing.{HasShared};
 
 use cow_arena::{CowArena, NodeId, Pair};
@@ -84,10 +85,9 @@ fn hide_rows(lists: &mut PageLists, list: ListId, from: PageNo, end: PageNo)
     }
 }
 
-/// Returns the first page from `from` to below `end` that has a row.
+/// Returns the first page from `from` to below `end` that has a row. `None` if and only if there is none.
 fn next_below(lists: &PageLists, list: ListId, from: PageNo, end: PageNo) -> Option<PageNo>
-    ensures some { IfSome result (λ page. IsFirstIn (slots_of lists.now list.0) from end page) }
-    ensures none { IfNone result (HasNoneIn (slots_of lists.now list.0) from end) }
+    ensures { IsFirstOrNone (has_row (slots_of lists.now list.0)) from end result }
 {
     if end <= from {
         return None;

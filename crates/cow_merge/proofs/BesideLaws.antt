@@ -1,6 +1,6 @@
 -- The way down from the sibling: whoever it comes to, and what is cut off on the way.
 use Rattle.cow_merge.proofs.Words.{◌≡◌, ◌≢◌, ℕ, ◌+◌, ◌-◌, ◌<◌, ◌≤◌, ◌^◌, Bool, false, Option, None, Some, inl, inr, IsSomeAnd, refl, sym}
-use Rattle.cow_merge.proofs.Words.{ap, subst, ◌∙◌, arith, is_some, cases_eq, cases_lt, Rows, IsNext, Koid, some_same, Row, Slot, slots_of}
+use Rattle.cow_merge.proofs.Words.{ap, subst, ◌∙◌, arith, is_some, cases_eq, cases_lt, Rows, HasNone, IsFirst, has_row, none_is, Koid, some_same, Row, Slot, slots_of}
 use Rattle.cow_merge.proofs.Words.{Pool, is_taken, Node, NodeId, Side, Arena, nodes_of, link_to, other_side, side_of, side_in, child_on}
 use Rattle.cow_merge.proofs.Words.{IsForest, HasPair, Tree, walk, frame_shown, HasRow, Climbs, Reaches, Arrives, IsPartOf, Holder, tree_of}
 use Rattle.cow_merge.proofs.Words.{holder_of, IsPage, IsExact, Way, IsFamilyOf, no_pages, CameTo, IsPassing, IsOnlyWay, HasCutOff}
@@ -84,12 +84,12 @@ beside-bare {arena} {new} {after} {v} {first} {spared} {h} {above} {base} {to} {
 
 module _ {arena : Arena} {mid : Rows Row} (new : Rows Row) {between : Pool} (after : Pool) {v first : ℕ} {spared : Option NodeId} {h : ℕ} {above : Node}
     {base to : ℕ} {s : Side} {way : Way} {upto page : ℕ} (was : IsBeside arena mid between v first spared h above base to s way upto)
-    (from : way.from ≤ upto) (less : page < way.to) (next : IsNext (slots_of mid was.place.node.list.0) upto (Some page)) where
+    (from : way.from ≤ upto) (next : IsFirst (has_row (slots_of mid was.place.node.list.0)) upto way.to page) where
   abbrev own : ℕ
   own = page + way.shift - base
 
   low : first + base ≤ page + way.shift
-  low = let least = next.least page refl in was.place.within.low page (omega (arith, least.0)) less
+  low = was.place.within.low page (omega (arith, next.order)) next.below
 
   -- pages of the leaf but this one belong to no row up to here
   still-free : (q tag : ℕ) → q ≢ own → ComesBeside (tree_of arena mid) v q h above.list.0 base to was.place.e was.place.node was.place.from way upto →
@@ -98,7 +98,7 @@ module _ {arena : Arena} {mid : Rows Row} (new : Rows Row) {between : Pool} (aft
     | inl before ↦ came.free p is start before
     | inr past ↦ elim (cases_eq p page) [
       | inl same ↦ absurd (apart (omega (arith, low)))
-      | inr other ↦ let least = next.least page refl in least.2 p past (omega (arith, other))
+      | inr other ↦ none_is (slots_of mid was.place.node.list.0 p) (next.gap p past (omega (arith, other)))
     ]
   ]
 
@@ -155,7 +155,7 @@ module _ {arena : Arena} {mid : Rows Row} (new : Rows Row) {between : Pool} (aft
 -- no row is left on this node
 pub beside-end : {arena : Arena} {new : Rows Row} {after : Pool} {v first : ℕ} {spared : Option NodeId} {h : ℕ} {above : Node} {base to : ℕ}
     {s : Side} {way : Way} {upto : ℕ} (was : IsBeside arena new after v first spared h above base to s way upto) →
-    ((p : ℕ) → upto ≤ p → p < way.to → slots_of new was.place.node.list.0 p ≡ None) →
+    HasNone (has_row (slots_of new was.place.node.list.0)) upto way.to →
     IsBeside arena new after v first spared h above base to s way way.to
 beside-end {arena} {new} {after} {v} {first} {spared} {h} {above} {base} {to} {s} {way} {upto} was none = record {
   bare = was.bare;
@@ -167,7 +167,10 @@ beside-end {arena} {new} {after} {v} {first} {spared} {h} {above} {base} {to} {s
     | inr it ↦ inr (record {
       came = it.came;
       beside = it.beside;
-      free = λ p is low less. elim (cases_lt p upto) [ inl before ↦ it.free p is low before | inr past ↦ none p past less ];
+      free = λ p is low less. elim (cases_lt p upto) [
+        | inl before ↦ it.free p is low before
+        | inr past ↦ none_is (slots_of new was.place.node.list.0 p) (none p past less)
+      ];
     })
   ];
 }

@@ -1,7 +1,7 @@
 -- The list of a hidden node goes over to one of its children: each page of it is as if its row had moved into the child's list.
 use Rattle.cow_merge.proofs.Words.{◌≡◌, ◌≢◌, ℕ, zero, suc, ◌+◌, ◌-◌, ◌<◌, ◌≤◌, Bool, true, false, if◌then◌else◌, Option, None, Some, IsSome}
 use Rattle.cow_merge.proofs.Words.{◌⊎◌, refl, sym, ap, subst, ◌∙◌, inl, inr, arith, is_some, not, ◌==◌, and_from, ne_eqb, cases_Bool}
-use Rattle.cow_merge.proofs.Words.{cases_eq, cases_lt, with_pair, IsNext, Rows, Koid, Tag, some_same, slots_of, row_count, Row, Slot, Node}
+use Rattle.cow_merge.proofs.Words.{cases_eq, cases_lt, with_pair, HasNone, has_row, IsNext, Rows, Koid, Tag, some_same, slots_of, row_count, Row, Slot, Node}
 use Rattle.cow_merge.proofs.Words.{Side, Arena, nodes_of, other_side, side_of, exchanged, Slots, Tree, tree_with, frame_in, Reaches}
 use Rattle.cow_merge.proofs.Words.{KeepsBelow, IsPartOf, tree_of, with_row, reached_from, without_frame, Pool, taken_frames, is_taken}
 use Rattle.cow_merge.proofs.Words.{links_of, bit_on, AreLinked, GivesBack, HasGiven, Accounts, Moves, IsLifting, IsBefore, AreLifted}
@@ -482,7 +482,7 @@ module _ {arena : Arena} {old new : Rows Row} {before after : Pool} {k h s : ℕ
 
 -- a row of the child is next
 module _ {arena : Arena} {old new : Rows Row} {before after : Pool} {k h s at from : ℕ} (was : IsHandingOver arena old new before after k h s (Some at))
-    (low : from ≤ at) {child : Node} (child_at : nodes_of arena s ≡ Some child) (none : (p : ℕ) → from ≤ p → p < at → slots_of new child.list.0 p ≡ None)
+    (low : from ≤ at) {child : Node} (child_at : nodes_of arena s ≡ Some child) (none : HasNone (has_row (slots_of new child.list.0)) from at)
     {q : ℕ} {row : Slot} (next : IsNext (slots_of new child.list.0) from (Some q)) (has : slots_of new child.list.0 q ≡ Some row) where
   child-is : child ≡ was.of.sibling
   child-is = some_same (sym child_at ∙ was.of.family.sibling_at)
@@ -490,7 +490,7 @@ module _ {arena : Arena} {old new : Rows Row} {before after : Pool} {k h s at fr
   least : at ≤ q
   least = elim (cases_lt q at) [
     | inr past ↦ past
-    | inl less ↦ absurd (let nothing = none q (next.least q refl).0 less in cc)
+    | inl less ↦ absurd (let nothing = none q (next.least q refl).0 less in let some = ap is_some has in cc)
   ]
 
   -- no row of its page has gone over yet

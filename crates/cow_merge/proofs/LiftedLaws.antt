@@ -2,7 +2,7 @@
 -- that comes to a row is left out of sight first, as if it were cut off, and then the row goes or moves.
 use Rattle.cow_merge.proofs.Words.{◌≡◌, ◌≢◌, ◌⊎◌, ℕ, ◌+◌, ◌-◌, ◌*◌, ◌^◌, ◌<◌, ◌≤◌, if◌then◌else◌, Bool, true, false, ◌&&◌, not, Option}
 use Rattle.cow_merge.proofs.Words.{None, Some, IsSome, refl, sym, ap, subst, ◌∙◌, inl, inr, arith, ◌==◌, ◌||◌, cond, is_some, cases_Bool}
-use Rattle.cow_merge.proofs.Words.{cond-true, cond-false, eq-eqb, ne_eqb, cases_lt, cases_eq, and_from, with_pair, IsNext, Rows, passes}
+use Rattle.cow_merge.proofs.Words.{cond-true, cond-false, eq-eqb, ne_eqb, cases_lt, cases_eq, and_from, with_pair, HasNone, has_row, IsNext, Rows, passes}
 use Rattle.cow_merge.proofs.Words.{Tag, some_same, eqb_is, eqb_same, slots_of, row_count, Row, Slot, Node, NodeId, Side, Arena, nodes_of}
 use Rattle.cow_merge.proofs.Words.{IsVisible, AreFamily, link_to, other_side, side_of, side_in, child_on, Slots, Tree, tree_with, Found}
 use Rattle.cow_merge.proofs.Words.{walk, frame_in, frame_shown, IsForest, Climbs, Reaches, IsPartOf, KeepsBelow, Cut, tree_of, with_row}
@@ -60,13 +60,13 @@ pub rows-beside : (old new : Slots) (l m r p : ℕ) (row : Option Slot) → new 
 rows-beside old new l m r p row e apart = ap (λ (x : Slots). x l p) e ∙ with_pair-other old m r row l p (λ list _. apart list)
 
 -- no row is left from `start` to one that was next, and went
-pub passed-more : (old new : ℕ → Option Slot) (start from page : ℕ) → ((p : ℕ) → start ≤ p → p < from → old p ≡ None) → IsNext old from (Some page) →
-    ((p : ℕ) → new p ≡ (if p == page then None else old p)) → (p : ℕ) → start ≤ p → p < page → new p ≡ None
+pub passed-more : (old new : ℕ → Option Slot) (start from page : ℕ) → HasNone (has_row old) start from → IsNext old from (Some page) →
+    ((p : ℕ) → new p ≡ (if p == page then None else old p)) → HasNone (has_row new) start page
 passed-more old new start from page below next gone p least less =
-    gone p ∙ (cond-false _ _ _ (ne_eqb p page (λ same. absurd (omega arith))) ∙ elim (cases_lt p from) [
+    ap is_some (gone p ∙ cond-false _ _ _ (ne_eqb p page (λ same. absurd (omega arith)))) ∙ elim (cases_lt p from) [
       | inl before ↦ below p least before
-      | inr after ↦ (next.least page refl).2 p after less
-    ])
+      | inr after ↦ ap is_some ((next.least page refl).2 p after less)
+    ]
 
 -- no row is below an end that the next one is not below
 pub none-below : (rows : ℕ → Option Slot) (from page : ℕ) (to : Option ℕ) → IsNext rows from (Some page) → ((p : ℕ) → page ≤ p → IsBefore to p → ⊥) →

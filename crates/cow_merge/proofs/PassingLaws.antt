@@ -2,7 +2,7 @@
 -- another.
 use Rattle.cow_merge.proofs.Words.{◌≡◌, ◌≢◌, ◌⊎◌, ℕ, ◌+◌, ◌-◌, ◌<◌, ◌≤◌, min, zero, suc, Bool, true, false, Option, None, Some, inl, inr}
 use Rattle.cow_merge.proofs.Words.{IsSome, IsSomeAnd, refl, sym, ap, subst, ◌∙◌, arith, ◌&&◌, ◌||◌, ◌==◌, nat_le, nat_lt, is_some, IfSome}
-use Rattle.cow_merge.proofs.Words.{IfNone, cases_Bool, cases_eq, cases_lt, and_from, le-leb, lt-ltb, Rows, IsNext, Tag, some_same, eqb_same}
+use Rattle.cow_merge.proofs.Words.{IfNone, cases_Bool, cases_eq, cases_lt, and_from, le-leb, lt-ltb, Rows, HasNone, IsFirst, IsFirstOrNone, has_row, none_is, Tag, some_same, eqb_same}
 use Rattle.cow_merge.proofs.Words.{Row, Slot, slots_of, Pool, is_taken, Node, NodeId, Side, Arena, Nodes, nodes_of, IsVisible, link_to}
 use Rattle.cow_merge.proofs.Words.{Slots, Tree, tree_with, Found, walk, frame_in, frame_found, frame_shown, from_side, IsForest, Climbs}
 use Rattle.cow_merge.proofs.Words.{Arrives, IsPartOf, tree_of, nodes_up, IsPage, Sees, IsExact, IsOnlyOf, all_in_sight, Pages}
@@ -198,47 +198,42 @@ module _ (arena : Arena) (old new : Rows Row) (v : ℕ) (node : Node) (visible :
   spared-stays (Some h) p tag up free showed shows held = held-stays h p tag (up h refl) free showed shows held
 
 -- the next row that does not belong to a page that is passed over
-module _ (slots : ℕ → Option Slot) (from to shift : ℕ) (skip : Pages) (row : ℕ) (next : IsNext slots from (Some row)) where
-  pub outside-next : row < to → IsNextOutside slots from to shift skip row
-  outside-next less =
-      let it = next.least row refl in
-      record { least = it.0; below = less; there = it.1; none = λ q low before apart. it.2 (q + shift) low before }
+module _ (slots : ℕ → Option Slot) (from to shift : ℕ) (skip : Pages) (row : ℕ) (next : IsFirst (has_row slots) from to row) where
+  pub outside-next : IsNextOutside slots from to shift skip row
+  outside-next =
+      record { least = next.order; below = next.below; there = next.hit; none = λ q low before apart. none_is (slots (q + shift)) (next.gap (q + shift) low before) }
 
   -- where the first one does, it is behind these pages
   module _ (past : shift ≤ row) (inside : (skip.from ≤ row - shift) × (row - shift < skip.to)) where
     outside-first : (q : ℕ) → from ≤ q + shift → q < skip.to → IsOutside skip q → slots (q + shift) ≡ None
     outside-first q low less apart = elim apart [
-      | inl before ↦ (next.least row refl).2 (q + shift) low (omega (arith, inside.0))
+      | inl before ↦ none_is (slots (q + shift)) (next.gap (q + shift) low (omega (arith, inside.0)))
       | inr behind ↦ absurd (omega arith)
     ]
 
     pub outside-none : to - shift ≤ skip.to → (q : ℕ) → from ≤ q + shift → q + shift < to → IsOutside skip q → slots (q + shift) ≡ None
     outside-none ends q low less apart = outside-first q low (omega arith) apart
 
-    pub outside-end : ((p : ℕ) → skip.to + shift ≤ p → p < to → slots p ≡ None) →
-        (q : ℕ) → from ≤ q + shift → q + shift < to → IsOutside skip q → slots (q + shift) ≡ None
+    pub outside-end : HasNone (has_row slots) (skip.to + shift) to → (q : ℕ) → from ≤ q + shift → q + shift < to → IsOutside skip q → slots (q + shift) ≡ None
     outside-end none q low less apart = elim (cases_lt q skip.to) [
       | inl before ↦ outside-first q low before apart
-      | inr behind ↦ none (q + shift) (omega arith) less
+      | inr behind ↦ none_is (slots (q + shift)) (none (q + shift) (omega arith) less)
     ]
 
-    pub outside-behind : (answer : Option ℕ) → IfSome answer (λ page. IsNext slots (skip.to + shift) (Some page)) → IfSome answer (λ page. page < to) →
+    pub outside-behind : (answer : Option ℕ) → IsFirstOrNone (has_row slots) (skip.to + shift) to answer →
         IfSome answer (λ page. IsNextOutside slots from to shift skip page)
-    outside-behind None after less = tt
-    outside-behind (Some page) after less =
-        let it = after.least page refl in
-        let first = next.least row refl in
-        record {
-          least = omega (arith, it.0, first.0, inside.1);
-          below = less;
-          there = it.1;
-          none = λ q low before apart. elim (cases_lt q skip.to) [
-            | inl inner ↦ outside-first q low inner apart
-            | inr behind ↦ it.2 (q + shift) (omega arith) before
-          ];
-        }
+    outside-behind None after = tt
+    outside-behind (Some page) after = record {
+      least = omega (arith, after.order, next.order, inside.1);
+      below = after.below;
+      there = after.hit;
+      none = λ q low before apart. elim (cases_lt q skip.to) [
+        | inl inner ↦ outside-first q low inner apart
+        | inr behind ↦ none_is (slots (q + shift)) (after.gap (q + shift) (omega arith) before)
+      ];
+    }
 
-    pub outside-ends : (answer : Option ℕ) → IfNone answer ((p : ℕ) → skip.to + shift ≤ p → p < to → slots p ≡ None) →
+    pub outside-ends : (answer : Option ℕ) → IsFirstOrNone (has_row slots) (skip.to + shift) to answer →
         IfNone answer ((q : ℕ) → from ≤ q + shift → q + shift < to → IsOutside skip q → slots (q + shift) ≡ None)
     outside-ends None none = outside-end none
     outside-ends (Some page) none = tt

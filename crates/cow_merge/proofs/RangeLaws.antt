@@ -2,7 +2,7 @@
 -- How its pages are cut off from the rows of the nodes above is in PassingLaws.
 use Rattle.cow_merge.proofs.Words.{◌≡◌, ◌≢◌, ℕ, ◌<◌, ◌≤◌, Bool, true, false, Option, None, Some, inl, inr, IsSome, IsSomeAnd, refl, sym, ap}
 use Rattle.cow_merge.proofs.Words.{subst, ◌∙◌, arith, ◌&&◌, not, is_some, cases_Bool, cases_eq, cases_lt, eq-eqb, ne_eqb, Rows, with_pair}
-use Rattle.cow_merge.proofs.Words.{IsNext, without_key, Tag, without_key-same, without_key-other, Row, Slot, slots_of, row_count, Pool}
+use Rattle.cow_merge.proofs.Words.{IsNext, none_is, without_key, Tag, without_key-same, without_key-other, Row, Slot, slots_of, row_count, Pool}
 use Rattle.cow_merge.proofs.Words.{taken_frames, links_of, is_taken, Node, Side, Arena, nodes_of, IsVisible, Slots, Tree, frame_in}
 use Rattle.cow_merge.proofs.Words.{frame_shown, IsForest, Climbs, Reaches, Arrives, IsPartOf, Cut, tree_of, IsExact, IsOnlyOf, all_in_sight}
 use Rattle.cow_merge.proofs.Words.{leaving_out, without_frame, cut_slots, frame_left, HasCut, AreLinked, GivesBack, HasGiven, Accounts}
@@ -317,10 +317,10 @@ module _ {arena : Arena} {old : Rows Row} {before : Pool} {v : ℕ} {node : Node
       only = cut-only step past was.only was.within;
       within = cut-within step past was.only was.within;
       visible = was.visible;
-      bare = λ p start to. part-none (slots_of old) (slots_of new) step.part node.list.0 p (elim (cases_lt p end) [
-        | inl before ↦ was.bare p start before
+      bare = λ p start to. ap is_some (part-none (slots_of old) (slots_of new) step.part node.list.0 p (elim (cases_lt p end) [
+        | inl before ↦ none_is (slots_of old node.list.0 p) (was.bare p start before)
         | inr past ↦ (next.least page refl).2 p past to
-      ]);
+      ]));
     }
 
     pub dropping-lost : Moves arena old new before after v first IsPartOf
@@ -331,5 +331,8 @@ pub dropping-end : {arena : Arena} {rows : Rows Row} {pool : Pool} {v : ℕ} {no
 dropping-end {arena} {rows} {pool} {v} {node} {first} {end} was from next = record {
   has = record { out = was.out; exact = was.exact; only = was.only; node = node; visible = was.visible };
   within = was.within;
-  bare = λ p start. elim (cases_lt p end) [ inl before ↦ was.bare p start before | inr past ↦ next.none refl p past ];
+  bare = λ p start. elim (cases_lt p end) [
+    | inl before ↦ none_is (slots_of rows node.list.0 p) (was.bare p start before)
+    | inr past ↦ next.none refl p past
+  ];
 }

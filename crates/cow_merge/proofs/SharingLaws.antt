@@ -1,6 +1,6 @@
 -- Pages of a hidden node to which VMOs come from both of its sides: the way down to such a VMO, and rows that move meanwhile.
 use Rattle.cow_merge.proofs.Words.{◌≡◌, ℕ, ◌+◌, ◌-◌, ◌<◌, ◌≤◌, ◌^◌, true, Option, None, Some, IsSome, refl, sym, ap, subst, ◌∙◌, inl, inr}
-use Rattle.cow_merge.proofs.Words.{arith, is_some, cases_eq, cases_lt, some_same, IsNext, Slot, Node, NodeId, Side, side_in, IsForest}
+use Rattle.cow_merge.proofs.Words.{arith, is_some, cases_eq, cases_lt, some_same, HasNone, IsFirst, has_row, none_is, Slot, Node, NodeId, Side, side_in, IsForest}
 use Rattle.cow_merge.proofs.Words.{IsChild, Slots, Tree, Climbs, Reaches, Arrives, KeepsBelow, viewers_from, reached_from, Pages, Way}
 use Rattle.cow_merge.proofs.Words.{IsEntered, IsReached, AreReached, AreShared, IsDown}
 use Rattle.cow_arena.proofs.ReachLaws.{reach-one, reach-more, reach-each, reach-deeper, arrives-on, side-of-parent}
@@ -102,14 +102,14 @@ module _ (t : Tree) (f : IsForest t.nodes t.lists) (slots : Slots) (parent sibli
       }
 
       -- the next row of the way's node was met, and no row is left where it comes to
-      pub down-row : (page : ℕ) → IsNext (t.slots was.node.list.0) upto (Some page) → slots parent.list.0 (page + way.shift) ≡ None →
+      pub down-row : (page : ℕ) → IsFirst (has_row (t.slots was.node.list.0)) upto way.to page → slots parent.list.0 (page + way.shift) ≡ None →
           IsDown now parent.list.0 s seen from way (page + 1)
       unfolding down-kept
       down-row page next empty = down-with now parent.list.0 s seen from way upto (page + 1) down-kept (λ p low less before some. elim (cases_eq p page) [
         | inl same ↦ absurd (let none = ap is_some (ap (λ x. slots parent.list.0 (x + way.shift)) same ∙ empty) in cc)
         | inr apart ↦ elim (cases_lt p upto) [
           | inl earlier ↦ down-kept.free p low less earlier some
-          | inr past ↦ free-kept p ((next.least page refl).2 p past (omega arith))
+          | inr past ↦ free-kept p (none_is (t.slots was.node.list.0 p) (next.gap p past (omega arith)))
         ]
       ])
 
@@ -121,10 +121,10 @@ side-there t f h k child = let it = side-of-parent t.nodes t.lists f h k child.n
 
 -- no row is left on this node
 pub down-end : (t : Tree) (list s seen : ℕ) (from : Side) (way : Way) (upto : ℕ) (was : IsDown t list s seen from way upto) →
-    ((p : ℕ) → upto ≤ p → p < way.to → t.slots was.node.list.0 p ≡ None) → IsDown t list s seen from way way.to
+    HasNone (has_row (t.slots was.node.list.0)) upto way.to → IsDown t list s seen from way way.to
 down-end t list s seen from way upto was none = down-with t list s seen from way upto way.to was (λ p low less before some. elim (cases_lt p upto) [
   | inl earlier ↦ was.free p low less earlier some
-  | inr past ↦ none p past less
+  | inr past ↦ none_is (t.slots was.node.list.0 p) (none p past less)
 ])
 
 module _ (t : Tree) (f : IsForest t.nodes t.lists) (list s seen : ℕ) (fits : seen < 2 ^ 64) (from : Side) where

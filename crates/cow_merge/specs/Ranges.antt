@@ -1,8 +1,9 @@
 -- A range of pages of one visible node that are left out of sight, and what leaving them out changes.
 use Rattle.std.specs.Prelude.{◌≡◌, ◌⊎◌, ℕ, ◌+◌, ◌<◌, ◌≤◌, Bool, true, false, ◌&&◌, ◌||◌, ◌==◌, nat_le, nat_lt, Option, None, Some, IsSome}
+use Rattle.vm_base.specs.Search.{HasNone}
 use Rattle.balanced_tree.specs.Rows.{Rows}
 use Rattle.page_list.specs.declared.row.Row.{Row}
-use Rattle.page_list.specs.Lists.{slots_of, row_count}
+use Rattle.page_list.specs.Lists.{slots_of, has_row, row_count}
 use Rattle.frame_pool.specs.Pool.{Pool, taken_frames, links_of, is_taken}
 use Rattle.page_list.specs.declared.row.Slot.{Slot}
 use Rattle.page_list.specs.declared.row.Slot.TheVariants as slot
@@ -89,7 +90,7 @@ pub record IsDropping (arena : Arena) (rows : Rows Row) (pool : Pool) (v : ℕ) 
   pub only : IsOnlyOf out v
   pub within : (q : ℕ) → out v q ≡ true → first ≤ q
   pub visible : IsVisible (nodes_of arena) v node
-  pub bare : (p : ℕ) → first ≤ p → p < end → slots_of rows node.list.0 p ≡ None
+  pub bare : HasNone (has_row (slots_of rows node.list.0)) first end
 
 -- the same, with no end
 pub record IsLeftBare (arena : Arena) (rows : Rows Row) (pool : Pool) (v first : ℕ) : Type 0 where

@@ -1,7 +1,7 @@
 //! Leaving a range of pages of a VMO's node out of sight.
 
 ghost use Rattle.std.specs.Prelude.{◌≡◌, ◌≢◌, ◌+◌, ◌^◌, ◌<◌, ◌≤◌, ℕ, Bool, true, Option, None, Some, IsSome, IfSome, IfNone, IsSomeAnd, option_copied};
-ghost use Rattle.page_list.specs.Lists.{slots_of};
+ghost use Rattle.page_list.specs.Lists.{has_row, slots_of};
 ghost use Rattle.frame_pool.specs.Pool.{taken_frames, is_taken};
 ghost use Rattle.vm_base.specs.declared.names.Tag.{Tag};
 ghost use Rattle.cow_arena.specs.declared.node.Node.{Node};
@@ -14,7 +14,7 @@ ghost use Rattle.cow_split.specs.Searching.{ComesTo};
 ghost use Rattle.cow_split.specs.Exact.{IsExact, IsOnlyOf, all_in_sight};
 ghost use Rattle.cow_split.specs.Cutting.{frame_left};
 ghost use Rattle.cow_split.specs.declared.answers.Cut.TheVariants as cut;
-ghost use Rattle.balanced_tree.specs.Pairs.{IsNext};
+ghost use Rattle.vm_base.specs.Search.{IsFirstOrNone};
 ghost use Rattle.cow_jump.specs.Jumps.{MayJump};
 ghost use Rattle.cow_merge.specs.inside.Lifting.{IsFamilyOf};
 ghost use Rattle.cow_merge.specs.Ranges.{IsOutside, no_pages, IsNextOutside, bare_of, is_split, HasGiven, Moves, IsLeftBare, IsPassing, IsOnItsWayUp, IsSparing, IsOnlyWay, HasCutOff, ComesNotTo, IsLeftOut, IsExactFor};
@@ -331,9 +331,7 @@ pub(crate) fn next_below(
     from: PageNo,
     to: PageNo,
 ) -> Option<PageNo>
-    ensures next { IfSome result (λ page. IsNext (slots_of lists.now list.0) from (Some page)) }
-    ensures below { IfSome result (λ page. page < to) }
-    ensures none { IfNone result ((p : ℕ) → from ≤ p → p < to → slots_of lists.now list.0 p ≡ None) }
+    ensures { IsFirstOrNone (has_row (slots_of lists.now list.0)) from to result }
 {
     let page = lists.next(list, from)?;
     if page < to { Some(page) } else { None }

@@ -1,6 +1,6 @@
--- What looking at a page of a VMO's node answers, and which pages a look for the next one passes.
-use Rattle.std.specs.Prelude.{◌≡◌, ◌↔◌, ℕ, ◌-◌, ◌<◌, ◌≤◌, true, Option, None, Some, IsSome}
-use Rattle.std.specs.Option.{option_map, option_or, unwrap_or}
+-- What looking at a page of a VMO's node answers, and which page a look for the next one has found.
+use Rattle.std.specs.Prelude.{◌≡◌, ◌↔◌, ℕ, ◌-◌, true, Option, None, Some}
+use Rattle.std.specs.Option.{option_map, option_or}
 use Rattle.page_store.specs.declared.page_store.Look.{Look}
 use Rattle.page_store.specs.declared.page_store.Look.TheVariants as look
 use Rattle.vm_base.specs.declared.names.Tag.{Tag}
@@ -23,19 +23,6 @@ ShowsFrameOrNone t v p (Some tag) = frame_shown t v p ≡ Some tag.0
 abbrev pub look_in : Slot → Look
 look_in (slot.Frame tag left right) = look.Held tag true
 look_in slot.Zero = look.Zero
-
--- no page of node v from `from` to below `end` shows a frame
-abbrev pub ShowsNoneIn : Tree → (v from end : ℕ) → Type 0
-ShowsNoneIn t v from end = (p : ℕ) → from ≤ p → p < end → frame_shown t v p ≡ None
-
--- no page of node v from `from` on shows a frame
-abbrev pub ShowsNoneFrom : Tree → (v from : ℕ) → Type 0
-ShowsNoneFrom t v from = (p : ℕ) → from ≤ p → frame_shown t v p ≡ None
-
--- the least page from `from` to below `to` that has a row; None if there is none
-pub record IsNextRowBelow (rows : ℕ → Option Slot) (from to : ℕ) (answer : Option ℕ) : Type 0 where
-  pub found : (row : ℕ) → answer ≡ Some row → (from ≤ row) × (row < to) × IsSome (rows row)
-  pub free : (page : ℕ) → from ≤ page → page < unwrap_or answer to → rows page ≡ None
 
 -- the page that comes to this row, which is `shift` pages further on. If there is no row, the best page so far
 abbrev pub nearer_page : (best row : Option ℕ) → (shift : ℕ) → Option ℕ

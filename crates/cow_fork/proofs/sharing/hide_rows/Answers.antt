@@ -4,7 +4,7 @@ use Rattle.cow_fork.proofs.sharing.hide_rows.Goals as goal
 
 pub loop-page-preserved : goal.loop-page-preserved
 loop-page-preserved c =
-    let it = c.in-Some.ensures.some in
+    let it = c.in-Some.ensures in
     record {
       slots =
           ap (λ s. hidden_slots s c.args.list.0 (c.in-Some.page + 1) c.args.end) c.hide_row.ensures.slots
@@ -15,4 +15,4 @@ loop-page-preserved c =
     }
 
 pub returns-clause-slots : goal.returns-clause-slots
-returns-clause-slots c = sym (hidden-none _ _ _ _ c.in_default.ensures.none) ∙ c.loop-page.invariant.slots
+returns-clause-slots c = sym (hidden-none _ _ _ _ c.in_default.ensures) ∙ c.loop-page.invariant.slots

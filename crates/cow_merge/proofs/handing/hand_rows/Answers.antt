@@ -1,5 +1,5 @@
 -- Each row of the child is put into the list of its parent; the pages between have gone over as they are.
-use Rattle.cow_merge.proofs.Words.{◌≡◌, ◌+◌, None, Some, refl, sym, ap, subst, ◌∙◌, arith, Rows, Row, slots_of, frame_there, IsHandingOver}
+use Rattle.cow_merge.proofs.Words.{◌≡◌, ◌+◌, false, is_some, has_row, None, Some, refl, sym, ap, subst, ◌∙◌, arith, Rows, Row, slots_of, frame_there, IsHandingOver}
 use Rattle.cow_merge.proofs.LiftedLaws.{ahead-less}
 use Rattle.cow_merge.proofs.HandLaws.{put-free, put-taken, hand-taken, hand-under, hand-apart, hand-gone, hand-next, over-all}
 use Rattle.cow_merge.proofs.handing.hand_rows.Goals as goal
@@ -50,7 +50,7 @@ loop-page-preserved c =
             c.clear_page.new.lists c.insert.new.self c.clear_page.ensures.slots c.insert.ensures.slots c.clear_page.ensures.given c.note_place.ensures.taken
             c.note_place.ensures.frames c.note_place.ensures.links (omega (arith, c.in-Some.ensures.spare, c.clear_page.ensures.spare, c.insert.ensures.spare))
             (omega (arith, c.in-Some.ensures.count, c.clear_page.ensures.count, c.insert.ensures.count)),
-        λ p from less. subst (λ x. slots_of c.insert.new.self c.node-2.result.list.0 x ≡ None) (omega arith) (gone c),
+        λ p from less. subst (λ x. has_row (slots_of c.insert.new.self c.node-2.result.list.0) x ≡ false) (omega arith) (ap is_some (gone c)),
       );
     }
 

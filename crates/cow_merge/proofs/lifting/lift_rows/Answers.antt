@@ -1,5 +1,5 @@
 -- Each row that was taken out is settled, and the parent's list has lost it.
-use Rattle.cow_merge.proofs.Words.{◌≡◌, None, refl, sym, subst, ◌∙◌, inl, inr, arith, cases_lt, some_same, slots_of, Node}
+use Rattle.cow_merge.proofs.Words.{◌≡◌, None, refl, sym, subst, ◌∙◌, inl, inr, arith, cases_lt, none_is, some_same, slots_of, Node}
 use Rattle.cow_merge.proofs.LiftedLaws.{passed-more, ahead-less, gone-here, family-same, family-then}
 use Rattle.cow_merge.proofs.lifting.lift_rows.Goals as goal
 
@@ -29,6 +29,6 @@ loop-page-preserved c =
 pub returns-clause-empty : goal.returns-clause-empty
 returns-clause-empty c = λ parent at p least less.
     subst (λ (n : Node). slots_of c.loop-page.lists n.list.0 p ≡ None) (some_same (sym c.node-above.ensures ∙ at)) (elim (cases_lt p c.loop-page.at) [
-      | inl before ↦ c.loop-page.invariant.below p least before
+      | inl before ↦ none_is _ (c.loop-page.invariant.below p least before)
       | inr past ↦ c.in_default.ensures.end p past less
     ])
