@@ -12,9 +12,9 @@ use Rattle.vm_model.specs.Space.Readiness.{Ready, keeps_frame, settled, unready,
 use Rattle.ready_pages.specs.declared.change.Change.{Change}
 use Rattle.ready_pages.specs.Changes.{Entries, ChangesRange, Covers, left_ready}
 use Rattle.checker_ready.specs.declared.ready_map.ReadyPage.{ReadyPage}
-use Rattle.checker_ready.specs.Notes.{ReadyRows, ready_in, kept_rows, without_range, limited_rows, is_current, NotesAreTrue}
+use Rattle.checker_ready.specs.Notes.{ReadyRows, ready_in, kept_rows, without_range, limited_rows, is_current, FitsRows, NotesAreTrue}
 use Rattle.checker_ready.proofs.SettledLaws.{ready-settled, true-settled, ready-dropped, true-dropped, ready-limited, true-limited}
-use Rattle.checker_ready.proofs.StayLaws.{FitsRows, rows_stay}
+use Rattle.checker_ready.proofs.StayLaws.{rows_stay}
 
 -- it is the same whether pages of an address space are ready for nothing before or after what shows another frame is
 module _ (c d : Content) (table : Entries) (ready : Ready) (root first end : ℕ) where

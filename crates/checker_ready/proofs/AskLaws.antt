@@ -1,26 +1,26 @@
 -- What refuses an access, and the pages that it finds, by the one or two pages that it touches.
-use Rattle.std.proofs.Common.{◌≡◌, ℕ, zero, suc, ◌+◌, ◌/◌, ◌%◌, ◌≤◌, Bool, true, false, cond, ◌||◌, List, [], ◌∷◌, length, ◌<◌, Option, None, Some, refl, sym, ap, subst, ◌∙◌, inl, inr, arith}
+use Rattle.std.proofs.Common.{◌≡◌, ◌⊎◌, ℕ, zero, suc, ◌+◌, ◌-◌, ◌/◌, ◌%◌, ◌≤◌, Bool, true, false, cond, ◌||◌, List, [], ◌∷◌, length, map, ◌<◌, Option, None, Some, refl, sym, ap, subst, ◌∙◌, inl, inr, arith}
 use Rattle.std.specs.Prelude.{nat_lt, is_some, unwrap_or}
 use Rattle.std.specs.Option.{option_or}
-use Rattle.std.specs.List.{list_any}
+use Rattle.std.specs.List.{list_any, range_with_len}
 use Rattle.std.proofs.lemmas.Bool.{cases_lt, le-ltb, lt-ltb}
 use Rattle.std.proofs.lemmas.List.{length-map}
+use Rattle.std.proofs.lemmas.List.FromFn.{length-range_with_len}
 use Rattle.vm_base.specs.declared.limits.TheConstants.{PAGE}
 use Rattle.vm_base.specs.declared.refusal.Refusal.{Refusal}
 use Rattle.vm_base.specs.declared.refusal.Refusal.TheVariants.{NotFound, NoMemory, OutOfRange}
 use Rattle.vm_model.specs.declared.space.Entry.{Entry}
 use Rattle.vm_model.specs.Contents.Content.{Content, used, sole}
 use Rattle.vm_model.specs.Contents.Owning.{VmoPage, need_from, need_each}
-use Rattle.vm_model.specs.Contents.Writing.{touched}
+use Rattle.vm_model.specs.Contents.Writing.{touched, touched_end}
 use Rattle.vm_model.specs.Space.Rights.{has, reading, writing}
 use Rattle.vm_model.specs.Machine.Access.{refusal_at, access_refusal, entry_at, page_shown, pages_shown}
 use Rattle.vm_model.specs.Machine.Refusals.{read_refusals, write_refusals, first_of}
 use Rattle.vm_model.proofs.ContentLaws.{pages_of-at}
-use Rattle.vm_model.proofs.RangeLaws.{touched-nil}
+use Rattle.vm_model.proofs.RangeLaws.{touched-nil, touched-row}
 use Rattle.vm_model.proofs.TouchedLaws.{touched-one, touched-two}
-use Rattle.checker_ready.specs.declared.finding.Found.{Found}
-use Rattle.checker_ready.specs.declared.finding.Found.TheVariants.{No, One, Two}
-use Rattle.checker_ready.specs.inside.Pages.{IsMappedInside, LieInVmos, FitsPages, FindsOne, FindsTwo, AreTouchedEntries, HasFramesFor, pages_found}
+use Rattle.ready_pages.specs.Changes.{Entries}
+use Rattle.checker_ready.specs.inside.Pages.{AreFrom, IsMappedInside, Touches}
 
 -- ---- a test on one page or two
 
@@ -95,11 +95,19 @@ module _ (c : Content) (entries : ℕ → Option Entry) (ps : List ℕ) where
   write_short : None ≡ access_refusal c writing entries ps → c.frames < need → Some NoMemory ≡ first_of (write_refusals c entries ps)
   write_short none short = write_row true none (lt-ltb c.frames need short)
 
+  -- a write that nothing refuses is refused on no page
   pub write_row_free : None ≡ first_of (write_refusals c entries ps) → access_refusal c writing entries ps ≡ None
   write_row_free none = go (access_refusal c writing entries ps) none where
     go : (o : Option Refusal) → None ≡ cond (is_some o) (Some (unwrap_or o NotFound)) (cond (nat_lt c.frames need) (Some NoMemory) None) → o ≡ None
     go None e = refl
     go (Some refusal) e = absurd cc
+
+  -- and takes no more frames than are free
+  pub write_row_fits : None ≡ first_of (write_refusals c entries ps) → need ≤ c.frames
+  write_row_fits none = elim (cases_lt c.frames need) [
+    | inl short ↦ absurd (let denied = write_row true (sym (write_row_free none)) (lt-ltb c.frames need short) ∙ sym none in cc)
+    | inr enough ↦ enough
+  ]
 
   write_free : None ≡ access_refusal c writing entries ps → need ≤ c.frames → None ≡ first_of (write_refusals c entries ps)
   write_free none enough = write_row false none (le-ltb c.frames need enough)
@@ -146,63 +154,70 @@ access_denied c right entries addr len p refusal start some few is = elim (cases
   | inr one ↦ rw (touches_one addr len p start some (omega (arith, one))) (access_first c right entries p [] refusal (sym is))
 ]
 
-module _ (c : Content) (table : ℕ → ℕ → Option Entry) (root addr len p : ℕ) (start : p ≡ addr / PAGE) where
-  pub finds_one : (entry : Entry) → 0 < len → addr % PAGE + len ≤ PAGE → IsMappedInside c table root p entry → FindsOne c table root addr len entry
-  finds_one entry some fits shows = record {
-    fits = fits;
-    pages = touches_one addr len (addr / PAGE) refl some fits;
-    shows = subst (λ (q : ℕ). IsMappedInside c table root q entry) start shows;
+module _ {A : Type 0} (holds : ℕ → A → Type 0) where
+  -- the pages from the first on are touched
+  pub touches_from : (addr len p : ℕ) (xs : List A) → p ≡ addr / PAGE → touched addr len ≡ range_with_len p (length xs) → AreFrom holds p xs → Touches holds addr len xs
+  touches_from addr len p xs start pages each = record {
+    pages = subst (λ (q : ℕ). touched addr len ≡ range_with_len q (length xs)) start pages;
+    each = subst (λ (q : ℕ). AreFrom holds q xs) start each;
   }
 
-  pub finds_two : (first second : Entry) → PAGE < addr % PAGE + len → len ≤ PAGE → IsMappedInside c table root p first → IsMappedInside c table root (p + 1) second
-      → FindsTwo c table root addr len first second
-  finds_two first second passes few shows then_shows = record {
-    passes = passes;
-    pages = touches_two addr len (addr / PAGE) refl passes few;
-    first_shows = subst (λ (q : ℕ). IsMappedInside c table root q first) start shows;
-    second_shows = subst (λ (q : ℕ). IsMappedInside c table root (q + 1) second) start then_shows;
-  }
+  -- what follows of each
+  pub each_from : (also : ℕ → A → Type 0) → ((p q : ℕ) (x : A) → holds p x → also q x) → (p q : ℕ) (xs : List A) → AreFrom holds p xs → AreFrom also q xs
+  each_from also follows p q [] are = tt
+  each_from also follows p q (x ∷ xs) are = (follows p q x are.0, each_from also follows (p + 1) (q + 1) xs are.1)
 
-shown_one : (entries : ℕ → Option Entry) (p : ℕ) (entry : Entry) → entries p ≡ Some entry → pages_shown entries (p ∷ []) ≡ page_shown entry ∷ []
-unfolding pages_shown entry_at
-shown_one entries p entry is = rw is refl
+  -- the pages of VMOs that are shown
+  pub shown_from : (entries : ℕ → Option Entry) (entry_of : A → Entry) → ((p : ℕ) (x : A) → holds p x → entries p ≡ Some (entry_of x)) → (p : ℕ) (xs : List A) → AreFrom holds p xs
+      → pages_shown entries (range_with_len p (length xs)) ≡ map (λ x. page_shown (entry_of x)) xs
+  unfolding pages_shown entry_at
+  shown_from entries entry_of is p [] are = refl
+  shown_from entries entry_of is p (x ∷ xs) are = rw (is p x are.0) (ap (λ (ws : List VmoPage). page_shown (entry_of x) ∷ ws) (shown_from entries entry_of is (p + 1) xs are.1))
 
-shown_two : (entries : ℕ → Option Entry) (p q : ℕ) (first second : Entry) → entries p ≡ Some first → entries q ≡ Some second
-    → pages_shown entries (p ∷ q ∷ []) ≡ page_shown first ∷ page_shown second ∷ []
-unfolding pages_shown entry_at
-shown_two entries p q first second is then_is = rw (is, then_is) refl
+-- how many pages hold a byte of so many
+touched_size : (addr len : ℕ) → 0 < len → length (touched addr len) ≡ (addr % PAGE + len + (PAGE - 1)) / PAGE
+unfolding touched_end
+touched_size addr len some =
+    ap (λ (ps : List ℕ). length ps) (touched-row addr len some) ∙ (length-range_with_len (addr / PAGE) (touched_end addr len - addr / PAGE) ∙ omega arith)
 
-shown_none : (entries : ℕ → Option Entry) → pages_shown entries [] ≡ []
-unfolding pages_shown
-shown_none entries = refl
+module _ (addr len : ℕ) where
+  size : (n : ℕ) → touched addr len ≡ range_with_len (addr / PAGE) n → ((len ≡ 0) × (n ≡ 0)) ⊎ (n ≡ (addr % PAGE + len + (PAGE - 1)) / PAGE)
+  size n pages =
+      let as_many = ap (λ (ps : List ℕ). length ps) pages ∙ length-range_with_len (addr / PAGE) n in
+      elim (cases_lt 0 len) [
+        | inl some ↦ inr (sym as_many ∙ touched_size addr len some)
+        | inr none ↦
+            let bare : len ≡ 0 = omega (arith, none) in
+            inl (bare, sym as_many ∙ ap (λ (m : ℕ). length (touched addr m)) bare ∙ ap (λ (ps : List ℕ). length ps) (touched-nil addr))
+      ]
 
-module _ (c : Content) (table : ℕ → ℕ → Option Entry) (root addr len : ℕ) where
+  -- where no page is touched, there is no byte
+  pub fits_none : touched addr len ≡ [] → len ≡ 0
+  fits_none pages = elim (size 0 pages) [ inl bare ↦ bare.0 | inr some ↦ omega (arith, some) ]
+
+  -- one page has all bytes
+  pub fits_one : touched addr len ≡ addr / PAGE ∷ [] → addr % PAGE + len ≤ PAGE
+  fits_one pages = elim (size 1 pages) [ inl bare ↦ omega (arith, bare.1) | inr some ↦ omega (arith, some) ]
+
+  -- they pass the end of the first of two pages
+  pub fits_two : touched addr len ≡ addr / PAGE ∷ (addr / PAGE + 1) ∷ [] → PAGE < addr % PAGE + len
+  fits_two pages = elim (size 2 pages) [ inl bare ↦ omega (arith, bare.1) | inr some ↦ omega (arith, some) ]
+
+module _ (c : Content) (table : Entries) (root addr len : ℕ) (found : List Entry) (touches : Touches (IsMappedInside c table root) addr len found) where
   -- the pages that are found are those that are shown
-  pub shown_found : (found : Found) → AreTouchedEntries c table root addr len found → pages_shown (table root) (touched addr len) ≡ pages_found found
-  shown_found No are = rw are.pages (shown_none (table root))
-  shown_found (One entry) are = rw are.pages (shown_one (table root) (addr / PAGE) entry are.shows.is)
-  shown_found (Two first second) are = rw are.pages (shown_two (table root) (addr / PAGE) (addr / PAGE + 1) first second are.first_shows.is are.second_shows.is)
+  shown_found : pages_shown (table root) (touched addr len) ≡ map page_shown found
+  shown_found = rw touches.pages (shown_from (IsMappedInside c table root) (table root) (λ x. x) (λ p x mapped. mapped.is) (addr / PAGE) found touches.each)
 
-  pub found_fits : (found : Found) → AreTouchedEntries c table root addr len found → FitsPages addr len found
-  found_fits No are = tt
-  found_fits (One entry) are = are.fits
-  found_fits (Two first second) are = are.passes
-
-  pub found_inside : (found : Found) → AreTouchedEntries c table root addr len found → LieInVmos c found
-  found_inside No are = tt
-  found_inside (One entry) are = are.shows.below
-  found_inside (Two first second) are = (are.first_shows.below, are.second_shows.below)
-
-  module _ (found : Found) (are : AreTouchedEntries c table root addr len found) (none : None ≡ access_refusal c writing (table root) (touched addr len)) where
+  module _ (none : None ≡ access_refusal c writing (table root) (touched addr len)) where
     -- a write that takes no more frames than are free
-    pub found_free : HasFramesFor c found → None ≡ first_of (write_refusals c (table root) (touched addr len))
-    found_free enough = write_free c (table root) (touched addr len) none (rw (shown_found found are) enough)
+    pub found_free : used c + need_each c (map page_shown found) ≤ c.frames → None ≡ first_of (write_refusals c (table root) (touched addr len))
+    found_free enough = write_free c (table root) (touched addr len) none (rw shown_found enough)
 
     -- a write that takes more
-    pub found_short : c.frames < used c + need_each c (pages_found found) → Some NoMemory ≡ first_of (write_refusals c (table root) (touched addr len))
-    found_short short = write_short c (table root) (touched addr len) none (rw (shown_found found are) short)
+    pub found_short : c.frames < used c + need_each c (map page_shown found) → Some NoMemory ≡ first_of (write_refusals c (table root) (touched addr len))
+    found_short short = write_short c (table root) (touched addr len) none (rw shown_found short)
 
-  -- two frames are enough
-  pub found_two : (found : Found) → AreTouchedEntries c table root addr len found → len ≤ PAGE → (free : ℕ) → 2 ≤ free → free + used c ≡ c.frames → HasFramesFor c found
-  found_two found are few free two all =
-      omega (arith, two, all, need_two c (table root) (touched addr len) (touched_few addr len few), ap (need_each c) (shown_found found are))
+    -- two frames are enough
+    pub found_two : len ≤ PAGE → (free : ℕ) → 2 ≤ free → free + used c ≡ c.frames → None ≡ first_of (write_refusals c (table root) (touched addr len))
+    found_two few free two all = write_free c (table root) (touched addr len) none
+        (omega (arith, two, all, need_two c (table root) (touched addr len) (touched_few addr len few)))

@@ -6,16 +6,11 @@ use Rattle.std.proofs.lemmas.Bool.{and_parts, and_from, ltb-true, lt-ltb}
 use Rattle.vm_model.specs.declared.space.Entry.{Entry}
 use Rattle.vm_model.specs.declared.space.Readiness.{Readiness}
 use Rattle.vm_model.specs.Contents.Content.{Content, pages_of}
-use Rattle.vm_model.specs.Space.Readiness.{Ready, frame_at, is_same_frame, settled, frame_number}
+use Rattle.vm_model.specs.Space.Readiness.{frame_at, is_same_frame, settled, frame_number}
 use Rattle.ready_pages.specs.Changes.{Entries, EntryStays}
 use Rattle.ready_pages.proofs.SettledLaws.{settled-none, settled-stays}
 use Rattle.checker_ready.specs.declared.ready_map.ReadyPage.{ReadyPage}
-use Rattle.checker_ready.specs.Notes.{ReadyRows, ready_in, NotesAreTrue}
-
--- By these notes the pages are ready for this, and they are true.
-pub record FitsRows (d : Content) (after : Entries) (ready : Ready) (left : ReadyRows) : Type 0 where
-  pub are_ready : ready_in left ≡ ready
-  pub notes : NotesAreTrue d after left
+use Rattle.checker_ready.specs.Notes.{ReadyRows, ready_in, FitsRows, NotesAreTrue}
 
 module _ (c d : Content) (before after : Entries) (rows : ReadyRows) (true_rows : NotesAreTrue c before rows) where
   -- a row's page lies in its VMO

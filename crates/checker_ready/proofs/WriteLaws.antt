@@ -1,5 +1,5 @@
 -- What writing through one page of an address space, or through two, gives.
-use Rattle.std.proofs.Common.{◌≡◌, ℕ, ◌+◌, ◌/◌, ◌<◌, ◌≤◌, Bool, true, false, cond, List, [], ◌∷◌, length, None, Some, refl, sym, ap, subst, ◌∙◌, inl, inr, arith}
+use Rattle.std.proofs.Common.{◌≡◌, ℕ, ◌+◌, ◌-◌, ◌/◌, ◌%◌, ◌<◌, ◌≤◌, Bool, true, false, cond, List, [], ◌∷◌, length, map, take, drop, None, Some, refl, sym, ap, subst, ◌∙◌, inl, inr, arith}
 use Rattle.std.proofs.lemmas.Bool.{cases_Bool}
 use Rattle.vm_base.specs.declared.limits.TheConstants.{PAGE}
 use Rattle.vm_base.specs.Entries.{passes}
@@ -7,24 +7,25 @@ use Rattle.vm_base.proofs.EntryLaws.{some_same}
 use Rattle.vm_model.specs.declared.space.Entry.{Entry}
 use Rattle.vm_model.specs.declared.space.Readiness.TheVariants.{Write}
 use Rattle.vm_model.specs.Contents.Content.{Content, used, pages_of, sole, IsGood}
-use Rattle.vm_model.specs.Contents.Owning.{need_each}
+use Rattle.vm_model.specs.Contents.Owning.{VmoPage, need_each}
 use Rattle.vm_model.specs.Contents.Writing.{touched, part_at, part_bytes, WritesPiece}
 use Rattle.vm_model.specs.Space.Readiness.{Ready, frame_at, keeps_frame, settled, with_ready}
-use Rattle.vm_model.specs.Machine.Access.{page_shown, write_fault}
+use Rattle.vm_model.specs.Machine.Access.{page_shown, pages_shown, WritesPage}
 use Rattle.vm_model.specs.Machine.Refusals.{write_refusals, first_of}
 use Rattle.vm_model.proofs.AccessLaws.{frame_at-other, frame_at-sole}
 use Rattle.vm_model.proofs.ContentLaws.{same_page}
+use Rattle.vm_model.proofs.PartLaws.{part_at-first, part_bytes-all, part_bytes-first, part_at-second, part_bytes-second}
 use Rattle.vm_model.proofs.ReadinessLaws.{keeps_frame-from, settled-kept, with_ready-same, with_ready-other}
 use Rattle.vm_model.proofs.WritingLaws.{Written, Written-from_WritesPiece, WritesPiece-keeps}
 use Rattle.pages.specs.Needs.{MayOwn}
 use Rattle.pages.proofs.NeedLaws.{first-free, second-free}
+use Rattle.ready_pages.specs.Access.{WritesReady}
 use Rattle.ready_pages.specs.Changes.{Entries, ChangesRange, AreReadyAt}
 use Rattle.checker_ready.specs.declared.touching.TouchedPage.{TouchedPage}
-use Rattle.checker_ready.specs.declared.touching.TouchedPages.{TouchedPages}
-use Rattle.checker_ready.specs.Notes.{ReadyRows, ready_in, NotesAreTrue, AreGoodNotes}
-use Rattle.checker_ready.specs.inside.Pages.{IsMappedInside, AreTouchedEntries, AreUnready, AreSoleOrUnready, FindsNone, HasFramesFor, LiesInVmo, IsNotedReady, MayWrite, WritesPart, WritesBytes, found_in, is_unready, memory_with}
-use Rattle.checker_ready.proofs.AskLaws.{found_inside, found_fits, write_row_free}
-use Rattle.checker_ready.proofs.FaultLaws.{ready_to_write}
+use Rattle.checker_ready.specs.Notes.{ReadyRows, ready_in, FitsRows, NotesAreTrue, AreGoodNotes}
+use Rattle.checker_ready.specs.inside.Pages.{LiesInVmo, IsTouched, Touches, IsNotedReady, MayWritePage, MayWrite, faults_in, is_unready}
+use Rattle.checker_ready.proofs.AskLaws.{each_from, shown_from, fits_one, write_row_free, write_row_fits}
+use Rattle.checker_ready.proofs.FaultLaws.{fault_to_write, ready_to_write}
 use Rattle.checker_ready.proofs.GoodLaws.{AreReadyAt-written}
 use Rattle.checker_ready.proofs.NoteLaws.{rows_noted}
 use Rattle.checker_ready.proofs.StayLaws.{rows_still}
@@ -38,36 +39,26 @@ ChangesRange-written c d v p written = record {
   below = λ w q apart low. omega (arith, low, written.kept.pages w);
 }
 
-module _ (c d : Content) (table : Entries) (rows : ReadyRows) (root p at : ℕ) (part : List ℕ) (entry : Entry) (good : IsGood c) (are : NotesAreTrue c table rows)
-    (shows : IsMappedInside c table root p entry) (fits : at + length part ≤ PAGE)
-    (writes : WritesPiece c (record { koid = entry.koid.0; page = entry.page; at = at; bytes = part }) d) where
-  page_written : Written c entry.koid.0 entry.page d
-  page_written = Written-from_WritesPiece c (record { koid = entry.koid.0; page = entry.page; at = at; bytes = part }) d good shows.below fits writes
-
-  -- the part of a write, from what is ready then
-  part_from : (later : ReadyRows) → ready_in later ≡ with_ready (settled c d table (ready_in rows)) root p Write → NotesAreTrue d table later
-      → WritesPart table root p at part c rows d later
-  part_from later ready notes = record {
-    writes = λ addr bytes place same. record { entry = entry; is = shows.is; writes = rw (← place, ← same) writes; ready = ready };
-    ready = ready;
-    are_true = notes;
-  }
+module _ (c d : Content) (table : Entries) (rows : ReadyRows) (root p at : ℕ) (part : List ℕ) (page : TouchedPage) (good : IsGood c) (are : NotesAreTrue c table rows)
+    (is : IsTouched Write c table (ready_in rows) root p page) (fits : at + length part ≤ PAGE)
+    (writes : WritesPiece c (record { koid = page.entry.koid.0; page = page.entry.page; at = at; bytes = part }) d) where
+  page_written : Written c page.entry.koid.0 page.entry.page d
+  page_written = Written-from_WritesPiece c (record { koid = page.entry.koid.0; page = page.entry.page; at = at; bytes = part }) d good is.shows.below fits writes
 
   -- a page that was noted
-  pub WritesPart-noted : (later : ReadyRows) → IsNotedReady Write d root p entry rows later → WritesPart table root p at part c rows d later
-  WritesPart-noted later noted =
-      let below : entry.page < pages_of d entry.koid.0 = omega (arith, shows.below, (page_written).kept.pages entry.koid.0) in
-      let fit = rows_noted Write c d table root p entry rows later are shows.is below (ChangesRange-written c d entry.koid.0 entry.page page_written) noted in
-      part_from later fit.are_ready fit.notes
+  pub rows_written : (later : ReadyRows) → IsNotedReady Write d root p page.entry rows later → FitsRows d table (with_ready (settled c d table (ready_in rows)) root p Write) later
+  rows_written later noted =
+      let below : page.entry.page < pages_of d page.entry.koid.0 = omega (arith, is.shows.below, (page_written).kept.pages page.entry.koid.0) in
+      rows_noted Write c d table root p page.entry rows later are is.shows.is below (ChangesRange-written c d page.entry.koid.0 page.entry.page page_written) noted
 
   -- a sole page that was ready for writing
-  pub WritesPart-still : sole c entry.koid.0 entry.page ≡ true → is_unready Write (ready_in rows root p) ≡ false → WritesPart table root p at part c rows d rows
-  WritesPart-still alone ready =
-      let frames = frame_at-sole c d (record { koid = entry.koid.0; page = entry.page; at = at; bytes = part }) writes page_written alone in
+  pub rows_kept : sole c page.entry.koid.0 page.entry.page ≡ true → page.unready ≡ false → FitsRows d table (with_ready (settled c d table (ready_in rows)) root p Write) rows
+  rows_kept alone ready =
+      let frames = frame_at-sole c d (record { koid = page.entry.koid.0; page = page.entry.page; at = at; bytes = part }) writes page_written alone in
       let still = rows_still c d table rows are frames (page_written).kept.pages in
-      let is : settled c d table (ready_in rows) root p ≡ Some Write =
-      ap (λ (r : Ready). r root p) (sym still.are_ready) ∙ ready_to_write (ready_in rows root p) ready in
-      part_from rows (still.are_ready ∙ sym (with_ready-same (settled c d table (ready_in rows)) root p Write is)) still.notes
+      let now : settled c d table (ready_in rows) root p ≡ Some Write =
+      ap (λ (r : Ready). r root p) (sym still.are_ready) ∙ ready_to_write (ready_in rows root p) (sym is.unready ∙ ready) in
+      record { are_ready = still.are_ready ∙ sym (with_ready-same (settled c d table (ready_in rows)) root p Write now); notes = still.notes }
 
 -- ---- two pages
 
@@ -85,19 +76,19 @@ module _ (c : Content) (good : IsGood c) (first second : Entry) (below : LiesInV
     pub good_between : IsGood d
     good_between = (written).kept.good
 
-    pub inside_between : (entry : Entry) → LiesInVmo c entry → LiesInVmo d entry
-    inside_between entry low = omega (arith, low, (written).kept.pages entry.koid.0)
-
     pub own_second : MayOwn d second.koid.0 second.page
     own_second = second-free c first.koid.0 first.page second.koid.0 second.page good below at part d fits wrote enough
 
-    -- a page that is sole stays so
-    pub sole_between : (entry : Entry) → sole c entry.koid.0 entry.page ≡ true → sole d entry.koid.0 entry.page ≡ true
-    sole_between entry alone =
-        (WritesPiece-keeps c (record { koid = first.koid.0; page = first.page; at = at; bytes = part }) d good below fits wrote (λ v q. true)).alone
-        entry.koid.0 entry.page refl alone
+    -- a page that may be written may still be
+    pub may_between : (page : TouchedPage) → MayWritePage c page → MayWritePage d page
+    may_between page may = record {
+      inside = omega (arith, may.inside, (written).kept.pages page.entry.koid.0);
+      alone = λ ready_for.
+          (WritesPiece-keeps c (record { koid = first.koid.0; page = first.page; at = at; bytes = part }) d good below fits wrote (λ v q. true)).alone
+          page.entry.koid.0 page.entry.page refl (may.alone ready_for);
+    }
 
-    -- and keeps its frame
+    -- a page that is sole keeps its frame
     frame_between : (entry : Entry) → sole c entry.koid.0 entry.page ≡ true → frame_at d entry.koid.0 entry.page ≡ frame_at c entry.koid.0 entry.page
     frame_between entry alone = elim (same_page first.koid.0 first.page entry.koid.0 entry.page) [
       | inl here ↦
@@ -107,9 +98,8 @@ module _ (c : Content) (good : IsGood c) (first second : Entry) (below : LiesInV
     ]
 
     -- so another page of the address space is ready for writing as it was, where it shows a sole page if it is
-    module _ (table : Entries) (ready later : Ready) (root p q : ℕ) (page : TouchedPage) (apart : q ≡ p → ⊥) (shows : IsMappedInside c table root q page.entry)
-        (now : later ≡ with_ready (settled c d table ready) root p Write) (alone : page.unready ≡ false → sole c page.entry.koid.0 page.entry.page ≡ true)
-        (was : page.unready ≡ is_unready Write (ready root q)) where
+    module _ (table : Entries) (ready later : Ready) (root p q : ℕ) (page : TouchedPage) (apart : q ≡ p → ⊥) (is : IsTouched Write c table ready root q page)
+        (now : later ≡ with_ready (settled c d table ready) root p Write) (may : MayWritePage c page) where
       later_there : later root q ≡ settled c d table ready root q
       later_there =
           ap (λ (r : Ready). r root q) now ∙ with_ready-other (settled c d table ready) root p Write root q (λ same. apart)
@@ -118,13 +108,16 @@ module _ (c : Content) (good : IsGood c) (first second : Entry) (below : LiesInV
       unfolding settled
       settled_there = refl
 
-      pub unready_between : page.unready ≡ is_unready Write (later root q)
-      unready_between = elim (cases_Bool page.unready) [
-        | inl lacking ↦ lacking ∙ (go (passes (keeps_frame c d) (table root q)) (sym was ∙ lacking) ∙ ap (is_unready Write) (sym settled_there ∙ sym later_there))
-        | inr ready_for ↦
-            let keeps = keeps_frame-from c d page.entry (frame_between page.entry (alone ready_for)) (inside_between page.entry shows.below) in
-            was ∙ ap (is_unready Write) (sym (later_there ∙ settled-kept c d table ready root q page.entry shows.is keeps))
-      ] where
+      pub touched_between : IsTouched Write d table later root q page
+      touched_between = record {
+        shows = record { is = is.shows.is; below = (may_between page may).inside };
+        unready = elim (cases_Bool page.unready) [
+          | inl lacking ↦ lacking ∙ (go (passes (keeps_frame c d) (table root q)) (sym is.unready ∙ lacking) ∙ ap (is_unready Write) (sym settled_there ∙ sym later_there))
+          | inr ready_for ↦
+              let keeps = keeps_frame-from c d page.entry (frame_between page.entry (may.alone ready_for)) (may_between page may).inside in
+              is.unready ∙ ap (is_unready Write) (sym (later_there ∙ settled-kept c d table ready root q page.entry is.shows.is keeps))
+        ];
+      } where
         go : (b : Bool) → is_unready Write (ready root q) ≡ true → true ≡ is_unready Write (cond b (ready root q) None)
         go true e = sym e
         go false e = refl
@@ -132,62 +125,120 @@ module _ (c : Content) (good : IsGood c) (first second : Entry) (below : LiesInV
 -- ---- all bytes
 
 module _ (table : Entries) (c : Content) (rows : ReadyRows) (root addr : ℕ) (bytes : List ℕ) where
-  module _ (p at : ℕ) (part : List ℕ) (faults : ℕ) (d : Content) (mid : ReadyRows) (wrote : WritesPart table root p at part c rows d mid)
-      (count : faults ≡ write_fault (ready_in rows root p)) (place : at ≡ part_at addr p) (same : part ≡ part_bytes addr bytes p) where
-    -- one page
-    pub WritesBytes-one : touched addr (length bytes) ≡ p ∷ [] → WritesBytes table root addr bytes c rows faults d mid
-    WritesBytes-one one = record { writes = rw one (memory_with d mid, 0, wrote.writes addr bytes place same, (refl, refl), omega (arith, count)); are_true = wrote.are_true }
+  -- what a write to these pages gives
+  abbrev pub WritesTo : List TouchedPage → Content → ReadyRows → Type 0
+  WritesTo xs d later = WritesReady c table root addr bytes (ready_in rows) (faults_in xs) d (ready_in later) × NotesAreTrue d table later
 
-    -- two pages
-    pub WritesBytes-two : (then_at : ℕ) (then_part : List ℕ) (more : ℕ) (e : Content) (later : ReadyRows) → WritesPart table root (p + 1) then_at then_part d mid e later
-        → more ≡ write_fault (ready_in mid root (p + 1)) → then_at ≡ part_at addr (p + 1) → then_part ≡ part_bytes addr bytes (p + 1)
-        → touched addr (length bytes) ≡ p ∷ (p + 1) ∷ [] → WritesBytes table root addr bytes c rows (faults + more) e later
-    WritesBytes-two then_at then_part more e later then_wrote then_count then_place then_same two = record {
-      writes = rw two (
-        memory_with d mid,
-        more,
-        wrote.writes addr bytes place same,
-        (memory_with e later, 0, then_wrote.writes addr bytes then_place then_same, (refl, refl), omega (arith, then_count)),
-        omega (arith, count),
-      );
-      are_true = then_wrote.are_true;
-    }
+  -- no page
+  pub writes_none : first_of (write_refusals c (table root) (touched addr (length bytes))) ≡ None → NotesAreTrue c table rows
+      → Touches (IsTouched Write c table (ready_in rows) root) addr (length bytes) [] → WritesTo [] c rows
+  writes_none free are touches = (record { free = free; writes = rw touches.pages (refl, refl) }, are)
+
+  -- the part of the write that falls into a page
+  part_written : (d : Content) (mid : ReadyRows) (p at : ℕ) (part : List ℕ) (page : TouchedPage) → IsTouched Write c table (ready_in rows) root p page
+      → WritesPiece c (record { koid = page.entry.koid.0; page = page.entry.page; at = at; bytes = part }) d → ready_in mid ≡ with_ready (settled c d table (ready_in rows)) root p Write
+      → at ≡ part_at addr p → part ≡ part_bytes addr bytes p
+      → WritesPage table root addr bytes p (record { content = c; ready = ready_in rows }) (record { content = d; ready = ready_in mid })
+  part_written d mid p at part page is wrote ready place same = record { entry = page.entry; is = is.shows.is; writes = rw (← place, ← same) wrote; ready = ready }
+
+  -- one page
+  pub writes_one : (d : Content) (mid : ReadyRows) (p at : ℕ) (page : TouchedPage) → p ≡ addr / PAGE → at ≡ addr % PAGE
+      → first_of (write_refusals c (table root) (touched addr (length bytes))) ≡ None → Touches (IsTouched Write c table (ready_in rows) root) addr (length bytes) (page ∷ [])
+      → WritesPiece c (record { koid = page.entry.koid.0; page = page.entry.page; at = at; bytes = bytes }) d
+      → (IsTouched Write c table (ready_in rows) root p page → FitsRows d table (with_ready (settled c d table (ready_in rows)) root p Write) mid) → WritesTo (page ∷ []) d mid
+  writes_one d mid p at page start place free touches wrote fits =
+      let is = subst (λ (q : ℕ). IsTouched Write c table (ready_in rows) root q page) (sym start) touches.each.0 in
+      let one : touched addr (length bytes) ≡ p ∷ [] = touches.pages ∙ ap (λ (q : ℕ). q ∷ []) (sym start) in
+      let all : bytes ≡ part_bytes addr bytes p = rw start (part_bytes-all addr bytes (fits_one addr (length bytes) touches.pages)) in (
+        record {
+          free = free;
+          writes = rw one (
+            record { content = d; ready = ready_in mid },
+            0,
+            part_written d mid p at bytes page is wrote (fits is).are_ready (rw start (place ∙ part_at-first addr)) all,
+            (refl, refl),
+            omega (arith, fault_to_write page (ready_in rows root p) is.unready),
+          );
+        },
+        (fits is).notes,
+      )
+
+-- two pages
+module _ (table : Entries) (c : Content) (rows : ReadyRows) (root addr : ℕ) (bytes : List ℕ) (p at : ℕ) (first second : TouchedPage) (front : List ℕ) (d : Content) (mid : ReadyRows)
+    (may : MayWrite c addr (length bytes) (first ∷ second ∷ [])) (start : p ≡ addr / PAGE) (place : at ≡ addr % PAGE) (here : front ≡ take (PAGE - at) bytes) (range : at + length front ≤ PAGE)
+    (wrote : WritesPiece c (record { koid = first.entry.koid.0; page = first.entry.page; at = at; bytes = front }) d) where
+  pub writes_two : (behind : List ℕ) (e : Content) (later : ReadyRows) → length bytes ≤ PAGE → behind ≡ drop (PAGE - at) bytes
+      → first_of (write_refusals c (table root) (touched addr (length bytes))) ≡ None → Touches (IsTouched Write c table (ready_in rows) root) addr (length bytes) (first ∷ second ∷ [])
+      → WritesPiece d (record { koid = second.entry.koid.0; page = second.entry.page; at = 0; bytes = behind }) e
+      → (IsTouched Write c table (ready_in rows) root p first → FitsRows d table (with_ready (settled c d table (ready_in rows)) root p Write) mid)
+      → (NotesAreTrue d table mid → IsTouched Write d table (ready_in mid) root (p + 1) second → FitsRows e table (with_ready (settled d e table (ready_in mid)) root (p + 1) Write) later)
+      → WritesTo table c rows root addr bytes (first ∷ second ∷ []) e later
+  writes_two behind e later few there free touches then_wrote fits then_fits =
+      let is = subst (λ (q : ℕ). IsTouched Write c table (ready_in rows) root q first) (sym start) touches.each.0 in
+      let was = subst (λ (q : ℕ). IsTouched Write c table (ready_in rows) root (q + 1) second) (sym start) touches.each.1.0 in
+      let then_is = touched_between c may.good first.entry second.entry may.touches.each.0.inside may.frames at front d range wrote table (ready_in rows) (ready_in mid) root p (p + 1) second
+      (λ same. omega (arith, same)) was (fits is).are_ready may.touches.each.1.0 in
+      let rest = then_fits (fits is).notes then_is in
+      let two : touched addr (length bytes) ≡ p ∷ (p + 1) ∷ [] = touches.pages ∙ ap (λ (q : ℕ). q ∷ (q + 1) ∷ []) (sym start) in (
+        record {
+          free = free;
+          writes = rw two (
+            record { content = d; ready = ready_in mid },
+            faults_in (second ∷ []),
+            part_written table c rows root addr bytes d mid p at front first is wrote (fits is).are_ready (rw start (place ∙ part_at-first addr)) (rw start (here ∙ part_bytes-first addr at bytes place)),
+            (
+              record { content = e; ready = ready_in later },
+              0,
+              part_written table d mid root addr bytes e later (p + 1) 0 behind second then_is then_wrote rest.are_ready (rw start (part_at-second addr)) (rw start (there ∙ part_bytes-second addr at bytes place few)),
+              (refl, refl),
+              omega (arith, fault_to_write second (ready_in mid root (p + 1)) then_is.unready),
+            ),
+            omega (arith, fault_to_write first (ready_in rows root p) is.unready),
+          );
+        },
+        rest.notes,
+      )
+
+-- the same of a content and of rows that are the same
+pub writes_same : (table : Entries) (now c : Content) (rows old : ReadyRows) (root addr : ℕ) (bytes : List ℕ) (xs : List TouchedPage) (d : Content) (later : ReadyRows) → now ≡ c → rows ≡ old
+    → (first_of (write_refusals now (table root) (touched addr (length bytes))) ≡ None → NotesAreTrue now table rows → Touches (IsTouched Write now table (ready_in rows) root) addr (length bytes) xs
+    → WritesTo table now rows root addr bytes xs d later)
+    → first_of (write_refusals c (table root) (touched addr (length bytes))) ≡ None → NotesAreTrue c table old → Touches (IsTouched Write c table (ready_in old) root) addr (length bytes) xs
+    → WritesTo table c old root addr bytes xs d later
+writes_same table now c rows old root addr bytes xs d later same kept law free are touches = rw (← same, ← kept) (law (rw same free) (rw (same, kept) are) (rw (same, kept) touches))
 
 -- ---- a write that nothing refuses
 
 -- a page that is ready for writing shows a sole page
-sole_there : (c : Content) (table : Entries) (ready : Ready) (root p : ℕ) (page : TouchedPage) → AreReadyAt c table ready → IsMappedInside c table root p page.entry
-    → page.unready ≡ is_unready Write (ready root p) → page.unready ≡ false → sole c page.entry.koid.0 page.entry.page ≡ true
-sole_there c table ready root p page are shows is ready_for =
-    let at = are root p Write (ready_to_write (ready root p) (sym is ∙ ready_for)) in
-    let same : at.entry ≡ page.entry = some_same (sym at.is ∙ shows.is) in
-    subst (λ (entry : Entry). sole c entry.koid.0 entry.page ≡ true) same (at.alone refl)
-
-all_sole : (c : Content) (table : Entries) (ready : Ready) (root addr len : ℕ) (pages : TouchedPages) → AreReadyAt c table ready
-    → AreTouchedEntries c table root addr len (found_in pages) → AreUnready Write (ready root) (addr / PAGE) pages → AreSoleOrUnready c pages
-all_sole c table ready root addr len TouchedPages.No are finds unready = tt
-all_sole c table ready root addr len (TouchedPages.One page) are finds unready = sole_there c table ready root (addr / PAGE) page are finds.shows unready
-all_sole c table ready root addr len (TouchedPages.Two first second) are finds unready = (
-  sole_there c table ready root (addr / PAGE) first are finds.first_shows unready.0,
-  sole_there c table ready root (addr / PAGE + 1) second are finds.second_shows unready.1,
-)
+may_there : (c : Content) (table : Entries) (ready : Ready) (root p : ℕ) (page : TouchedPage) → AreReadyAt c table ready → IsTouched Write c table ready root p page → MayWritePage c page
+may_there c table ready root p page are is = record {
+  inside = is.shows.below;
+  alone = λ ready_for.
+      let at = are root p Write (ready_to_write (ready root p) (sym is.unready ∙ ready_for)) in
+      let same : at.entry ≡ page.entry = some_same (sym at.is ∙ is.shows.is) in
+      subst (λ (entry : Entry). sole c entry.koid.0 entry.page ≡ true) same (at.alone refl);
+}
 
 -- what is found may be written
-pub MayWrite-found : (c d : Content) (table : Entries) (rows : ReadyRows) (root addr len : ℕ) (pages : TouchedPages) → d ≡ c → IsGood c → AreGoodNotes c table rows
-    → AreTouchedEntries c table root addr len (found_in pages) → HasFramesFor c (found_in pages) → AreUnready Write (ready_in rows root) (addr / PAGE) pages
-    → MayWrite d addr len pages
-MayWrite-found c d table rows root addr len pages same good notes finds frames unready = rw same (record {
+pub MayWrite-found : (c d : Content) (table : Entries) (rows : ReadyRows) (root addr len : ℕ) (pages : List TouchedPage) → d ≡ c → IsGood c → AreGoodNotes c table rows
+    → None ≡ first_of (write_refusals c (table root) (touched addr len)) → Touches (IsTouched Write c table (ready_in rows) root) addr len pages → MayWrite d addr len pages
+MayWrite-found c d table rows root addr len pages same good notes free touches = rw same (record {
   good = good;
-  fits = found_fits c table root addr len (found_in pages) finds;
-  inside = found_inside c table root addr len (found_in pages) finds;
-  frames = frames;
-  alone = all_sole c table (ready_in rows) root addr len pages notes.ready finds unready;
+  touches = record {
+    pages = touches.pages;
+    each = each_from (IsTouched Write c table (ready_in rows) root) (λ p. MayWritePage c) (λ p q page is. may_there c table (ready_in rows) root p page notes.ready is) (addr / PAGE) (addr / PAGE) pages touches.each;
+  };
+  frames =
+      let shown : pages_shown (table root) (touched addr len) ≡ map (λ page. page_shown page.entry) pages =
+      ap (pages_shown (table root)) touches.pages
+      ∙ shown_from (IsTouched Write c table (ready_in rows) root) (table root) (λ page. page.entry) (λ p page is. is.shows.is) (addr / PAGE) pages touches.each in
+      subst (λ (ws : List VmoPage). used c + need_each c ws ≤ c.frames) shown (write_row_fits c (table root) (touched addr len) free);
 })
 
 -- the write leaves good notes
 pub AreGoodNotes-written : (c d : Content) (table : Entries) (root addr : ℕ) (bytes : List ℕ) (rows later : ReadyRows) (faults : ℕ) → IsGood c → AreGoodNotes c table rows
-    → None ≡ first_of (write_refusals c (table root) (touched addr (length bytes))) → WritesBytes table root addr bytes c rows faults d later → AreGoodNotes d table later
-AreGoodNotes-written c d table root addr bytes rows later faults good notes free wrote = record {
-  true_rows = wrote.are_true;
-  ready = AreReadyAt-written c d table root addr bytes (ready_in rows) (ready_in later) faults good notes.ready (write_row_free c (table root) (touched addr (length bytes)) free) wrote.writes;
+    → WritesReady c table root addr bytes (ready_in rows) faults d (ready_in later) → NotesAreTrue d table later → AreGoodNotes d table later
+AreGoodNotes-written c d table root addr bytes rows later faults good notes wrote are = record {
+  true_rows = are;
+  ready = AreReadyAt-written c d table root addr bytes (ready_in rows) (ready_in later) faults good notes.ready (write_row_free c (table root) (touched addr (length bytes)) (sym wrote.free)) wrote.writes;
 }

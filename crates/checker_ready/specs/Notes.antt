@@ -167,6 +167,11 @@ pub record NotesAreTrue (c : Content) (table : ℕ → ℕ → Option Entry) (ro
   pub entry : (root p : ℕ) (row : ReadyPage) → rows root p ≡ Some row → (entry : Entry) × (table root p ≡ Some entry) × (entry.koid.0 ≡ row.koid.0) × (entry.page ≡ row.page)
   pub current : (root p : ℕ) (row : ReadyPage) → rows root p ≡ Some row → has_frame c row.koid.0 row.page row.frame ≡ true
 
+-- by these notes the pages are ready for this, and they are true
+pub record FitsRows (c : Content) (table : Entries) (ready : Ready) (rows : ReadyRows) : Type 0 where
+  pub are_ready : ready_in rows ≡ ready
+  pub notes : NotesAreTrue c table rows
+
 -- The notes are true, and what they say is ready may be accessed so: a page that is ready for writing shows a page that is sole.
 pub record AreGoodNotes (c : Content) (table : Entries) (rows : ReadyRows) : Type 0 where
   pub true_rows : NotesAreTrue c table rows

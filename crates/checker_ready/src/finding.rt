@@ -1,6 +1,6 @@
 //! What an access finds: the entries of the pages that it touches, or what refuses it. Nothing changes.
 
-ghost use Rattle.std.specs.Prelude.{◌≡◌, ◌≤◌, None, Some, MatchResult, ⊤};
+ghost use Rattle.std.specs.Prelude.{◌≡◌, ◌≤◌, None, Some, MatchResult};
 ghost use Rattle.vm_base.specs.declared.limits.TheConstants.{DATA_BYTES};
 ghost use Rattle.vm_model.specs.Contents.Writing.{touched};
 ghost use Rattle.vm_model.specs.Machine.Access.{refusal_at, access_refusal};
@@ -8,31 +8,24 @@ ghost use Rattle.vm_model.specs.Machine.Refusals.{read_refusals, write_refusals,
 ghost use Rattle.mapping_set.specs.Tables.{table_of};
 ghost use Rattle.mapping_set.specs.Backed.{AreBacked};
 ghost use Rattle.checker_pages.specs.Eager.{eager_content};
-ghost use Rattle.checker_ready.specs.inside.Pages.{IsMappedInside, HasFramesFor, FindsTouched};
+ghost use Rattle.checker_ready.specs.inside.Pages.{IsMappedInside, FindsTouched};
 
 use crate::needing::frames_to_own;
+use crate::touching::Touched;
 use bitflags::Flags;
 use checker_pages::CheckerPages;
 use mapping_set::MappingSet;
 use vm_base::{PAGE, PageNo, Perm, Refusal, RegionName, in_page, page_of};
 use vm_model::Entry;
 
-/// The pages that an access touches, by their entries, in the order of the addresses.
-#[derive(Clone, Copy)]
-pub(crate) enum Found {
-    No,
-    One(Entry),
-    Two(Entry, Entry),
-}
-
-/// Finds the pages that a read of `len` bytes touches, or what refuses it on them.
+/// Finds the entries of the pages that a read of `len` bytes touches, or what refuses it on them.
 pub(crate) fn find_readable(
     pages: &CheckerPages,
     maps: &MappingSet,
     region: RegionName,
     addr: u64,
     len: u64,
-) -> Result<Found, Refusal>
+) -> Result<Touched<Entry>, Refusal>
     requires backed { AreBacked (eager_content pages.now) (table_of maps.now) }
     requires len { len ≤ DATA_BYTES }
     ensures { FindsTouched (eager_content pages.now) (table_of maps.now) region.0 addr len
@@ -41,20 +34,19 @@ pub(crate) fn find_readable(
     find(pages, maps, region, addr, len, Perm::READ)
 }
 
-/// Finds the pages that a write of `len` bytes touches, or what refuses it on them. They are two at most, so the frames that
-/// it takes are counted only if fewer than two are free.
+/// Finds the entries of the pages that a write of `len` bytes touches, or what refuses it on them. They are two at most, so the
+/// frames that it takes are counted only if fewer than two are free.
 pub(crate) fn find_writable(
     pages: &CheckerPages,
     maps: &MappingSet,
     region: RegionName,
     addr: u64,
     len: u64,
-) -> Result<Found, Refusal>
+) -> Result<Touched<Entry>, Refusal>
     requires backed { AreBacked (eager_content pages.now) (table_of maps.now) }
     requires len { len ≤ DATA_BYTES }
-    ensures finds { FindsTouched (eager_content pages.now) (table_of maps.now) region.0 addr len
+    ensures { FindsTouched (eager_content pages.now) (table_of maps.now) region.0 addr len
         (first_of (write_refusals (eager_content pages.now) (table_of maps.now region.0) (touched addr len))) result }
-    ensures frames { MatchResult result (λ found. HasFramesFor (eager_content pages.now) found) (λ refusal. ⊤) }
 {
     let found = match find(pages, maps, region, addr, len, Perm::WRITE) {
         Ok(found) => found,
@@ -70,8 +62,8 @@ pub(crate) fn find_writable(
     Ok(found)
 }
 
-// Finds the pages that an access to `len` bytes touches, or what refuses it. It needs this right. The first page on which it
-// is refused decides.
+// Finds the entries of the pages that an access to `len` bytes touches, or what refuses it. It needs this right. The first
+// page on which it is refused decides.
 fn find(
     pages: &CheckerPages,
     maps: &MappingSet,
@@ -79,14 +71,14 @@ fn find(
     addr: u64,
     len: u64,
     right: Perm,
-) -> Result<Found, Refusal>
+) -> Result<Touched<Entry>, Refusal>
     requires backed { AreBacked (eager_content pages.now) (table_of maps.now) }
     requires len { len ≤ DATA_BYTES }
     ensures { FindsTouched (eager_content pages.now) (table_of maps.now) region.0 addr len
         (access_refusal (eager_content pages.now) right.0 (table_of maps.now region.0) (touched addr len)) result }
 {
     if len == 0 {
-        return Ok(Found::No);
+        return Ok(Touched::No);
     }
     let page = page_of(addr);
     let first = match find_page(pages, maps, region, page, right) {
@@ -94,10 +86,10 @@ fn find(
         Err(refusal) => return Err(refusal),
     };
     if in_page(addr) + len <= PAGE {
-        return Ok(Found::One(first));
+        return Ok(Touched::One(first));
     }
     match find_page(pages, maps, region, page + 1, right) {
-        Ok(second) => Ok(Found::Two(first, second)),
+        Ok(second) => Ok(Touched::Two(first, second)),
         Err(refusal) => Err(refusal),
     }
 }

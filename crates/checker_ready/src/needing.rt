@@ -1,27 +1,27 @@
 //! How many frames a write takes (copy on write).
 
-ghost use Rattle.std.specs.Prelude.{◌≡◌, ℕ, ◌+◌, ◌<◌, ◌≤◌, ◌&&◌, ◌==◌, true, false, [], ◌∷◌};
+ghost use Rattle.std.specs.Prelude.{◌≡◌, ℕ, ◌+◌, ◌<◌, ◌≤◌, ◌&&◌, ◌==◌, true, false, [], ◌∷◌, map};
 ghost use Rattle.vm_model.specs.Contents.Content.{pages_of, sole, IsGood};
 ghost use Rattle.vm_model.specs.Contents.Owning.{need_each};
 ghost use Rattle.vm_model.specs.Machine.Access.{page_shown};
 ghost use Rattle.vm_model.specs.Space.Readiness.{frame_at};
 ghost use Rattle.checker_pages.specs.Eager.{eager_content};
-ghost use Rattle.checker_ready.specs.inside.Pages.{LiesInVmo, LieInVmos, pages_found, need_after, HaveOneFrame};
+ghost use Rattle.checker_ready.specs.inside.Pages.{AreFrom, LiesInVmo, list_of, need_after, HaveOneFrame};
 
-use crate::finding::Found;
+use crate::touching::Touched;
 use checker_pages::CheckerPages;
 use vm_model::Entry;
 
 /// Returns the number of frames that it takes to own the pages that a write touches, one after another.
-pub(crate) fn frames_to_own(pages: &CheckerPages, found: Found) -> u64
+pub(crate) fn frames_to_own(pages: &CheckerPages, found: Touched<Entry>) -> u64
     requires good { IsGood (eager_content pages.now) }
-    requires inside { LieInVmos (eager_content pages.now) found }
-    ensures { result ≡ need_each (eager_content pages.now) (pages_found found) }
+    requires inside { AreFrom (λ p. LiesInVmo (eager_content pages.now)) 0 (list_of found) }
+    ensures { result ≡ need_each (eager_content pages.now) (map page_shown (list_of found)) }
 {
     match found {
-        Found::No => 0,
-        Found::One(entry) => frames_for_one(pages, entry),
-        Found::Two(first, second) => frames_for_two(pages, first, second),
+        Touched::No => 0,
+        Touched::One(entry) => frames_for_one(pages, entry),
+        Touched::Two(first, second) => frames_for_two(pages, first, second),
     }
 }
 

@@ -1,21 +1,25 @@
 //! Reading through mappings.
 
-ghost use Rattle.std.specs.Prelude.{◌≡◌, ℕ, ◌+◌, ◌/◌, ◌≤◌, length, Option, MatchResult};
+ghost use Rattle.std.specs.Prelude.{◌≡◌, ℕ, ◌+◌, ◌/◌, ◌≤◌, [], ◌∷◌, length, take, drop, Option, None, MatchResult};
+ghost use Rattle.std.specs.List.{range_with_len};
 ghost use Rattle.vm_base.specs.declared.limits.TheConstants.{DATA_BYTES, PAGE};
-ghost use Rattle.vm_model.specs.declared.space.Entry.{Entry};
 ghost use Rattle.vm_model.specs.declared.space.Readiness.TheVariants as Readiness;
-ghost use Rattle.vm_model.specs.Contents.Content.{IsGood};
+ghost use Rattle.vm_model.specs.Contents.Content.{shown, IsGood};
+ghost use Rattle.vm_model.specs.Contents.Writing.{touched};
+ghost use Rattle.vm_model.specs.Machine.Access.{after_reading};
+ghost use Rattle.vm_model.specs.Machine.Refusals.{read_refusals, first_of};
 ghost use Rattle.mapping_set.specs.Tables.{table_of};
 ghost use Rattle.mapping_set.specs.Backed.{AreBacked};
 ghost use Rattle.ready_pages.specs.Access.{DeniesRead, ReadsReady};
+ghost use Rattle.ready_pages.specs.Changes.{Entries};
 ghost use Rattle.checker_pages.specs.Eager.{eager_content};
-ghost use Rattle.checker_ready.specs.Notes.{rows_of, ready_in, notes_spare, NotesAreTrue, AreGoodNotes};
-ghost use Rattle.checker_ready.specs.inside.Pages.{IsMappedInside, AreTouchedEntries, AreUnready, FitsPages, ReadsBytes, ReadsBytesOfPage, found_in, faults_in, page_faults, is_unready};
+ghost use Rattle.checker_ready.specs.Notes.{rows_of, ready_in, notes_spare, FitsRows, NotesAreTrue, AreGoodNotes};
+ghost use Rattle.checker_ready.specs.inside.Pages.{IsTouched, Touches, faults_in, list_of};
 
 use crate::finding::find_readable;
 use crate::places::{PagePlace, Place};
 use crate::ready_map::{ReadyMap, ReadyPage};
-use crate::touching::{TouchedPage, TouchedPages, touch};
+use crate::touching::{Touched, TouchedPage, touch};
 use checker_pages::CheckerPages;
 use mapping_set::MappingSet;
 use vm_base::{PAGE, Refusal, in_page, page_of};
@@ -47,41 +51,45 @@ pub(crate) fn read<'a>(
         Ok(found) => found,
         Err(refusal) => return Err(refusal),
     };
-    let touched = touch(ready, place, found, Readiness::Read);
-    let faults = touched.faults();
+    let accessed = touch(ready, place, found, Readiness::Read);
+    let faults = accessed.faults();
     let Ok(()) = ready.reserve(faults) else {
         return Err(Refusal::HostMemory);
     };
     let out = &mut room[..len as usize];
-    read_touched(pages, ready, place, touched, out);
+    read_touched(pages, ready, place, accessed, out);
     Ok((faults, LentBytes::new(out)))
 }
 
-// Reads bytes of the pages that an access from a place on touches. There is room for a note for each page fault.
+// Reads bytes of the pages that an access from a place on touches, and which nothing refuses to read. There is room for a note
+// for each page fault.
 fn read_touched(
     pages: &CheckerPages,
     ready: &mut ReadyMap,
     place: Place,
-    touched: TouchedPages,
+    accessed: Touched<TouchedPage>,
     out: &mut [u8],
 )
-    requires fits { FitsPages place.addr (length out.old) (found_in touched) }
+    requires fits { touched place.addr (length out.old) ≡ range_with_len (place.addr / PAGE) (length (list_of accessed)) }
     requires len { length out.old ≤ DATA_BYTES }
-    requires room { faults_in touched ≤ notes_spare ready.old }
-    ensures reads { (table : ℕ → ℕ → Option Entry) → IsGood (eager_content pages.now)
+    requires room { faults_in (list_of accessed) ≤ notes_spare ready.old }
+    ensures reads { (table : Entries) → IsGood (eager_content pages.now)
+        → first_of (read_refusals (eager_content pages.now) (table place.root.0) (touched place.addr (length out.old))) ≡ None
         → NotesAreTrue (eager_content pages.now) table (rows_of ready.old)
-        → AreTouchedEntries (eager_content pages.now) table place.root.0 place.addr (length out.old) (found_in touched)
-        → AreUnready Readiness.Read (ready_in (rows_of ready.old) place.root.0) (place.addr / PAGE) touched
-        → ReadsBytes (eager_content pages.now) table place.root.0 place.addr (length out.old) (rows_of ready.old) out.new (rows_of ready.new) }
+        → Touches (IsTouched Readiness.Read (eager_content pages.now) table (ready_in (rows_of ready.old)) place.root.0)
+        place.addr (length out.old) (list_of accessed)
+        → ReadsReady (eager_content pages.now) table place.root.0 place.addr (length out.old)
+        (ready_in (rows_of ready.old)) (faults_in (list_of accessed)) out.new (ready_in (rows_of ready.new))
+        × NotesAreTrue (eager_content pages.now) table (rows_of ready.new) }
 {
     let root = place.root;
     let page = page_of(place.addr);
     let at = in_page(place.addr);
     let begin = PagePlace { root, page, at };
-    match touched {
-        TouchedPages::No => {}
-        TouchedPages::One(only) => read_page(pages, ready, begin, only, out),
-        TouchedPages::Two(first, second) => {
+    match accessed {
+        Touched::No => {}
+        Touched::One(only) => read_page(pages, ready, begin, only, out),
+        Touched::Two(first, second) => {
             let then = PagePlace {
                 root,
                 page: page + 1,
@@ -100,21 +108,22 @@ fn read_page(
     pages: &CheckerPages,
     ready: &mut ReadyMap,
     place: PagePlace,
-    touched: TouchedPage,
+    page: TouchedPage,
     out: &mut [u8],
 )
     requires range { place.at + length out.old ≤ PAGE }
-    requires room { page_faults touched ≤ notes_spare ready.old }
-    ensures reads { (table : ℕ → ℕ → Option Entry) → NotesAreTrue (eager_content pages.now) table (rows_of ready.old)
-        → IsMappedInside (eager_content pages.now) table place.root.0 place.page touched.entry
-        → touched.unready ≡ is_unready Readiness.Read (ready_in (rows_of ready.old) place.root.0 place.page)
-        → ReadsBytesOfPage (eager_content pages.now) table place.root.0 place.page place.at (length out.old)
-        (rows_of ready.old) out.new (rows_of ready.new) }
-    ensures room { notes_spare ready.old ≤ notes_spare ready.new + page_faults touched }
+    requires room { faults_in (page ∷ []) ≤ notes_spare ready.old }
+    ensures bytes { out.new
+        ≡ take (length out.old) (drop place.at (shown (eager_content pages.now) page.entry.koid.0 page.entry.page)) }
+    ensures rows { (table : Entries) → NotesAreTrue (eager_content pages.now) table (rows_of ready.old)
+        → IsTouched Readiness.Read (eager_content pages.now) table (ready_in (rows_of ready.old)) place.root.0 place.page page
+        → FitsRows (eager_content pages.now) table
+        (after_reading place.root.0 (place.page ∷ []) (ready_in (rows_of ready.old))) (rows_of ready.new) }
+    ensures room { notes_spare ready.old ≤ notes_spare ready.new + faults_in (page ∷ []) }
 {
-    let entry = touched.entry;
+    let entry = page.entry;
     pages.read(entry.koid, entry.page, place.at, out);
-    if touched.unready {
+    if page.unready {
         let row = ReadyPage {
             koid: entry.koid,
             page: entry.page,

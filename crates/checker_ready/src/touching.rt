@@ -1,15 +1,23 @@
 //! The pages that an access touches, and where it takes page faults. Nothing changes.
 
-ghost use Rattle.std.specs.Prelude.{◌≡◌, ◌/◌, ◌≤◌};
-ghost use Rattle.vm_base.specs.declared.limits.TheConstants.{PAGE};
+ghost use Rattle.std.specs.Prelude.{◌≡◌, ℕ, ◌≤◌, [], ◌∷◌};
+ghost use Rattle.vm_model.specs.Contents.Content.{Content};
+ghost use Rattle.ready_pages.specs.Changes.{Entries};
 ghost use Rattle.checker_ready.specs.Notes.{rows_of, ready_in};
-ghost use Rattle.checker_ready.specs.inside.Pages.{is_unready, found_in, page_faults, faults_in, AreUnready};
+ghost use Rattle.checker_ready.specs.inside.Pages.{IsMappedInside, IsTouched, Touches, faults_in, is_unready, list_of};
 
-use crate::finding::Found;
 use crate::places::Place;
 use crate::ready_map::ReadyMap;
 use vm_base::{PageNo, RegionName, page_of};
 use vm_model::{Entry, Readiness};
+
+/// The pages that an access touches, with this of each, in the order of the addresses.
+#[derive(Clone, Copy)]
+pub(crate) enum Touched<T> {
+    No,
+    One(T),
+    Two(T, T),
+}
 
 /// A page that an access touches.
 #[derive(Clone, Copy)]
@@ -22,50 +30,48 @@ pub(crate) struct TouchedPage {
 impl TouchedPage {
     /// Returns how many page faults the access takes on the page.
     pub fn faults(&self) -> u64
-        ensures faults { result ≡ page_faults self.now }
+        ensures faults { result ≡ faults_in (self.now ∷ []) }
         ensures few { result ≤ 1 }
     {
         if self.unready { 1 } else { 0 }
     }
 }
 
-/// The pages that an access touches, in the order of the addresses.
-#[derive(Clone, Copy)]
-pub(crate) enum TouchedPages {
-    No,
-    One(TouchedPage),
-    Two(TouchedPage, TouchedPage),
-}
-
-impl TouchedPages {
+impl Touched<TouchedPage> {
     /// Returns how many page faults the access takes.
     pub fn faults(&self) -> u64
-        ensures faults { result ≡ faults_in self.now }
+        ensures faults { result ≡ faults_in (list_of self.now) }
         ensures few { result ≤ 2 }
     {
         match self {
-            TouchedPages::No => 0,
-            TouchedPages::One(page) => page.faults(),
-            TouchedPages::Two(first, second) => first.faults() + second.faults(),
+            Touched::No => 0,
+            Touched::One(page) => page.faults(),
+            Touched::Two(first, second) => first.faults() + second.faults(),
         }
     }
 }
 
-/// Looks at what the pages that were found are ready for, once for each page. They are those that an access from a place on
-/// touches, and it needs this readiness.
-pub(crate) fn touch(ready: &ReadyMap, place: Place, found: Found, wanted: Readiness) -> TouchedPages
-    ensures found { found_in result ≡ found }
-    ensures unready { AreUnready wanted (ready_in (rows_of ready.now) place.root.0) (place.addr / PAGE) result }
+/// Looks at what the pages whose entries were found are ready for, once for each page. They are those that an access from a
+/// place on touches, and it needs this readiness.
+pub(crate) fn touch(
+    ready: &ReadyMap,
+    place: Place,
+    found: Touched<Entry>,
+    wanted: Readiness,
+) -> Touched<TouchedPage>
+    ensures { (c : Content) (table : Entries) (len : ℕ)
+        → Touches (IsMappedInside c table place.root.0) place.addr len (list_of found)
+        → Touches (IsTouched wanted c table (ready_in (rows_of ready.now)) place.root.0) place.addr len (list_of result) }
 {
     let root = place.root;
     let page = page_of(place.addr);
     match found {
-        Found::No => TouchedPages::No,
-        Found::One(entry) => TouchedPages::One(TouchedPage {
+        Touched::No => Touched::No,
+        Touched::One(entry) => Touched::One(TouchedPage {
             entry,
             unready: is_unready(ready, root, page, wanted),
         }),
-        Found::Two(first, second) => TouchedPages::Two(
+        Touched::Two(first, second) => Touched::Two(
             TouchedPage {
                 entry: first,
                 unready: is_unready(ready, root, page, wanted),

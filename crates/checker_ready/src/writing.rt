@@ -1,24 +1,25 @@
 //! Writing through mappings.
 
-ghost use Rattle.std.specs.Prelude.{◌≡◌, ℕ, ◌+◌, ◌/◌, ◌%◌, ◌<◌, ◌≤◌, true, false, length, Option, MatchResult, OnOk, OnErr};
+ghost use Rattle.std.specs.Prelude.{◌≡◌, ℕ, ◌+◌, ◌≤◌, [], ◌∷◌, length, Option, None, MatchResult, OnOk, OnErr};
 ghost use Rattle.vm_base.specs.declared.limits.TheConstants.{DATA_BYTES, PAGE};
-ghost use Rattle.vm_model.specs.declared.space.Entry.{Entry};
 ghost use Rattle.vm_model.specs.declared.space.Readiness.TheVariants as Readiness;
-ghost use Rattle.vm_model.specs.Contents.Content.{IsGood, sole};
-ghost use Rattle.vm_model.specs.Contents.Writing.{WritesPiece};
+ghost use Rattle.vm_model.specs.Contents.Content.{IsGood};
+ghost use Rattle.vm_model.specs.Contents.Writing.{WritesPiece, touched};
+ghost use Rattle.vm_model.specs.Machine.Refusals.{write_refusals, first_of};
+ghost use Rattle.vm_model.specs.Space.Readiness.{settled, with_ready};
 ghost use Rattle.pages.specs.Needs.{MayOwn};
 ghost use Rattle.mapping_set.specs.Tables.{table_of};
 ghost use Rattle.mapping_set.specs.Backed.{AreBacked};
 ghost use Rattle.ready_pages.specs.Access.{DeniesWrite, WritesReady};
+ghost use Rattle.ready_pages.specs.Changes.{Entries};
 ghost use Rattle.checker_pages.specs.Eager.{eager_content, eager_spare};
-ghost use Rattle.checker_ready.specs.declared.touching.TouchedPages.{TouchedPages};
-ghost use Rattle.checker_ready.specs.Notes.{rows_of, ready_in, notes_spare, NotesAreTrue, AreGoodNotes};
-ghost use Rattle.checker_ready.specs.inside.Pages.{IsMappedInside, AreTouchedEntries, AreUnready, LiesInVmo, MayWrite, WritesBytes, WritesPart, found_in, faults_in, page_faults, is_unready};
+ghost use Rattle.checker_ready.specs.Notes.{rows_of, ready_in, notes_spare, FitsRows, NotesAreTrue, AreGoodNotes};
+ghost use Rattle.checker_ready.specs.inside.Pages.{IsTouched, Touches, MayWrite, MayWritePage, faults_in, list_of};
 
 use crate::finding::find_writable;
 use crate::places::{PagePlace, Place};
 use crate::ready_map::{ReadyMap, ReadyPage};
-use crate::touching::{TouchedPage, TouchedPages, touch};
+use crate::touching::{Touched, TouchedPage, touch};
 use checker_pages::CheckerPages;
 use mapping_set::MappingSet;
 use vm_base::{HostMemory, PAGE, Refusal, in_page, page_of};
@@ -49,12 +50,12 @@ pub(crate) fn write(
         Ok(found) => found,
         Err(refusal) => return Err(refusal),
     };
-    let touched = touch(ready, place, found, Readiness::Write);
-    let faults = touched.faults();
+    let accessed = touch(ready, place, found, Readiness::Write);
+    let faults = accessed.faults();
     let Ok(()) = make_room(pages, ready, faults) else {
         return Err(Refusal::HostMemory);
     };
-    write_touched(pages, ready, place, touched, bytes);
+    write_touched(pages, ready, place, accessed, bytes);
     Ok(faults)
 }
 
@@ -78,72 +79,46 @@ fn make_room(pages: &mut CheckerPages, ready: &mut ReadyMap, faults: u64) -> Res
     Ok(())
 }
 
-// Writes bytes to the pages that an access from a place on touches. There is room for the page faults.
+// Writes bytes to the pages that an access from a place on touches, and which nothing refuses to write. There is room for the page
+// faults.
 fn write_touched(
     pages: &mut CheckerPages,
     ready: &mut ReadyMap,
     place: Place,
-    touched: TouchedPages,
+    accessed: Touched<TouchedPage>,
     bytes: &[u8],
 )
-    requires may { MayWrite (eager_content pages.old) place.addr (length bytes.now) touched }
+    requires may { MayWrite (eager_content pages.old) place.addr (length bytes.now) (list_of accessed) }
     requires len { length bytes.now ≤ DATA_BYTES }
-    requires room { 1 ≤ faults_in touched → 2 ≤ eager_spare pages.old }
-    requires notes { faults_in touched ≤ notes_spare ready.old }
-    ensures writes { (table : ℕ → ℕ → Option Entry) → NotesAreTrue (eager_content pages.old) table (rows_of ready.old)
-        → AreTouchedEntries (eager_content pages.old) table place.root.0 place.addr (length bytes.now) (found_in touched)
-        → AreUnready Readiness.Write (ready_in (rows_of ready.old) place.root.0) (place.addr / PAGE) touched
-        → WritesBytes table place.root.0 place.addr bytes.now (eager_content pages.old) (rows_of ready.old) (faults_in touched)
-        (eager_content pages.new) (rows_of ready.new) }
-{
-    match touched {
-        TouchedPages::No => {}
-        TouchedPages::One(only) => {
-            let begin = PagePlace {
-                root: place.root,
-                page: page_of(place.addr),
-                at: in_page(place.addr),
-            };
-            write_page(pages, ready, begin, only, bytes);
-        }
-        TouchedPages::Two(first, second) => {
-            write_in_two(pages, ready, place, first, second, bytes);
-        }
-    }
-}
-
-// Writes bytes that fall into two pages, one behind the other. There is room for the page faults.
-fn write_in_two(
-    pages: &mut CheckerPages,
-    ready: &mut ReadyMap,
-    place: Place,
-    first: TouchedPage,
-    second: TouchedPage,
-    bytes: &[u8],
-)
-    requires may { MayWrite (eager_content pages.old) place.addr (length bytes.now) (TouchedPages.Two first second) }
-    requires len { length bytes.now ≤ DATA_BYTES }
-    requires room { 1 ≤ page_faults first + page_faults second → 2 ≤ eager_spare pages.old }
-    requires notes { page_faults first + page_faults second ≤ notes_spare ready.old }
-    ensures writes { (table : ℕ → ℕ → Option Entry) → NotesAreTrue (eager_content pages.old) table (rows_of ready.old)
-        → AreTouchedEntries (eager_content pages.old) table place.root.0 place.addr (length bytes.now)
-        (found_in (TouchedPages.Two first second))
-        → AreUnready Readiness.Write (ready_in (rows_of ready.old) place.root.0) (place.addr / PAGE) (TouchedPages.Two first second)
-        → WritesBytes table place.root.0 place.addr bytes.now (eager_content pages.old) (rows_of ready.old)
-        (page_faults first + page_faults second) (eager_content pages.new) (rows_of ready.new) }
+    requires room { 1 ≤ faults_in (list_of accessed) → 2 ≤ eager_spare pages.old }
+    requires notes { faults_in (list_of accessed) ≤ notes_spare ready.old }
+    ensures writes { (table : Entries)
+        → first_of (write_refusals (eager_content pages.old) (table place.root.0) (touched place.addr (length bytes.now))) ≡ None
+        → NotesAreTrue (eager_content pages.old) table (rows_of ready.old)
+        → Touches (IsTouched Readiness.Write (eager_content pages.old) table (ready_in (rows_of ready.old)) place.root.0)
+        place.addr (length bytes.now) (list_of accessed)
+        → WritesReady (eager_content pages.old) table place.root.0 place.addr bytes.now
+        (ready_in (rows_of ready.old)) (faults_in (list_of accessed)) (eager_content pages.new) (ready_in (rows_of ready.new))
+        × NotesAreTrue (eager_content pages.new) table (rows_of ready.new) }
 {
     let root = place.root;
     let page = page_of(place.addr);
     let at = in_page(place.addr);
-    let (here, behind) = bytes.split_at((PAGE - at) as usize);
     let begin = PagePlace { root, page, at };
-    let then = PagePlace {
-        root,
-        page: page + 1,
-        at: 0,
-    };
-    write_page(pages, ready, begin, first, here);
-    write_page(pages, ready, then, second, behind);
+    match accessed {
+        Touched::No => {}
+        Touched::One(only) => write_page(pages, ready, begin, only, bytes),
+        Touched::Two(first, second) => {
+            let then = PagePlace {
+                root,
+                page: page + 1,
+                at: 0,
+            };
+            let (here, behind) = bytes.split_at((PAGE - at) as usize);
+            write_page(pages, ready, begin, first, here);
+            write_page(pages, ready, then, second, behind);
+        }
+    }
 }
 
 // Writes bytes to a page from a place in it on. If the page is not ready for writing, there is room for a page fault, and it
@@ -152,29 +127,28 @@ fn write_page(
     pages: &mut CheckerPages,
     ready: &mut ReadyMap,
     place: PagePlace,
-    touched: TouchedPage,
+    page: TouchedPage,
     bytes: &[u8],
 )
     requires good { IsGood (eager_content pages.old) }
-    requires inside { LiesInVmo (eager_content pages.old) touched.entry }
-    requires own { MayOwn (eager_content pages.old) touched.entry.koid.0 touched.entry.page }
-    requires alone { touched.unready ≡ false → sole (eager_content pages.old) touched.entry.koid.0 touched.entry.page ≡ true }
+    requires may { MayWritePage (eager_content pages.old) page }
+    requires own { MayOwn (eager_content pages.old) page.entry.koid.0 page.entry.page }
     requires range { place.at + length bytes.now ≤ PAGE }
-    requires room { page_faults touched ≤ eager_spare pages.old }
-    requires notes { page_faults touched ≤ notes_spare ready.old }
+    requires room { faults_in (page ∷ []) ≤ eager_spare pages.old }
+    requires notes { faults_in (page ∷ []) ≤ notes_spare ready.old }
     ensures piece { WritesPiece (eager_content pages.old)
-        (record { koid = touched.entry.koid.0; page = touched.entry.page; at = place.at; bytes = bytes.now }) (eager_content pages.new) }
-    ensures writes { (table : ℕ → ℕ → Option Entry) → NotesAreTrue (eager_content pages.old) table (rows_of ready.old)
-        → IsMappedInside (eager_content pages.old) table place.root.0 place.page touched.entry
-        → touched.unready ≡ is_unready Readiness.Write (ready_in (rows_of ready.old) place.root.0 place.page)
-        → WritesPart table place.root.0 place.page place.at bytes.now (eager_content pages.old)
-        (rows_of ready.old) (eager_content pages.new) (rows_of ready.new) }
+        (record { koid = page.entry.koid.0; page = page.entry.page; at = place.at; bytes = bytes.now }) (eager_content pages.new) }
+    ensures rows { (table : Entries) → NotesAreTrue (eager_content pages.old) table (rows_of ready.old)
+        → IsTouched Readiness.Write (eager_content pages.old) table (ready_in (rows_of ready.old)) place.root.0 place.page page
+        → FitsRows (eager_content pages.new) table
+        (with_ready (settled (eager_content pages.old) (eager_content pages.new) table (ready_in (rows_of ready.old)))
+        place.root.0 place.page Readiness.Write) (rows_of ready.new) }
     ensures room { eager_spare pages.old ≤ eager_spare pages.new + 1 }
-    ensures notes { notes_spare ready.old ≤ notes_spare ready.new + page_faults touched }
+    ensures notes { notes_spare ready.old ≤ notes_spare ready.new + faults_in (page ∷ []) }
 {
-    let entry = touched.entry;
+    let entry = page.entry;
     pages.write(entry.koid, entry.page, place.at, bytes);
-    if touched.unready {
+    if page.unready {
         let row = ReadyPage {
             koid: entry.koid,
             page: entry.page,

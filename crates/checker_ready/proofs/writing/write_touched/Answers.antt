@@ -1,31 +1,73 @@
-use Rattle.std.proofs.Common.{ℕ, ◌/◌, length, sym, ap, subst, ◌∙◌}
-use Rattle.vm_base.specs.declared.limits.TheConstants.{PAGE}
-use Rattle.vm_model.specs.declared.space.Readiness.TheVariants.{Write}
-use Rattle.vm_model.proofs.PartLaws.{part_at-first, part_bytes-all}
+use Rattle.std.proofs.Common.{length, arith}
 use Rattle.checker_pages.specs.Eager.{eager_content}
-use Rattle.checker_ready.specs.declared.touching.TouchedPages.{TouchedPages}
-use Rattle.checker_ready.specs.Notes.{rows_of, ready_in}
-use Rattle.checker_ready.specs.inside.Pages.{IsMappedInside, AreTouchedEntries, AreUnready, HasFramesFor, is_unready, found_in}
-use Rattle.checker_ready.proofs.FaultLaws.{fault_to_write}
+use Rattle.checker_ready.specs.Notes.{rows_of}
+use Rattle.checker_ready.proofs.AskLaws.{fits_one, fits_two}
 use Rattle.checker_ready.proofs.NeedLaws.{may_own}
-use Rattle.checker_ready.proofs.WriteLaws.{WritesBytes-one}
+use Rattle.checker_ready.proofs.WriteLaws.{own_first, own_second, good_between, may_between, writes_none, writes_one, writes_two}
 use Rattle.checker_ready.proofs.writing.write_touched.Goals as goal
+
+pub returns-in-No : goal.returns-in-No
+returns-in-No c = record {
+  writes = λ table free are touches. rw c.in-No.is
+      (writes_none table (eager_content c.args.pages.now) (rows_of c.args.ready.now) c.args.place.root.0 c.args.place.addr c.args.bytes.now free are (rw c.in-No.is at touches));
+}
+
+pub write_page-requires-clause-may : goal.write_page-requires-clause-may
+write_page-requires-clause-may c = let may = rw c.in-One.is at c.requires.may in may.touches.each.0
 
 pub write_page-requires-clause-own : goal.write_page-requires-clause-own
 write_page-requires-clause-own c =
-    may_own (eager_content c.args.pages.now) c.in-One.only.entry.koid.0 c.in-One.only.entry.page
-    (subst (λ (x : TouchedPages). HasFramesFor (eager_content c.args.pages.now) (found_in x)) c.in-One.is c.requires.may.frames)
+    let may = rw c.in-One.is at c.requires.may in
+    may_own (eager_content c.args.pages.now) c.in-One.only.entry.koid.0 c.in-One.only.entry.page may.frames
+
+pub write_page-requires-clause-range : goal.write_page-requires-clause-range
+write_page-requires-clause-range c =
+    let may = rw c.in-One.is at c.requires.may in omega (arith, c.in_page-at.ensures, fits_one c.args.place.addr (length c.args.bytes.now) may.touches.pages)
 
 pub returns-in-One : goal.returns-in-One
 returns-in-One c = record {
-  writes = λ table are finds unready.
-      let one = subst (λ (x : TouchedPages). AreTouchedEntries (eager_content c.args.pages.now) table c.args.place.root.0 c.args.place.addr (length c.args.bytes.now) (found_in x)) c.in-One.is finds in
-      let lacking =
-      subst (AreUnready Write (ready_in (rows_of c.args.ready.now) c.args.place.root.0) (c.args.place.addr / PAGE)) c.in-One.is unready
-      ∙ ap (λ (p : ℕ). is_unready Write (ready_in (rows_of c.args.ready.now) c.args.place.root.0 p)) (sym c.page_of.ensures) in
-      let writes = c.write_page.ensures.writes table are
-      (subst (λ (p : ℕ). IsMappedInside (eager_content c.args.pages.now) table c.args.place.root.0 p c.in-One.only.entry) (sym c.page_of.ensures) one.shows) lacking in
-      rw c.in-One.is (WritesBytes-one table (eager_content c.args.pages.now) (rows_of c.args.ready.now) c.args.place.root.0 c.args.place.addr c.args.bytes.now c.page_of.result c.in_page.result
-      c.args.bytes.now _ _ _ writes (fault_to_write c.in-One.only _ lacking) (rw c.page_of.ensures (c.in_page.ensures ∙ part_at-first c.args.place.addr))
-      (rw c.page_of.ensures (part_bytes-all c.args.place.addr c.args.bytes.now one.fits)) (rw c.page_of.ensures one.pages));
+  writes = λ table free are touches. rw c.in-One.is
+      (writes_one table (eager_content c.args.pages.now) (rows_of c.args.ready.now) c.args.place.root.0 c.args.place.addr c.args.bytes.now (eager_content c.write_page.new.pages)
+      (rows_of c.write_page.new.ready) c.page_of-page.result c.in_page-at.result c.in-One.only c.page_of-page.ensures c.in_page-at.ensures free (rw c.in-One.is at touches)
+      c.write_page.ensures.piece (c.write_page.ensures.rows table are));
+}
+
+pub split_at-requires : goal.split_at-requires
+split_at-requires c =
+    let may = rw c.in-Two.is at c.requires.may in omega (arith, c.in_page-at.ensures, fits_two c.args.place.addr (length c.args.bytes.now) may.touches.pages)
+
+pub write_page-requires-in-Two-clause-own : goal.write_page-requires-in-Two-clause-own
+write_page-requires-in-Two-clause-own c =
+    let may = rw c.in-Two.is at c.requires.may in
+    own_first (eager_content c.args.pages.now) may.good c.in-Two.first.entry c.in-Two.second.entry may.touches.each.0.inside may.frames
+
+pub write_page-requires-in-Two-2-clause-good : goal.write_page-requires-in-Two-2-clause-good
+write_page-requires-in-Two-2-clause-good c =
+    let may = rw c.in-Two.is at c.requires.may in
+    good_between (eager_content c.args.pages.now) may.good c.in-Two.first.entry c.in-Two.second.entry may.touches.each.0.inside may.frames _ _ _
+    (omega (arith, c.in_page-at.ensures, c.split_at.ensures.front_len)) c.write_page-in-Two.ensures.piece
+
+pub write_page-requires-in-Two-2-clause-may : goal.write_page-requires-in-Two-2-clause-may
+write_page-requires-in-Two-2-clause-may c =
+    let may = rw c.in-Two.is at c.requires.may in
+    may_between (eager_content c.args.pages.now) may.good c.in-Two.first.entry c.in-Two.second.entry may.touches.each.0.inside may.frames _ _ _
+    (omega (arith, c.in_page-at.ensures, c.split_at.ensures.front_len)) c.write_page-in-Two.ensures.piece c.in-Two.second may.touches.each.1.0
+
+pub write_page-requires-in-Two-2-clause-own : goal.write_page-requires-in-Two-2-clause-own
+write_page-requires-in-Two-2-clause-own c =
+    let may = rw c.in-Two.is at c.requires.may in
+    own_second (eager_content c.args.pages.now) may.good c.in-Two.first.entry c.in-Two.second.entry may.touches.each.0.inside may.frames _ _ _
+    (omega (arith, c.in_page-at.ensures, c.split_at.ensures.front_len)) c.write_page-in-Two.ensures.piece
+
+pub returns-in-Two : goal.returns-in-Two
+returns-in-Two c = record {
+  writes = λ table free are touches.
+      let parts = c.split_at.ensures in
+      let may = rw c.in-Two.is at c.requires.may in
+      rw c.in-Two.is
+      (writes_two table (eager_content c.args.pages.now) (rows_of c.args.ready.now) c.args.place.root.0 c.args.place.addr c.args.bytes.now c.page_of-page.result c.in_page-at.result
+      c.in-Two.first c.in-Two.second _ (eager_content c.write_page-in-Two.new.pages) (rows_of c.write_page-in-Two.new.ready) may c.page_of-page.ensures c.in_page-at.ensures
+      parts.front (omega (arith, c.in_page-at.ensures, parts.front_len)) c.write_page-in-Two.ensures.piece
+      _ (eager_content c.write_page-in-Two-2.new.pages) (rows_of c.write_page-in-Two-2.new.ready) c.requires.len parts.back free (rw c.in-Two.is at touches)
+      c.write_page-in-Two-2.ensures.piece (c.write_page-in-Two.ensures.rows table are) (c.write_page-in-Two-2.ensures.rows table));
 }
