@@ -33,7 +33,7 @@ unfolding checker_machine_of
 empty_sound m frames empty = record {
   good = subst IsGoodMachine (sym empty) (IsGoodMachine-empty frames);
   notes = record {
-    true_rows = record { entry = λ root p row e. absurd (no_row m frames empty root p row e); current = λ root p row e. absurd (no_row m frames empty root p row e) };
+    true_rows = λ root p row e. absurd (no_row m frames empty root p row e);
     ready = λ root p readiness e. let none = none_ready m frames empty root p in absurd cc;
   };
 }

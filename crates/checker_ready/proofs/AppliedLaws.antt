@@ -1,8 +1,6 @@
 -- The notes after a change.
-use Rattle.std.proofs.Common.{◌≡◌, ℕ, Bool, true, false, cond, ◌&&◌, ◌==◌, Option, None, Some, refl, sym, ap, subst, ◌∙◌}
+use Rattle.std.proofs.Common.{◌≡◌, ℕ, Bool, true, false, cond, ◌&&◌, ◌==◌, Option, None, refl, sym, ap, subst, ◌∙◌}
 use Rattle.vm_base.specs.declared.limits.TheConstants.{VMO_PAGES}
-use Rattle.vm_base.specs.declared.names.Koid.{Koid}
-use Rattle.vm_base.specs.declared.names.RegionName.{RegionName}
 use Rattle.vm_base.specs.Entries.{passes}
 use Rattle.vm_model.specs.declared.space.Readiness.{Readiness}
 use Rattle.vm_model.specs.Contents.Content.{Content}
@@ -11,75 +9,54 @@ use Rattle.vm_model.specs.Naming.Pins.{Pin, is_pinned}
 use Rattle.vm_model.specs.Space.Readiness.{Ready, keeps_frame, settled, unready, read_only_but}
 use Rattle.ready_pages.specs.declared.change.Change.{Change}
 use Rattle.ready_pages.specs.Changes.{Entries, ChangesRange, Covers, left_ready}
-use Rattle.checker_ready.specs.declared.ready_map.ReadyPage.{ReadyPage}
-use Rattle.checker_ready.specs.Notes.{ReadyRows, ready_in, kept_rows, without_range, limited_rows, is_current, FitsRows, NotesAreTrue}
-use Rattle.checker_ready.proofs.SettledLaws.{ready-settled, true-settled, ready-dropped, true-dropped, ready-limited, true-limited}
-use Rattle.checker_ready.proofs.StayLaws.{rows_stay}
+use Rattle.checker_ready.specs.Notes.{ReadyRows, ready_in, changed_rows, row_if_current, row_limited, without_range, FitsRows, NotesAreTrue}
+use Rattle.checker_ready.proofs.SettledLaws.{rows_stay, rows_settled, rows_limited, row_outside, ready-dropped}
 
 -- it is the same whether pages of an address space are ready for nothing before or after what shows another frame is
-module _ (c d : Content) (table : Entries) (ready : Ready) (root first end : ℕ) where
-  settled-unready : settled c d table (unready ready root first end) ≡ unready (settled c d table ready) root first end
-  unfolding settled unready
-  settled-unready = λ i r q. each (passes (keeps_frame c d) (table r q)) ((r == root) && is_within first end q) (ready r q) i where
-    each : (kept inside : Bool) (o : Option Readiness) → cond kept (cond inside None o) None ≡ cond inside None (cond kept o None)
-    each true true o = refl
-    each true false o = refl
-    each false true o = refl
-    each false false o = refl
+settled-unready : (c d : Content) (table : Entries) (ready : Ready) (root first end : ℕ) → settled c d table (unready ready root first end) ≡ unready (settled c d table ready) root first end
+unfolding settled unready
+settled-unready c d table ready root first end = λ i r q. each (passes (keeps_frame c d) (table r q)) ((r == root) && is_within first end q) (ready r q) i where
+  each : (kept inside : Bool) (o : Option Readiness) → cond kept (cond inside None o) None ≡ cond inside None (cond kept o None)
+  each true true o = refl
+  each true false o = refl
+  each false true o = refl
+  each false false o = refl
 
--- a row that is left lies outside of the range that was dropped
-outside_of : (rows : ReadyRows) (root first end r q : ℕ) (row : ReadyPage) → without_range rows root first end r q ≡ Some row → ((r == root) && is_within first end q) ≡ false
-unfolding without_range
-outside_of rows root first end r q row e = go ((r == root) && is_within first end q) refl e where
-  go : (b : Bool) → ((r == root) && is_within first end q) ≡ b → cond b None (rows r q) ≡ Some row → ((r == root) && is_within first end q) ≡ false
-  go true inside e = absurd cc
-  go false out e = out
+-- what the map makes of its rows
+abbrev pub rows_after : Content → (ℕ → Option Pin) → Change → ReadyRows → ReadyRows
+rows_after d pins Change.None rows = rows
+rows_after d pins (Change.Frames v first end) rows = changed_rows (row_if_current d) v.0 first end rows
+rows_after d pins (Change.Past v first) rows = changed_rows (row_if_current d) v.0 first VMO_PAGES rows
+rows_after d pins (Change.Shared v first end) rows = changed_rows (row_limited (is_pinned pins v.0)) v.0 first end rows
+rows_after d pins (Change.Mapped root first end) rows = without_range rows root.0 first end
 
-module _ (c d : Content) (before after : Entries) (rows : ReadyRows) (true_rows : NotesAreTrue c before rows) (pins : ℕ → Option Pin) (change : Change)
-    (covers : Covers change c d before after) where
-  -- what such a change leaves
-  abbrev FitsTo : Change → ReadyRows → Type 0
-  FitsTo ch left = FitsRows d after (left_ready ch pins before (settled c d after (ready_in rows))) left
-
-  pub none_rows : change ≡ Change.None → FitsTo change rows
-  none_rows is =
-      let covers_none = subst (λ (ch : Change). Covers ch c d before after) is covers in
-      subst (λ (ch : Change). FitsTo ch rows) (sym is) (rows_stay c d before after rows true_rows (λ r q row e entry here low. covers_none.stays r q entry here low refl))
-
+module _ (c d : Content) (before after : Entries) (rows : ReadyRows) (are : NotesAreTrue c before rows) (pins : ℕ → Option Pin) where
   -- pages of a VMO that were settled
-  settled_rows : (v first end : ℕ) → after ≡ before → ChangesRange c d v first end → FitsRows d after (settled c d after (ready_in rows)) (kept_rows (is_current d v first end) rows)
-  settled_rows v first end table changes =
-      subst (λ (t : Entries). FitsRows d t (settled c d t (ready_in rows)) (kept_rows (is_current d v first end) rows)) (sym table)
-      (record { are_ready = ready-settled c d before rows true_rows v first end changes; notes = true-settled c d before rows true_rows v first end changes })
+  frames_applied : (v first end : ℕ) → after ≡ before → ChangesRange c d v first end → FitsRows d after (settled c d after (ready_in rows)) (changed_rows (row_if_current d) v first end rows)
+  frames_applied v first end table changes =
+      subst (λ (t : Entries). FitsRows d t (settled c d t (ready_in rows)) (changed_rows (row_if_current d) v first end rows)) (sym table) (rows_settled c d before rows are v first end changes)
 
-  pub frames_rows : (v : Koid) (first end : ℕ) → change ≡ Change.Frames v first end → (left : ReadyRows) → left ≡ kept_rows (is_current d v.0 first end) rows → FitsTo change left
-  frames_rows v first end is left e =
-      let table = (subst (λ (ch : Change). Covers ch c d before after) is covers).table in
-      subst (λ (ch : Change). FitsTo ch left) (sym is) (subst (λ (l : ReadyRows). FitsTo (Change.Frames v first end) l) (sym e) (settled_rows v.0 first end table.0 table.1))
-
-  pub past_rows : (v : Koid) (first : ℕ) → change ≡ Change.Past v first → (left : ReadyRows) → left ≡ kept_rows (is_current d v.0 first VMO_PAGES) rows → FitsTo change left
-  past_rows v first is left e =
-      let table = (subst (λ (ch : Change). Covers ch c d before after) is covers).table in
-      subst (λ (ch : Change). FitsTo ch left) (sym is) (subst (λ (l : ReadyRows). FitsTo (Change.Past v first) l) (sym e) (settled_rows v.0 first VMO_PAGES table.0 table.1))
-
-  pub shared_rows : (v : Koid) (first end : ℕ) → change ≡ Change.Shared v first end → (left : ReadyRows) → left ≡ limited_rows (is_pinned pins v.0) v.0 first end rows → FitsTo change left
-  shared_rows v first end is left e =
-      let covers_here = subst (λ (ch : Change). Covers ch c d before after) is covers in
-      let still = rows_stay c d before after rows true_rows (λ r q row f entry here low. covers_here.stays r q entry here low refl) in
-      subst (λ (ch : Change). FitsTo ch left) (sym is) (subst (λ (l : ReadyRows). FitsTo (Change.Shared v first end) l) (sym e) (record {
-        are_ready =
-            ready-limited c before rows true_rows (is_pinned pins v.0) v.0 first end
-            ∙ ap (read_only_but (is_pinned pins v.0) before v.0 first end) still.are_ready;
-        notes = true-limited d after rows still.notes (is_pinned pins v.0) v.0 first end;
-      }))
-
-  pub mapped_rows : (root : RegionName) (first end : ℕ) → change ≡ Change.Mapped root first end → (left : ReadyRows) → left ≡ without_range rows root.0 first end → FitsTo change left
-  mapped_rows root first end is left e =
-      let covers_here = subst (λ (ch : Change). Covers ch c d before after) is covers in
+  rows_fit : (change : Change) → Covers change c d before after → FitsRows d after (left_ready change pins before (settled c d after (ready_in rows))) (rows_after d pins change rows)
+  rows_fit Change.None covers = rows_stay c d before after rows are (λ r q row e entry here low. covers.stays r q entry here low refl)
+  rows_fit (Change.Frames v first end) covers = frames_applied v.0 first end covers.table.0 covers.table.1
+  rows_fit (Change.Past v first) covers = frames_applied v.0 first VMO_PAGES covers.table.0 covers.table.1
+  rows_fit (Change.Shared v first end) covers =
+      let still = rows_stay c d before after rows are (λ r q row e entry here low. covers.stays r q entry here low refl) in
+      let limited = rows_limited d before rows (subst (λ (t : Entries). NotesAreTrue d t rows) covers.table still.notes) (is_pinned pins v.0) v.0 first end in
+      record {
+        are_ready = limited.are_ready ∙ ap (read_only_but (is_pinned pins v.0) before v.0 first end) still.are_ready;
+        notes = subst (λ (t : Entries). NotesAreTrue d t (changed_rows (row_limited (is_pinned pins v.0)) v.0 first end rows)) (sym covers.table) limited.notes;
+      }
+  rows_fit (Change.Mapped root first end) covers =
       let rest = without_range rows root.0 first end in
-      let rest_true = true-dropped c before before rows root.0 first end true_rows (λ r q out. refl) in
-      let still = rows_stay c d before after rest rest_true (λ r q row f entry here low. covers_here.stays r q entry here low (outside_of rows root.0 first end r q row f)) in
-      subst (λ (ch : Change). FitsTo ch left) (sym is) (subst (λ (l : ReadyRows). FitsTo (Change.Mapped root first end) l) (sym e) (record {
+      let out = row_outside rows root.0 first end in
+      let still = rows_stay c d before after rest (λ r q row e. are r q row (out r q row e).0) (λ r q row e entry here low. covers.stays r q entry here low (out r q row e).1) in
+      record {
         are_ready = still.are_ready ∙ (ap (settled c d after) (ready-dropped rows root.0 first end) ∙ settled-unready c d after (ready_in rows) root.0 first end);
         notes = still.notes;
-      }))
+      }
+
+  -- what is left of the notes fits what the change leaves
+  pub rows_applied : (change : Change) → Covers change c d before after → (left : ReadyRows) → left ≡ rows_after d pins change rows
+      → FitsRows d after (left_ready change pins before (settled c d after (ready_in rows))) left
+  rows_applied change covers left is = rw is (rows_fit change covers)

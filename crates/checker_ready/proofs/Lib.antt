@@ -2,7 +2,6 @@ pub mod CountLaws
 pub mod StampLaws
 pub mod RowLaws
 pub mod SettledLaws
-pub mod StayLaws
 pub mod AppliedLaws
 pub mod AskLaws
 pub mod NeedLaws

@@ -1,8 +1,8 @@
 -- What the calls leave of the rows.
-use Rattle.std.proofs.Common.{◌≡◌, ◌⊎◌, ℕ, ◌+◌, ◌<◌, ◌≤◌, Bool, true, false, not, cond, ◌&&◌, ◌||◌, ◌==◌, Option, None, Some, refl, sym, ap, subst, ◌∙◌, inl, inr, arith}
+use Rattle.std.proofs.Common.{◌≡◌, ◌⊎◌, ℕ, ◌+◌, ◌<◌, ◌≤◌, Bool, true, false, not, cond, ◌&&◌, ◌==◌, Option, None, Some, refl, sym, ap, subst, ◌∙◌, inl, inr, arith}
 use Rattle.std.specs.Prelude.{nat_lt, IsSome}
-use Rattle.std.specs.Option.{option_map}
-use Rattle.std.proofs.lemmas.Bool.{and_parts, and_from, eq-eqb, lt-ltb, le-ltb, ltb-false, not-true}
+use Rattle.std.specs.Option.{option_and_then}
+use Rattle.std.proofs.lemmas.Bool.{cases_Bool, and_parts, and_from, eq-eqb, lt-ltb, le-ltb, ltb-false, not-true}
 use Rattle.std.proofs.lemmas.Bool.Decides.{nat_tests}
 use Rattle.vm_base.specs.declared.names.Tag.{Tag}
 use Rattle.vm_base.specs.Entries.{passes}
@@ -18,15 +18,13 @@ use Rattle.vm_model.specs.Space.Readiness.{is_same_frame, frame_number}
 use Rattle.vm_model.proofs.ContentLaws.{same_page}
 use Rattle.pair_map.specs.declared.pair_map.PairMap.{PairMap}
 use Rattle.pair_map.specs.Maps.{values_of, with_pair}
-use Rattle.checker_pages.proofs.LinkLaws.{pair-here, pair-other, pair-cases}
+use Rattle.checker_pages.proofs.LinkLaws.{pair-here, pair-other, pair-same, pair-cases}
 use Rattle.checker_ready.specs.declared.ready_map.ReadyPage.{ReadyPage}
 use Rattle.checker_ready.specs.declared.stamps.Kept.{Kept}
 use Rattle.checker_ready.specs.declared.stamps.Stamp.{Stamp}
-use Rattle.checker_ready.specs.Notes.{Notes, ReadyRows, ready_page, noted_under, rows_of, stamp_for, has_frame, row_if, with_ready_row, kept_rows, without_range, limited_rows, limited, agrees, is_current, HasNoRow, IsReadySomewhere, AreNotes, lowered, counts, counting, without_place, HasCount}
+use Rattle.checker_ready.specs.Notes.{Notes, ReadyRows, ready_page, noted_under, rows_of, stamp_for, has_frame, is_row_in, changed_rows, row_if_current, row_limited, without_range, HasNoRow, IsReadySomewhere, AreNotes, lowered, counts, counting, without_place, HasCount}
 use Rattle.checker_ready.proofs.CountLaws.{count-same, count-more, count-less, count-none, count-some, without-none, counts-is, counts-apart, counts-old, counts-not, counting-at, counting-dropped, counting-here, counting-other}
-use Rattle.checker_ready.proofs.StampLaws.{row_of, page-stamped, page-noted, page-limited, page-unlimited, page-current, page-settled, page-lowered, lowered-some}
-
--- ---- nothing is noted
+use Rattle.checker_ready.proofs.StampLaws.{row_of, changed-here, changed-other, page-stamped, page-noted, page-limited, page-unlimited, page-current, page-settled, page-lowered, lowered-some}
 
 -- ---- one stamp changes
 
@@ -38,55 +36,55 @@ stamp_at stamps v p k hit =
     let page = eqb_is k.page p both.1 in
     λ i. stamps (koid i) (page i)
 
--- what a change of that stamp makes of each note, it makes of each row
-module _ (places : ℕ → ℕ → Option Kept) (old new : ℕ → ℕ → Option Stamp) (v p : ℕ) (o : Option Stamp) (values : new ≡ with_pair old v p o) where
-  by_note : (change : Option ReadyPage → Option ReadyPage) → change None ≡ None
-      → ((k : Kept) (r q : ℕ) → places r q ≡ Some k → ready_page k (cond ((k.koid.0 == v) && (k.page == p)) o (old k.koid.0 k.page)) ≡ change (ready_page k (old k.koid.0 k.page)))
-      → (r q : ℕ) → noted_under new (places r q) ≡ change (noted_under old (places r q))
-  unfolding with_pair
-  by_note change empty each r q = go (places r q) refl where
-    go : (n : Option Kept) → places r q ≡ n → noted_under new n ≡ change (noted_under old n)
-    go None e = sym empty
-    go (Some k) e = ap (λ (map : ℕ → ℕ → Option Stamp). ready_page k (map k.koid.0 k.page)) values ∙ each k r q e
+-- what a change of the stamp of page p of the VMO v makes of the rows of its notes, it makes of all rows
+module _ (m : Notes) (v p : ℕ) (o : Option Stamp) (new : ℕ → ℕ → Option Stamp) (values : new ≡ with_pair (values_of m.stamps) v p o) (change : ReadyPage → Option ReadyPage)
+    (each : (k : Kept) (r q : ℕ) → values_of m.places r q ≡ Some k → k.koid.0 ≡ v → k.page ≡ p → ready_page k o ≡ option_and_then change (ready_page k (values_of m.stamps v p))) where
+  abbrev old : ℕ → ℕ → Option Stamp
+  old = values_of m.stamps
+
+  pub row-changed : (r q : ℕ) → noted_under new (values_of m.places r q) ≡ changed_rows change v p (p + 1) (rows_of m) r q
+  unfolding changed_rows
+  row-changed r q = go (values_of m.places r q) refl where
+    go : (n : Option Kept) → values_of m.places r q ≡ n → noted_under new n ≡ option_and_then (λ row. cond (is_row_in v p (p + 1) row) (change row) (Some row)) (noted_under old n)
+    go None e = refl
+    go (Some k) e = ap (λ (map : ℕ → ℕ → Option Stamp). ready_page k (map k.koid.0 k.page)) values ∙ elim (same_page v p k.koid.0 k.page) [
+      | inl here ↦
+          (λ i. ready_page k (with_pair old v p o (here.0 i) (here.1 i))) ∙ (ap (ready_page k) (pair-here old v p o) ∙ (each k r q e here.0 here.1
+          ∙ ((λ i. option_and_then change (ready_page k (old (sym here.0 i) (sym here.1 i)))) ∙ sym (changed-here change v p k here.0 here.1 (old k.koid.0 k.page)))))
+      | inr apart ↦ ap (ready_page k) (pair-other old v p o k.koid.0 k.page apart) ∙ sym (changed-other change v p k apart (old k.koid.0 k.page))
+    ]
 
 module _ (m : Notes) (v p : ℕ) (stamps : PairMap Stamp) where
   -- the stamp goes, or there was none
-  pub rows-settled : values_of stamps ≡ with_pair (values_of m.stamps) v p None → (c : Content)
-      → ((s : Stamp) → values_of m.stamps v p ≡ Some s → has_frame c v p s.frame ≡ false)
-      → rows_of (record m { stamps = stamps }) ≡ kept_rows (is_current c v p (p + 1)) (rows_of m)
-  unfolding kept_rows passes
-  rows-settled values c other = λ i r q. by_note (values_of m.places) (values_of m.stamps) (values_of stamps) v p None values (row_if (is_current c v p (p + 1))) refl
-      (λ k r q e. page-settled c k v p (values_of m.stamps k.koid.0 k.page) (λ hit s is. other s (sym (stamp_at (values_of m.stamps) v p k hit) ∙ is))) r q i
+  pub rows-settled : values_of stamps ≡ with_pair (values_of m.stamps) v p None → (c : Content) → ((s : Stamp) → values_of m.stamps v p ≡ Some s → has_frame c v p s.frame ≡ false)
+      → rows_of (record m { stamps = stamps }) ≡ changed_rows (row_if_current c) v p (p + 1) (rows_of m)
+  rows-settled values c other = λ i r q. row-changed m v p None (values_of stamps) values (row_if_current c) (λ k r q e koid page. go k koid page (values_of m.stamps v p) other) r q i where
+    go : (k : Kept) → k.koid.0 ≡ v → k.page ≡ p → (o : Option Stamp) → ((s : Stamp) → o ≡ Some s → has_frame c v p s.frame ≡ false) → None ≡ option_and_then (row_if_current c) (ready_page k o)
+    go k koid page None gone = refl
+    go k koid page (Some s) gone = page-settled c k s ((λ i. has_frame c (koid i) (page i) s.frame) ∙ gone s refl)
 
   -- the page is for reading alone from now on
   pub rows-limited : AreNotes m → (s : Stamp) → values_of m.stamps v p ≡ Some s → values_of stamps ≡ with_pair (values_of m.stamps) v p (Some (record s { shared = m.time }))
-      → rows_of (record m { stamps = stamps }) ≡ limited_rows (λ q. false) v p (p + 1) (rows_of m)
-  unfolding limited_rows
-  rows-limited notes s found values = λ i r q. by_note (values_of m.places) (values_of m.stamps) (values_of stamps) v p (Some (record s { shared = m.time })) values
-      (option_map (limited (λ q. false) v p (p + 1))) refl
-      (λ k r q e. page-limited k v p m.time (values_of m.stamps k.koid.0 k.page) s (notes.made r q k e) (λ hit. stamp_at (values_of m.stamps) v p k hit ∙ found)) r q i
+      → rows_of (record m { stamps = stamps }) ≡ changed_rows (row_limited (λ q. false)) v p (p + 1) (rows_of m)
+  rows-limited notes s found values = λ i r q. row-changed m v p (Some (record s { shared = m.time })) (values_of stamps) values (row_limited (λ q. false))
+      (λ k r q e koid page. page-limited k m.time s (notes.made r q k e) ∙ ap (λ (o : Option Stamp). option_and_then (row_limited (λ q. false)) (ready_page k o)) (sym found)) r q i
 
--- there is no stamp, or the page stays
-pub rows-unlimited : (m : Notes) (v p : ℕ) (stays : Bool) → (values_of m.stamps v p ≡ None) ⊎ (stays ≡ true) → rows_of m ≡ limited_rows (λ q. stays) v p (p + 1) (rows_of m)
-unfolding limited_rows
-rows-unlimited m v p stays none = λ i r q. go (values_of m.places r q) i where
-  go : (n : Option Kept) → noted_under (values_of m.stamps) n ≡ option_map (limited (λ q. stays) v p (p + 1)) (noted_under (values_of m.stamps) n)
-  go None = refl
-  go (Some k) = page-unlimited k v p stays (values_of m.stamps k.koid.0 k.page) (λ hit. elim none [
-    | inl bare ↦ inl (stamp_at (values_of m.stamps) v p k hit ∙ bare)
-    | inr is ↦ inr is
-  ])
+-- no stamp changes
+module _ (m : Notes) (v p : ℕ) where
+  same-stamps : values_of m.stamps ≡ with_pair (values_of m.stamps) v p (values_of m.stamps v p)
+  same-stamps = pair-same (values_of m.stamps) v p (values_of m.stamps v p) refl
 
--- the stamp has the frame
-pub rows-current : (m : Notes) (v p : ℕ) (c : Content) (s : Stamp) → values_of m.stamps v p ≡ Some s → has_frame c v p s.frame ≡ true
-    → rows_of m ≡ kept_rows (is_current c v p (p + 1)) (rows_of m)
-unfolding kept_rows passes
-rows-current m v p c s found same = λ i r q. go (values_of m.places r q) i where
-  go : (n : Option Kept) → noted_under (values_of m.stamps) n ≡ row_if (is_current c v p (p + 1)) (noted_under (values_of m.stamps) n)
-  go None = refl
-  go (Some k) = page-current c k v p (values_of m.stamps k.koid.0 k.page) (λ hit st is.
-      let one : s ≡ st = some_same (sym found ∙ (sym (stamp_at (values_of m.stamps) v p k hit) ∙ is)) in
-      ap (λ (x : Stamp). has_frame c v p x.frame) (sym one) ∙ same)
+  -- the page stays, or there is no stamp
+  pub rows-unlimited : (stays : Bool) → (values_of m.stamps v p ≡ None) ⊎ (stays ≡ true) → rows_of m ≡ changed_rows (row_limited (λ q. stays)) v p (p + 1) (rows_of m)
+  rows-unlimited stays none = λ i r q. row-changed m v p (values_of m.stamps v p) (values_of m.stamps) same-stamps (row_limited (λ q. stays)) (λ k r q e koid page. elim none [
+    | inl bare ↦ rw bare refl
+    | inr is ↦ rw is (page-unlimited k (values_of m.stamps v p))
+  ]) r q i
+
+  -- the stamp has the frame
+  pub rows-current : (c : Content) (s : Stamp) → values_of m.stamps v p ≡ Some s → has_frame c v p s.frame ≡ true → rows_of m ≡ changed_rows (row_if_current c) v p (p + 1) (rows_of m)
+  rows-current c s found same = λ i r q. row-changed m v p (values_of m.stamps v p) (values_of m.stamps) same-stamps (row_if_current c)
+      (λ k r q e koid page. rw found (page-current c k s ((λ i. has_frame c (koid i) (page i) s.frame) ∙ same))) r q i
 
 -- the notes stay so
 pub AreNotes-unstamped : (m : Notes) (v p : ℕ) (stamps : PairMap Stamp) → AreNotes m → values_of stamps ≡ with_pair (values_of m.stamps) v p None → m.room ≤ stamps.spare
@@ -147,14 +145,12 @@ module _ (m : Notes) (root page : ℕ) (k : Kept) (frame : Option Tag) (notes : 
   abbrev after : Notes
   after = record m { places = places; stamps = stamps; time = m.time + 1; room = room }
 
-  pub rows-set : rows_of after ≡ with_ready_row (kept_rows (agrees k.koid.0 k.page frame) (rows_of m)) root page (record { koid = k.koid; page = k.page; frame = frame; readiness = k.readiness })
-  unfolding with_ready_row kept_rows passes
-  rows-set = λ i r q. each r q i where
-    old_row : (r q : ℕ) → noted_under (values_of stamps) (values_of m.places r q) ≡ row_if (agrees k.koid.0 k.page frame) (rows_of m r q)
-    old_row = by_note (values_of m.places) (values_of m.stamps) (values_of stamps) k.koid.0 k.page (Some (stamp_for (values_of m.stamps k.koid.0 k.page) frame m.time)) values
-        (row_if (agrees k.koid.0 k.page frame)) refl
-        (λ j r q e. page-stamped j k.koid.0 k.page frame m.time (values_of m.stamps j.koid.0 j.page) (values_of m.stamps k.koid.0 k.page) (notes.made r q j e)
-        (λ hit. sym (stamp_at (values_of m.stamps) k.koid.0 k.page j hit)))
+  pub rows-set : (c : Content) → has_frame c k.koid.0 k.page frame ≡ true
+      → rows_of after ≡ with_pair (changed_rows (row_if_current c) k.koid.0 k.page (k.page + 1) (rows_of m)) root page (Some (record { koid = k.koid; page = k.page; frame = frame; readiness = k.readiness }))
+  rows-set c has = λ i r q. each r q i where
+    old_row : (r q : ℕ) → noted_under (values_of stamps) (values_of m.places r q) ≡ changed_rows (row_if_current c) k.koid.0 k.page (k.page + 1) (rows_of m) r q
+    old_row = row-changed m k.koid.0 k.page (Some (stamp_for (values_of m.stamps k.koid.0 k.page) frame m.time)) (values_of stamps) values (row_if_current c)
+        (λ j r q e koid shown. page-stamped c j frame m.time (values_of m.stamps k.koid.0 k.page) (notes.made r q j e) ((λ i. has_frame c (koid i) (shown i) frame) ∙ has))
 
     new_row : noted_under (values_of stamps) (Some k) ≡ Some (record { koid = k.koid; page = k.page; frame = frame; readiness = k.readiness })
     new_row =
@@ -164,16 +160,10 @@ module _ (m : Notes) (root page : ℕ) (k : Kept) (frame : Option Tag) (notes : 
         ∙ page-noted k frame (values_of m.stamps k.koid.0 k.page) (λ s e. let low = notes.stamped k.koid.0 k.page s e in (omega (arith, low.0), omega (arith, low.1)))))
 
     each : (r q : ℕ) → rows_of after r q
-        ≡ cond ((r == root) && (q == page)) (Some (record { koid = k.koid; page = k.page; frame = frame; readiness = k.readiness })) (row_if (agrees k.koid.0 k.page frame) (rows_of m r q))
-    each r q = elim (same_page root page r q) [
-      | inl here ↦
-          let hit : ((r == root) && (q == page)) ≡ true = and_from (r == root) (q == page) (eq-eqb r root here.0) (eq-eqb q page here.1) in
-          (λ i. noted_under (values_of stamps) (put i (here.0 i) (here.1 i)))
-          ∙ (ap (noted_under (values_of stamps)) (pair-here (values_of m.places) root page (Some k)) ∙ (new_row ∙ rw hit refl))
-      | inr apart ↦
-          let miss : ((r == root) && (q == page)) ≡ false = grind (arith, nat_tests) in
-          ap (λ (map : ℕ → ℕ → Option Kept). noted_under (values_of stamps) (map r q)) put
-          ∙ (ap (noted_under (values_of stamps)) (pair-other (values_of m.places) root page (Some k) r q apart) ∙ (old_row r q ∙ rw miss refl))
+        ≡ with_pair (changed_rows (row_if_current c) k.koid.0 k.page (k.page + 1) (rows_of m)) root page (Some (record { koid = k.koid; page = k.page; frame = frame; readiness = k.readiness })) r q
+    each r q = ap (λ (map : ℕ → ℕ → Option Kept). noted_under (values_of stamps) (map r q)) put ∙ elim (same_page root page r q) [
+      | inl here ↦ rw (here.0, here.1) (ap (noted_under (values_of stamps)) (pair-here (values_of m.places) root page (Some k)) ∙ (new_row ∙ sym (pair-here _ root page _)))
+      | inr apart ↦ ap (noted_under (values_of stamps)) (pair-other (values_of m.places) root page (Some k) r q apart) ∙ (old_row r q ∙ sym (pair-other _ root page _ r q apart))
     ]
 
   -- the page had no note
@@ -276,20 +266,15 @@ module _ (m : Notes) (root page : ℕ) (k : Kept) (frame : Option Tag) (notes : 
         ]
 
 -- a note in place of another
-pub row-cleared : (rows : ReadyRows) (root page : ℕ) (row : ReadyPage) (stays : ReadyPage → Bool)
-    → with_ready_row (kept_rows stays (without_range rows root page (page + 1))) root page row ≡ with_ready_row (kept_rows stays rows) root page row
-unfolding with_ready_row kept_rows without_range passes
-row-cleared rows root page row stays = λ i r q. each r q i where
-  each : (r q : ℕ) → cond ((r == root) && (q == page)) (Some row) (row_if stays (cond ((r == root) && is_within page (page + 1) q) None (rows r q)))
-      ≡ cond ((r == root) && (q == page)) (Some row) (row_if stays (rows r q))
-  each r q = elim (same_page root page r q) [
-    | inl here ↦
-        let hit : ((r == root) && (q == page)) ≡ true = and_from (r == root) (q == page) (eq-eqb r root here.0) (eq-eqb q page here.1) in
-        rw hit refl
-    | inr apart ↦
-        let miss : ((r == root) && (q == page)) ≡ false = grind (arith, nat_tests) in
-        let outside : ((r == root) && is_within page (page + 1) q) ≡ false = grind (arith, nat_tests) in
-        rw (miss, outside) refl
+pub row-cleared : (change : ReadyPage → Option ReadyPage) (v first end : ℕ) (rows : ReadyRows) (root page : ℕ) (row : ReadyPage)
+    → with_pair (changed_rows change v first end (without_range rows root page (page + 1))) root page (Some row) ≡ with_pair (changed_rows change v first end rows) root page (Some row)
+unfolding with_pair changed_rows without_range
+row-cleared change v first end rows root page row = λ i r q. each r q i where
+  each : (r q : ℕ) → cond ((r == root) && (q == page)) (Some row) (option_and_then (λ x. cond (is_row_in v first end x) (change x) (Some x)) (cond ((r == root) && is_within page (page + 1) q) None (rows r q)))
+      ≡ cond ((r == root) && (q == page)) (Some row) (option_and_then (λ x. cond (is_row_in v first end x) (change x) (Some x)) (rows r q))
+  each r q = elim (cases_Bool ((r == root) && (q == page))) [
+    | inl hit ↦ rw hit refl
+    | inr miss ↦ let outside : ((r == root) && is_within page (page + 1) q) ≡ false = grind (arith, nat_tests) in rw (miss, outside) refl
   ]
 
 -- ---- pages of an address space are dropped
@@ -458,14 +443,7 @@ IsReadySomewhere-stamped m v p s notes found =
           let koid = eqb_is k.koid.0 v both.0 in
           let page = eqb_is k.page p both.1 in
           let new : nat_lt k.made s.since ≡ false = not-true (nat_lt k.made s.since) passed.1 in
-          record {
-            root = r;
-            at = q;
-            row = row_of k s;
-            is = ap (noted_under (values_of m.stamps)) at ∙ (ap (ready_page k) (stamp_at (values_of m.stamps) v p k passed.0 ∙ found) ∙ rw new refl);
-            koid = koid;
-            page = page;
-          }
+          (r, q, row_of k s, ap (noted_under (values_of m.stamps)) at ∙ (ap (ready_page k) (stamp_at (values_of m.stamps) v p k passed.0 ∙ found) ∙ rw new refl), koid, page)
 
 pub IsReadySomewhere-of : (m : Notes) → AreNotes m → (v p : ℕ) → IsSome (values_of m.stamps v p) → IsReadySomewhere (rows_of m) v p
 IsReadySomewhere-of m notes v p some = go (values_of m.stamps v p) refl some where
@@ -473,99 +451,78 @@ IsReadySomewhere-of m notes v p some = go (values_of m.stamps v p) refl some whe
   go None e is = absurd cc
   go (Some s) e is = IsReadySomewhere-stamped m v p s notes e
 
--- ---- pages of a VMO are settled, one after another
+-- ---- pages of a VMO are changed, one after another
 
--- a row is asked twice
-row_if-both : (a b : ReadyPage → Bool) (o : Option ReadyPage) → row_if a (row_if b o) ≡ row_if (λ x. b x && a x) o
-unfolding passes
-row_if-both a b None = refl
-row_if-both a b (Some x) = go (b x) refl where
-  go : (stays : Bool) → b x ≡ stays → row_if a (row_if b (Some x)) ≡ row_if (λ x. b x && a x) (Some x)
-  go true e = rw e refl
-  go false e = rw e refl
-
-row_if-same : (a b : ReadyPage → Bool) (o : Option ReadyPage) → ((x : ReadyPage) → o ≡ Some x → a x ≡ b x) → row_if a o ≡ row_if b o
-unfolding passes
-row_if-same a b None same = refl
-row_if-same a b (Some x) same = ap (λ (stays : Bool). cond stays (Some x) None) (same x refl)
-
-pub settled-start : (c : Content) (v first : ℕ) (rows : ReadyRows) → rows ≡ kept_rows (is_current c v first first) rows
-unfolding kept_rows passes
-settled-start c v first rows = λ i r q. go (rows r q) i where
-  go : (o : Option ReadyPage) → o ≡ row_if (is_current c v first first) o
+pub changed-start : (change : ReadyPage → Option ReadyPage) (v first : ℕ) (rows : ReadyRows) → rows ≡ changed_rows change v first first rows
+unfolding changed_rows
+changed-start change v first rows = λ i r q. go (rows r q) i where
+  go : (o : Option ReadyPage) → o ≡ option_and_then (λ row. cond (is_row_in v first first row) (change row) (Some row)) o
   go None = refl
-  go (Some x) =
-      let stays : is_current c v first first x ≡ true = grind (arith, nat_tests) in
-      rw stays refl
+  go (Some x) = let out : is_row_in v first first x ≡ false = grind (arith, nat_tests) in rw out refl
 
-module _ (c : Content) (v first from end : ℕ) (rows now : ReadyRows) (is : now ≡ kept_rows (is_current c v first from) rows) where
-  -- the rows that are there are those that were kept
-  there : (r q : ℕ) (x : ReadyPage) → rows r q ≡ Some x → is_current c v first from x ≡ true → now r q ≡ Some x
-  unfolding kept_rows passes
-  there r q x e stays = ap (λ (s : ReadyRows). s r q) is ∙ rw (e, stays) refl
+module _ (change : ReadyPage → Option ReadyPage) (v first from end : ℕ) (rows now : ReadyRows) (is : now ≡ changed_rows change v first from rows) where
+  -- a row before which the change stopped is there still
+  there : (r q : ℕ) (x : ReadyPage) → rows r q ≡ Some x → is_row_in v first from x ≡ false → now r q ≡ Some x
+  unfolding changed_rows
+  there r q x e out = ap (λ (s : ReadyRows). s r q) is ∙ rw (e, out) refl
 
-  pub settled-next : (next : ReadyRows) (p : ℕ) → first ≤ from → from ≤ p → HasNoRow now v from p → next ≡ kept_rows (is_current c v p (p + 1)) now → next ≡ kept_rows (is_current c v first (p + 1)) rows
-  unfolding kept_rows
-  settled-next next p order low none made = made ∙ (ap (kept_rows (is_current c v p (p + 1))) is ∙ λ i r q. each r q i) where
-    each : (r q : ℕ) → row_if (is_current c v p (p + 1)) (row_if (is_current c v first from) (rows r q)) ≡ row_if (is_current c v first (p + 1)) (rows r q)
-    each r q = row_if-both (is_current c v p (p + 1)) (is_current c v first from) (rows r q)
-        ∙ row_if-same (λ x. is_current c v first from x && is_current c v p (p + 1) x) (is_current c v first (p + 1)) (rows r q) (λ x e.
-        let gap : is_current c v first from x ≡ true → x.koid.0 ≡ v → from ≤ x.page → x.page < p → ⊥ = λ stays. none.none r q x (there r q x e stays) in
-        grind (arith, nat_tests))
-
-  pub settled-end : (from ≤ end) ⊎ (from ≡ first) → HasNoRow now v from end → now ≡ kept_rows (is_current c v first end) rows
-  unfolding kept_rows
-  settled-end order none = is ∙ λ i r q. each r q i where
-    each : (r q : ℕ) → row_if (is_current c v first from) (rows r q) ≡ row_if (is_current c v first end) (rows r q)
-    each r q = row_if-same (is_current c v first from) (is_current c v first end) (rows r q) (λ x e.
-        let gap : is_current c v first from x ≡ true → x.koid.0 ≡ v → from ≤ x.page → x.page < end → ⊥ = λ stays. none.none r q x (there r q x e stays) in
-        grind (arith, nat_tests))
-
--- ---- pages of a VMO are restricted, one after another
-
-pub limited-start : (stays : ℕ → Bool) (v first : ℕ) (rows : ReadyRows) → rows ≡ limited_rows stays v first first rows
-unfolding limited_rows
-limited-start stays v first rows = λ i r q. go (rows r q) i where
-  go : (o : Option ReadyPage) → o ≡ option_map (limited stays v first first) o
-  go None = refl
-  go (Some x) =
-      let out : ((x.koid.0 == v) && is_within first first x.page && not (stays x.page)) ≡ false = grind (arith, nat_tests) in
-      rw out refl
-
--- a row that is limited twice
-limited-both : (row : ReadyPage) (a b c : Bool) → (c ≡ (a || b)) → record row { readiness = cond b Read (cond a Read row.readiness) } ≡ record row { readiness = cond c Read row.readiness }
-limited-both row true true c e = rw e refl
-limited-both row true false c e = rw e refl
-limited-both row false true c e = rw e refl
-limited-both row false false c e = rw e refl
-
-module _ (stays : ℕ → Bool) (v first from end : ℕ) (rows now : ReadyRows) (is : now ≡ limited_rows stays v first from rows) where
-  limited_there : (r q : ℕ) (x : ReadyPage) → rows r q ≡ Some x → now r q ≡ Some (limited stays v first from x)
-  unfolding limited_rows
-  limited_there r q x e = ap (λ (s : ReadyRows). s r q) is ∙ ap (option_map (limited stays v first from)) e
-
-  pub limited-next : (next : ReadyRows) (p : ℕ) (b : Bool) → first ≤ from → from ≤ p → HasNoRow now v from p → b ≡ stays p → next ≡ limited_rows (λ q. b) v p (p + 1) now
-      → next ≡ limited_rows stays v first (p + 1) rows
-  unfolding limited_rows
-  limited-next next p b order low none bit made = made ∙ (ap (limited_rows (λ q. b) v p (p + 1)) is ∙ λ i r q. go r q (rows r q) refl i) where
-    go : (r q : ℕ) (o : Option ReadyPage) → rows r q ≡ o
-        → option_map (limited (λ k. b) v p (p + 1)) (option_map (limited stays v first from) o) ≡ option_map (limited stays v first (p + 1)) o
+  pub changed-end : (from ≤ end) ⊎ (from ≡ first) → HasNoRow now v from end → now ≡ changed_rows change v first end rows
+  unfolding changed_rows
+  changed-end order none = is ∙ λ i r q. go r q (rows r q) refl i where
+    go : (r q : ℕ) (o : Option ReadyPage) → rows r q ≡ o → option_and_then (λ row. cond (is_row_in v first from row) (change row) (Some row)) o
+        ≡ option_and_then (λ row. cond (is_row_in v first end row) (change row) (Some row)) o
     go r q None e = refl
     go r q (Some x) e =
-        let gap : x.koid.0 ≡ v → from ≤ x.page → x.page < p → ⊥ = none.none r q (limited stays v first from x) (limited_there r q x e) in
-        let page : x.page ≡ p → b ≡ stays x.page = λ same. bit ∙ ap stays (sym same) in
-        ap (λ (row : ReadyPage). Some row) (limited-both x ((x.koid.0 == v) && is_within first from x.page && not (stays x.page)) ((x.koid.0 == v) && is_within p (p + 1) x.page && not b)
-        ((x.koid.0 == v) && is_within first (p + 1) x.page && not (stays x.page)) (grind (arith, nat_tests)))
+        let gap : is_row_in v first from x ≡ false → x.koid.0 ≡ v → from ≤ x.page → x.page < end → ⊥ = λ out. none.none r q x (there r q x e out) in
+        let same : is_row_in v first from x ≡ is_row_in v first end x = grind (arith, nat_tests) in
+        ap (λ (b : Bool). cond b (change x) (Some x)) same
 
-  pub limited-end : (from ≤ end) ⊎ (from ≡ first) → HasNoRow now v from end → now ≡ limited_rows stays v first end rows
-  unfolding limited_rows
-  limited-end order none = is ∙ λ i r q. go r q (rows r q) refl i where
-    go : (r q : ℕ) (o : Option ReadyPage) → rows r q ≡ o → option_map (limited stays v first from) o ≡ option_map (limited stays v first end) o
-    go r q None e = refl
-    go r q (Some x) e =
-        let gap : x.koid.0 ≡ v → from ≤ x.page → x.page < end → ⊥ = none.none r q (limited stays v first from x) (limited_there r q x e) in
-        let same : ((x.koid.0 == v) && is_within first from x.page && not (stays x.page)) ≡ ((x.koid.0 == v) && is_within first end x.page && not (stays x.page)) = grind (arith, nat_tests) in
-        ap (λ (b : Bool). Some (record x { readiness = cond b Read x.readiness })) same
+  -- a change of page p alone, which is the same for rows of that page, and leaves each row to its page
+  module _ (one : ReadyPage → Option ReadyPage) (p : ℕ) (alike : (x : ReadyPage) → x.page ≡ p → one x ≡ change x)
+      (leaves : (x y : ReadyPage) → change x ≡ Some y → y.page ≡ x.page) where
+    pub changed-next : (next : ReadyRows) → first ≤ from → from ≤ p → HasNoRow now v from p → next ≡ changed_rows one v p (p + 1) now → next ≡ changed_rows change v first (p + 1) rows
+    unfolding changed_rows
+    changed-next next order low none made = made ∙ (ap (changed_rows one v p (p + 1)) is ∙ λ i r q. go r q (rows r q) refl i) where
+      go : (r q : ℕ) (o : Option ReadyPage) → rows r q ≡ o
+          → option_and_then (λ row. cond (is_row_in v p (p + 1) row) (one row) (Some row)) (option_and_then (λ row. cond (is_row_in v first from row) (change row) (Some row)) o)
+          ≡ option_and_then (λ row. cond (is_row_in v first (p + 1) row) (change row) (Some row)) o
+      go r q None e = refl
+      go r q (Some x) e = elim (cases_Bool (is_row_in v first from x)) [
+        | inl before ↦ let all : is_row_in v first (p + 1) x ≡ true = grind (arith, nat_tests) in rw (before, all) (done (change x) refl before)
+        | inr out ↦ rw out (elim (cases_Bool (is_row_in v p (p + 1) x)) [
+          | inl here ↦
+              let page : x.page ≡ p = grind (arith, nat_tests) in
+              let all : is_row_in v first (p + 1) x ≡ true = grind (arith, nat_tests) in
+              rw (here, all) (alike x page)
+          | inr apart ↦
+              let gap : x.koid.0 ≡ v → from ≤ x.page → x.page < p → ⊥ = none.none r q x (there r q x e out) in
+              let none_of : is_row_in v first (p + 1) x ≡ false = grind (arith, nat_tests) in
+              rw (apart, none_of) refl
+        ])
+      ] where
+        done : (o : Option ReadyPage) → change x ≡ o → is_row_in v first from x ≡ true → option_and_then (λ row. cond (is_row_in v p (p + 1) row) (one row) (Some row)) o ≡ o
+        done None f before = refl
+        done (Some y) f before =
+            let same = leaves x y f in
+            let past : is_row_in v p (p + 1) y ≡ false = grind (arith, nat_tests) in
+            rw past refl
+
+-- a row that stays is of its page
+pub current-leaves : (c : Content) (x y : ReadyPage) → row_if_current c x ≡ Some y → y.page ≡ x.page
+current-leaves c x y e = go (has_frame c x.koid.0 x.page x.frame) e where
+  go : (b : Bool) → cond b (Some x) None ≡ Some y → y.page ≡ x.page
+  go true f = ap (λ (row : ReadyPage). row.page) (sym (some_same f))
+  go false f = absurd cc
+
+pub limited-leaves : (stays : ℕ → Bool) (x y : ReadyPage) → row_limited stays x ≡ Some y → y.page ≡ x.page
+limited-leaves stays x y e = go (stays x.page) e where
+  go : (b : Bool) → Some (cond b x (record x { readiness = Read })) ≡ Some y → y.page ≡ x.page
+  go true f = ap (λ (row : ReadyPage). row.page) (sym (some_same f))
+  go false f = ap (λ (row : ReadyPage). row.page) (sym (some_same f))
+
+-- a row of page p is limited as that page is
+pub limited-alike : (stays : ℕ → Bool) (b : Bool) (p : ℕ) → b ≡ stays p → (x : ReadyPage) → x.page ≡ p → row_limited (λ q. b) x ≡ row_limited stays x
+limited-alike stays b p bit x same = ap (λ (stay : Bool). Some (cond stay x (record x { readiness = Read }))) (bit ∙ ap stays (sym same))
 
 -- one page is pinned or not
 pub pinned-one : (pins : ℕ → Option Pin) (v p : ℕ) → any_pinned pins v p (p + 1) ≡ is_pinned pins v p

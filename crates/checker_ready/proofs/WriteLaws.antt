@@ -1,12 +1,12 @@
 -- What writing through one page of an address space, or through two, gives.
-use Rattle.std.proofs.Common.{◌≡◌, ℕ, ◌+◌, ◌-◌, ◌/◌, ◌%◌, ◌<◌, ◌≤◌, Bool, true, false, cond, List, [], ◌∷◌, length, map, take, drop, None, Some, refl, sym, ap, subst, ◌∙◌, inl, inr, arith}
+use Rattle.std.proofs.Common.{◌≡◌, ℕ, ◌+◌, ◌-◌, ◌/◌, ◌%◌, ◌≤◌, Bool, true, false, cond, List, [], ◌∷◌, length, map, take, drop, None, Some, refl, sym, ap, subst, ◌∙◌, inl, inr, arith}
 use Rattle.std.proofs.lemmas.Bool.{cases_Bool}
 use Rattle.vm_base.specs.declared.limits.TheConstants.{PAGE}
 use Rattle.vm_base.specs.Entries.{passes}
 use Rattle.vm_base.proofs.EntryLaws.{some_same}
 use Rattle.vm_model.specs.declared.space.Entry.{Entry}
 use Rattle.vm_model.specs.declared.space.Readiness.TheVariants.{Write}
-use Rattle.vm_model.specs.Contents.Content.{Content, used, pages_of, sole, IsGood}
+use Rattle.vm_model.specs.Contents.Content.{Content, used, sole, IsGood}
 use Rattle.vm_model.specs.Contents.Owning.{VmoPage, need_each}
 use Rattle.vm_model.specs.Contents.Writing.{touched, part_at, part_bytes, WritesPiece}
 use Rattle.vm_model.specs.Space.Readiness.{Ready, frame_at, keeps_frame, settled, with_ready}
@@ -23,21 +23,13 @@ use Rattle.ready_pages.specs.Access.{WritesReady}
 use Rattle.ready_pages.specs.Changes.{Entries, ChangesRange, AreReadyAt}
 use Rattle.checker_ready.specs.declared.touching.TouchedPage.{TouchedPage}
 use Rattle.checker_ready.specs.Notes.{ReadyRows, ready_in, FitsRows, NotesAreTrue, AreGoodNotes}
-use Rattle.checker_ready.specs.inside.Pages.{LiesInVmo, IsTouched, Touches, IsNotedReady, MayWritePage, MayWrite, faults_in, is_unready}
+use Rattle.checker_ready.specs.inside.Pages.{LiesInVmo, IsMappedInside, IsTouched, Touches, MayWritePage, MayWrite, faults_in, is_unready}
 use Rattle.checker_ready.proofs.AskLaws.{each_from, shown_from, fits_one, write_row_free, write_row_fits}
 use Rattle.checker_ready.proofs.FaultLaws.{fault_to_write, ready_to_write}
 use Rattle.checker_ready.proofs.GoodLaws.{AreReadyAt-written}
-use Rattle.checker_ready.proofs.NoteLaws.{rows_noted}
-use Rattle.checker_ready.proofs.StayLaws.{rows_still}
+use Rattle.checker_ready.proofs.SettledLaws.{rows_still}
 
 -- ---- one page
-
--- a page that was written changes no frame but its own
-ChangesRange-written : (c d : Content) (v p : ℕ) → Written c v p d → ChangesRange c d v p (p + 1)
-ChangesRange-written c d v p written = record {
-  frame = λ w q apart. frame_at-other c d v p written w q (λ vmo page. apart vmo (omega (arith, page)) (omega (arith, page)));
-  below = λ w q apart low. omega (arith, low, written.kept.pages w);
-}
 
 module _ (c d : Content) (table : Entries) (rows : ReadyRows) (root p at : ℕ) (part : List ℕ) (page : TouchedPage) (good : IsGood c) (are : NotesAreTrue c table rows)
     (is : IsTouched Write c table (ready_in rows) root p page) (fits : at + length part ≤ PAGE)
@@ -45,11 +37,15 @@ module _ (c d : Content) (table : Entries) (rows : ReadyRows) (root p at : ℕ) 
   page_written : Written c page.entry.koid.0 page.entry.page d
   page_written = Written-from_WritesPiece c (record { koid = page.entry.koid.0; page = page.entry.page; at = at; bytes = part }) d good is.shows.below fits writes
 
-  -- a page that was noted
-  pub rows_written : (later : ReadyRows) → IsNotedReady Write d root p page.entry rows later → FitsRows d table (with_ready (settled c d table (ready_in rows)) root p Write) later
-  rows_written later noted =
-      let below : page.entry.page < pages_of d page.entry.koid.0 = omega (arith, is.shows.below, (page_written).kept.pages page.entry.koid.0) in
-      rows_noted Write c d table root p page.entry rows later are is.shows.is below (ChangesRange-written c d page.entry.koid.0 page.entry.page page_written) noted
+  -- no frame changes but that of the page that is shown, which lies in its VMO still
+  pub range_written : ChangesRange c d page.entry.koid.0 page.entry.page (page.entry.page + 1)
+  range_written = record {
+    frame = λ w q apart. frame_at-other c d page.entry.koid.0 page.entry.page page_written w q (λ vmo number. apart vmo (omega (arith, number)) (omega (arith, number)));
+    below = λ w q apart low. omega (arith, low, (page_written).kept.pages w);
+  }
+
+  pub shows_written : IsMappedInside d table root p page.entry
+  shows_written = record { is = is.shows.is; below = omega (arith, is.shows.below, (page_written).kept.pages page.entry.koid.0) }
 
   -- a sole page that was ready for writing
   pub rows_kept : sole c page.entry.koid.0 page.entry.page ≡ true → page.unready ≡ false → FitsRows d table (with_ready (settled c d table (ready_in rows)) root p Write) rows

@@ -1,6 +1,6 @@
 -- What is noted of the pages of address spaces that are ready, and what each call leaves of it.
-use Rattle.std.specs.Prelude.{◌≡◌, ℕ, zero, suc, ◌+◌, ◌-◌, ◌^◌, ◌<◌, ◌≤◌, Bool, true, false, not, ◌&&◌, ◌||◌, ◌==◌, nat_lt, if◌then◌else◌, Option, None, Some}
-use Rattle.std.specs.Option.{option_map}
+use Rattle.std.specs.Prelude.{◌≡◌, ℕ, zero, suc, ◌+◌, ◌-◌, ◌^◌, ◌<◌, ◌≤◌, Bool, true, false, not, ◌&&◌, ◌==◌, nat_lt, if◌then◌else◌, Option, None, Some}
+use Rattle.std.specs.Option.{option_map, option_and_then}
 use Rattle.vm_base.specs.declared.names.Tag.{Tag}
 use Rattle.vm_base.specs.Entries.{passes}
 use Rattle.vm_model.specs.declared.space.Entry.{Entry}
@@ -56,10 +56,6 @@ lowered made (Some stamp) =
     if nat_lt made stamp.since then Some stamp
     else (if nat_lt 1 stamp.notes then Some (record stamp { notes = stamp.notes - 1 }) else None)
 
--- how many more pages can be noted with no memory from the host
-abbrev pub notes_spare : Notes → ℕ
-notes_spare m = m.room
-
 -- what each page is ready for
 abbrev pub ready_in : ReadyRows → Ready
 ready_in rows root p = option_map (λ (x : ReadyPage). x.readiness) (rows root p)
@@ -70,59 +66,33 @@ has_frame c v p frame = is_same_frame (frame_number frame) (frame_at c v p) && n
 
 -- ---- what the calls change
 
--- the rows, with this one of page p of an address space
-unfoldable pub with_ready_row : ReadyRows → (root p : ℕ) → ReadyPage → ReadyRows
-with_ready_row rows root p row r q = if (r == root) && (q == p) then Some row else rows r q
+-- the row is of a page of the VMO v from `first` to below `end`
+abbrev pub is_row_in : (v first end : ℕ) → ReadyPage → Bool
+is_row_in v first end row = (row.koid.0 == v) && is_within first end row.page
 
--- the row, if it passes
-abbrev pub row_if : (ReadyPage → Bool) → Option ReadyPage → Option ReadyPage
-row_if stays row = if passes stays row then row else None
+-- the rows, with this change of each that is of such a page
+unfoldable pub changed_rows : (ReadyPage → Option ReadyPage) → (v first end : ℕ) → ReadyRows → ReadyRows
+changed_rows change v first end rows r q = option_and_then (λ row. if is_row_in v first end row then change row else Some row) (rows r q)
 
--- the rows that pass
-unfoldable pub kept_rows : (ReadyPage → Bool) → ReadyRows → ReadyRows
-kept_rows stays rows r q = row_if stays (rows r q)
+-- the row, if its page lies in its VMO, with the row's frame
+abbrev pub row_if_current : Content → ReadyPage → Option ReadyPage
+row_if_current c row = if has_frame c row.koid.0 row.page row.frame then Some row else None
+
+-- the row, for reading alone unless its page passes
+abbrev pub row_limited : (stays : ℕ → Bool) → ReadyPage → Option ReadyPage
+row_limited stays row = Some (if stays row.page then row else record row { readiness = Read })
 
 -- the rows, without those of an address space from page `first` to below `end`
 unfoldable pub without_range : ReadyRows → (root first end : ℕ) → ReadyRows
 without_range rows root first end r q = if (r == root) && is_within first end q then None else rows r q
-
--- the row is of page p of the VMO v
-abbrev pub is_row_of_page : (v p : ℕ) → ReadyPage → Bool
-is_row_of_page v p row = (row.koid.0 == v) && (row.page == p)
-
--- the row is of no page of the VMO v from `first` to below `end`
-abbrev pub is_row_outside : (v first end : ℕ) → ReadyPage → Bool
-is_row_outside v first end row = not ((row.koid.0 == v) && is_within first end row.page)
-
--- the row is of another page than page p of the VMO v, or has this frame
-abbrev pub agrees : (v p : ℕ) → Option Tag → ReadyPage → Bool
-agrees v p frame row = not (is_row_of_page v p row) || is_same_frame (frame_number row.frame) (frame_number frame)
-
--- the row is of no such page, or the page lies in the VMO and has the row's frame
-abbrev pub is_current : Content → (v first end : ℕ) → ReadyPage → Bool
-is_current c v first end row = is_row_outside v first end row || has_frame c v row.page row.frame
-
--- the row, for reading alone if it is of a page of the VMO v from `first` to below `end` that does not pass
-abbrev pub limited : (stays : ℕ → Bool) → (v first end : ℕ) → ReadyPage → ReadyPage
-limited stays v first end row =
-    record row { readiness = if (row.koid.0 == v) && is_within first end row.page && not (stays row.page) then Read else row.readiness }
-
--- the rows, with those of such pages for reading alone
-unfoldable pub limited_rows : (stays : ℕ → Bool) → (v first end : ℕ) → ReadyRows → ReadyRows
-limited_rows stays v first end rows r q = option_map (limited stays v first end) (rows r q)
 
 -- no row is of a page of the VMO v from `from` to below `end`
 pub record HasNoRow (rows : ReadyRows) (v from end : ℕ) : Type 0 where
   pub none : (r q : ℕ) (row : ReadyPage) → rows r q ≡ Some row → row.koid.0 ≡ v → from ≤ row.page → row.page < end → ⊥
 
 -- page p of the VMO v is shown by a page that is ready for an access
-pub record IsReadySomewhere (rows : ReadyRows) (v p : ℕ) : Type 0 where
-  pub root : ℕ
-  pub at : ℕ
-  pub row : ReadyPage
-  pub is : rows root at ≡ Some row
-  pub koid : row.koid.0 ≡ v
-  pub page : row.page ≡ p
+abbrev pub IsReadySomewhere : ReadyRows → (v p : ℕ) → Type 0
+IsReadySomewhere rows v p = (root : ℕ) × (at : ℕ) × (row : ReadyPage) × (rows root at ≡ Some row) × (row.koid.0 ≡ v) × (row.page ≡ p)
 
 -- ---- what holds of them
 
@@ -157,15 +127,18 @@ pub record AreNotes (m : Notes) : Type 0 where
 abbrev pub notes_of : Inside → Notes
 notes_of a = record { places = a.places; stamps = a.stamps; time = a.time; room = a.room }
 
--- the fields are notes
-pub record AreFields (a : Inside) : Type 0 where
-  pub notes : AreNotes (notes_of a)
+-- The row is of the entry that its page has in the table. What that shows lies in its VMO, and has the row's frame.
+pub record IsTrueNote (c : Content) (table : Entries) (root p : ℕ) (row : ReadyPage) : Type 0 where
+  pub entry : Entry
+  pub is : table root p ≡ Some entry
+  pub koid : row.koid.0 ≡ entry.koid.0
+  pub page : row.page ≡ entry.page
+  pub frame : frame_number row.frame ≡ frame_at c entry.koid.0 entry.page
+  pub below : entry.page < pages_of c entry.koid.0
 
--- Each row is of the entry that its page has in the table, and has the frame that the page of the VMO has, which lies in
--- its VMO.
-pub record NotesAreTrue (c : Content) (table : ℕ → ℕ → Option Entry) (rows : ReadyRows) : Type 0 where
-  pub entry : (root p : ℕ) (row : ReadyPage) → rows root p ≡ Some row → (entry : Entry) × (table root p ≡ Some entry) × (entry.koid.0 ≡ row.koid.0) × (entry.page ≡ row.page)
-  pub current : (root p : ℕ) (row : ReadyPage) → rows root p ≡ Some row → has_frame c row.koid.0 row.page row.frame ≡ true
+-- each row is
+abbrev pub NotesAreTrue : Content → Entries → ReadyRows → Type 0
+NotesAreTrue c table rows = (root p : ℕ) (row : ReadyPage) → rows root p ≡ Some row → IsTrueNote c table root p row
 
 -- by these notes the pages are ready for this, and they are true
 pub record FitsRows (c : Content) (table : Entries) (ready : Ready) (rows : ReadyRows) : Type 0 where

@@ -13,12 +13,12 @@ ghost use Rattle.mapping_set.specs.Backed.{AreBacked};
 ghost use Rattle.ready_pages.specs.Access.{DeniesRead, ReadsReady};
 ghost use Rattle.ready_pages.specs.Changes.{Entries};
 ghost use Rattle.checker_pages.specs.Eager.{eager_content};
-ghost use Rattle.checker_ready.specs.Notes.{rows_of, ready_in, notes_spare, FitsRows, NotesAreTrue, AreGoodNotes};
+ghost use Rattle.checker_ready.specs.Notes.{rows_of, ready_in, FitsRows, NotesAreTrue, AreGoodNotes};
 ghost use Rattle.checker_ready.specs.inside.Pages.{IsTouched, Touches, faults_in, list_of};
 
 use crate::finding::find_readable;
 use crate::places::{PagePlace, Place};
-use crate::ready_map::{ReadyMap, ReadyPage};
+use crate::ready_map::ReadyMap;
 use crate::touching::{Touched, TouchedPage, touch};
 use checker_pages::CheckerPages;
 use mapping_set::MappingSet;
@@ -72,7 +72,7 @@ fn read_touched(
 )
     requires fits { touched place.addr (length out.old) ≡ range_with_len (place.addr / PAGE) (length (list_of accessed)) }
     requires len { length out.old ≤ DATA_BYTES }
-    requires room { faults_in (list_of accessed) ≤ notes_spare ready.old }
+    requires room { faults_in (list_of accessed) ≤ ready.old.room }
     ensures reads { (table : Entries) → IsGood (eager_content pages.now)
         → first_of (read_refusals (eager_content pages.now) (table place.root.0) (touched place.addr (length out.old))) ≡ None
         → NotesAreTrue (eager_content pages.now) table (rows_of ready.old)
@@ -112,24 +112,18 @@ fn read_page(
     out: &mut [u8],
 )
     requires range { place.at + length out.old ≤ PAGE }
-    requires room { faults_in (page ∷ []) ≤ notes_spare ready.old }
+    requires room { faults_in (page ∷ []) ≤ ready.old.room }
     ensures bytes { out.new
         ≡ take (length out.old) (drop place.at (shown (eager_content pages.now) page.entry.koid.0 page.entry.page)) }
     ensures rows { (table : Entries) → NotesAreTrue (eager_content pages.now) table (rows_of ready.old)
         → IsTouched Readiness.Read (eager_content pages.now) table (ready_in (rows_of ready.old)) place.root.0 place.page page
         → FitsRows (eager_content pages.now) table
         (after_reading place.root.0 (place.page ∷ []) (ready_in (rows_of ready.old))) (rows_of ready.new) }
-    ensures room { notes_spare ready.old ≤ notes_spare ready.new + faults_in (page ∷ []) }
+    ensures room { ready.old.room ≤ ready.new.room + faults_in (page ∷ []) }
 {
     let entry = page.entry;
     pages.read(entry.koid, entry.page, place.at, out);
     if page.unready {
-        let row = ReadyPage {
-            koid: entry.koid,
-            page: entry.page,
-            frame: pages.frame(entry.koid, entry.page),
-            readiness: Readiness::Read,
-        };
-        ready.set(place.root, place.page, row);
+        ready.set(pages, place.root, place.page, entry, Readiness::Read);
     }
 }

@@ -1,13 +1,15 @@
 //! The map of what is ready.
 
-ghost use Rattle.std.specs.Prelude.{◌≡◌, ℕ, ◌+◌, ◌<◌, ◌≤◌, not, None, IsSome, IfSome, IfNone, OnOk, OnErr};
+ghost use Rattle.std.specs.Prelude.{◌≡◌, ℕ, ◌+◌, ◌<◌, ◌≤◌, not, true, None, Some, IsSome, IfSome, IfNone, OnOk, OnErr};
 ghost use Rattle.vm_model.specs.Contents.Content.{Content};
 ghost use Rattle.vm_model.specs.Naming.Pins.{is_pinned};
-ghost use Rattle.pair_map.specs.Maps.{values_of, count_of};
+ghost use Rattle.vm_model.specs.Space.Readiness.{settled, with_ready};
+ghost use Rattle.pair_map.specs.Maps.{values_of, count_of, with_pair};
 ghost use Rattle.pin_table.specs.Table.{pins_of};
 ghost use Rattle.checker_pages.specs.Eager.{eager_content};
-ghost use Rattle.ready_pages.specs.Changes.{Entries};
-ghost use Rattle.checker_ready.specs.Notes.{rows_of, notes_spare, with_ready_row, kept_rows, without_range, limited_rows, agrees, is_current, AreGoodNotes, HasNoRow, IsReadySomewhere};
+ghost use Rattle.ready_pages.specs.Changes.{Entries, ChangesRange};
+ghost use Rattle.checker_ready.specs.Notes.{rows_of, ready_in, has_frame, changed_rows, row_if_current, row_limited, without_range, FitsRows, NotesAreTrue, AreGoodNotes, HasNoRow, IsReadySomewhere};
+ghost use Rattle.checker_ready.specs.inside.Pages.{IsMappedInside};
 
 use crate::stamps::{Kept, Stamp, has_frame, lower, put, ready_page, stamp_for};
 use checker_pages::CheckerPages;
@@ -16,7 +18,7 @@ use pin_table::PinTable;
 use std::alloc::Global;
 use std::marker::Model;
 use vm_base::{HostMemory, Koid, PageNo, RegionName, Tag};
-use vm_model::Readiness;
+use vm_model::{Entry, Readiness};
 
 /// The note of a page of an address space that is ready for an access.
 #[derive(Clone, Copy, Debug, PartialEq, Eq)]
@@ -32,7 +34,7 @@ pub struct ReadyPage {
 }
 
 /// The notes of what the pages of all address spaces are ready for. Contracts see what is noted of each page that is ready
-/// (`rows_of`), by its root region and its number, and how many more can be noted with no memory from the host (`notes_spare`).
+/// (`rows_of`), by its root region and its number, and how many more can be noted with no memory from the host (`room`).
 #[derive(Drop)]
 pub struct ReadyMap {
     /// The note that was made of each page, by root region and page. It counts only as the stamp says.
@@ -46,13 +48,13 @@ pub struct ReadyMap {
 }
 
 impl Model for ReadyMap {
-    ghost use Rattle.checker_ready.specs.Notes.{Notes, notes_of, AreFields};
+    ghost use Rattle.checker_ready.specs.Notes.{Notes, notes_of, AreNotes};
 
     ghost Value = { Notes };
 
     ghost view = { notes_of };
 
-    ghost invariant = { AreFields };
+    ghost invariant = { λ a. AreNotes (notes_of a) };
 }
 
 impl ReadyMap {
@@ -72,10 +74,10 @@ impl ReadyMap {
     /// Makes room for `n` calls of `set`. `HostMemory` if the host has too little memory, or if the times would not fit 64
     /// bits.
     pub(crate) fn reserve(&mut self, n: u64) -> Result<(), HostMemory>
-        ensures room { OnOk result (n ≤ notes_spare self.new) }
+        ensures room { OnOk result (n ≤ self.new.room) }
         ensures wanted { OnErr result (1 ≤ n) }
         ensures same { rows_of self.new ≡ rows_of self.old }
-        ensures kept { notes_spare self.old ≤ notes_spare self.new }
+        ensures kept { self.old.room ≤ self.new.room }
     {
         if n <= self.room {
             return Ok(());
@@ -103,14 +105,31 @@ impl ReadyMap {
         }
     }
 
-    /// Notes a page of an address space, in place of what was noted of it. Other notes of the same page of the VMO do not
-    /// count any more if they have another frame. There is room.
-    pub(crate) fn set(&mut self, root: RegionName, page: PageNo, row: ReadyPage)
-        requires room { 1 ≤ notes_spare self.old }
-        ensures rows { rows_of self.new
-            ≡ with_ready_row (kept_rows (agrees row.koid.0 row.page row.frame) (rows_of self.old)) root.0 page row }
-        ensures spare { notes_spare self.new + 1 ≡ notes_spare self.old }
+    /// Notes a page of an address space as ready for this, in place of what was noted of it, with the frame that the page of its
+    /// entry has now. Other notes of that page of the VMO do not count any more if they have another frame. There is room.
+    pub(crate) fn set(
+        &mut self,
+        pages: &CheckerPages,
+        root: RegionName,
+        page: PageNo,
+        entry: Entry,
+        readiness: Readiness,
+    )
+        requires room { 1 ≤ self.old.room }
+        ensures rows { (before : Content) (table : Entries) → NotesAreTrue before table (rows_of self.old)
+            → IsMappedInside (eager_content pages.now) table root.0 page entry
+            → ChangesRange before (eager_content pages.now) entry.koid.0 entry.page (entry.page + 1)
+            → FitsRows (eager_content pages.now) table
+            (with_ready (settled before (eager_content pages.now) table (ready_in (rows_of self.old))) root.0 page readiness)
+            (rows_of self.new) }
+        ensures spare { self.new.room + 1 ≡ self.old.room }
     {
+        let row = ReadyPage {
+            koid: entry.koid,
+            page: entry.page,
+            frame: pages.frame(entry.koid, entry.page),
+            readiness,
+        };
         self.clear(root, page);
         self.note(root, page, row);
     }
@@ -119,8 +138,8 @@ impl ReadyMap {
     /// a snapshot shares the other pages. The call costs the pages of the range that have notes.
     pub(crate) fn restrict(&mut self, koid: Koid, first: PageNo, end: PageNo, pins: &PinTable)
         ensures rows { rows_of self.new
-            ≡ limited_rows (is_pinned (pins_of pins.now) koid.0) koid.0 first end (rows_of self.old) }
-        ensures spare { notes_spare self.new ≡ notes_spare self.old }
+            ≡ changed_rows (row_limited (is_pinned (pins_of pins.now) koid.0)) koid.0 first end (rows_of self.old) }
+        ensures spare { self.new.room ≡ self.old.room }
     {
         let mut from = first;
         while let Some(page) = self.next_before(koid, from, end) {
@@ -133,8 +152,9 @@ impl ReadyMap {
     /// has another frame now than was noted. The call costs the pages of the range that have notes.
     pub(crate) fn settle(&mut self, pages: &CheckerPages, koid: Koid, first: PageNo, end: PageNo)
         requires { IsSome ((eager_content pages.now).count koid.0) }
-        ensures rows { rows_of self.new ≡ kept_rows (is_current (eager_content pages.now) koid.0 first end) (rows_of self.old) }
-        ensures spare { notes_spare self.new ≡ notes_spare self.old }
+        ensures rows { rows_of self.new
+            ≡ changed_rows (row_if_current (eager_content pages.now)) koid.0 first end (rows_of self.old) }
+        ensures spare { self.new.room ≡ self.old.room }
     {
         let mut from = first;
         while let Some(page) = self.next_before(koid, from, end) {
@@ -147,7 +167,7 @@ impl ReadyMap {
     /// pages.
     pub(crate) fn drop_range(&mut self, root: RegionName, first: PageNo, end: PageNo)
         ensures rows { rows_of self.new ≡ without_range (rows_of self.old) root.0 first end }
-        ensures spare { notes_spare self.new ≡ notes_spare self.old }
+        ensures spare { self.new.room ≡ self.old.room }
     {
         while let Some(page) = self.place_before(root, first, end) {
             self.drop_place(root, page);
@@ -168,7 +188,7 @@ impl ReadyMap {
     fn clear(&mut self, root: RegionName, page: PageNo)
         ensures rows { rows_of self.new ≡ without_range (rows_of self.old) root.0 page (page + 1) }
         ensures none { values_of self.new.places root.0 page ≡ None }
-        ensures spare { notes_spare self.new ≡ notes_spare self.old }
+        ensures spare { self.new.room ≡ self.old.room }
     {
         if self.places.find(root.0 as u64, page).is_some() {
             self.drop_place(root, page);
@@ -178,10 +198,10 @@ impl ReadyMap {
     // Notes a page of an address space that has no note. There is room.
     fn note(&mut self, root: RegionName, page: PageNo, row: ReadyPage)
         requires none { values_of self.old.places root.0 page ≡ None }
-        requires room { 1 ≤ notes_spare self.old }
-        ensures rows { rows_of self.new
-            ≡ with_ready_row (kept_rows (agrees row.koid.0 row.page row.frame) (rows_of self.old)) root.0 page row }
-        ensures spare { notes_spare self.new + 1 ≡ notes_spare self.old }
+        requires room { 1 ≤ self.old.room }
+        ensures rows { (c : Content) → has_frame c row.koid.0 row.page row.frame ≡ true → rows_of self.new
+            ≡ with_pair (changed_rows (row_if_current c) row.koid.0 row.page (row.page + 1) (rows_of self.old)) root.0 page (Some row) }
+        ensures spare { self.new.room + 1 ≡ self.old.room }
     {
         let stamp = stamp_for(self.stamps.find(row.koid.0, row.page), row.frame, self.time);
         put(&mut self.stamps, row.koid.0, row.page, stamp);
@@ -213,8 +233,8 @@ impl ReadyMap {
     fn settle_page(&mut self, pages: &CheckerPages, koid: Koid, page: PageNo)
         requires { IsSome ((eager_content pages.now).count koid.0) }
         ensures rows { rows_of self.new
-            ≡ kept_rows (is_current (eager_content pages.now) koid.0 page (page + 1)) (rows_of self.old) }
-        ensures spare { notes_spare self.new ≡ notes_spare self.old }
+            ≡ changed_rows (row_if_current (eager_content pages.now)) koid.0 page (page + 1) (rows_of self.old) }
+        ensures spare { self.new.room ≡ self.old.room }
     {
         let Some(stamp) = self.stamps.find(koid.0, page) else {
             return;
@@ -226,8 +246,8 @@ impl ReadyMap {
 
     // Makes what shows a page of a VMO ready for reading at most, unless it stays.
     fn restrict_page(&mut self, koid: Koid, page: PageNo, stays: bool)
-        ensures rows { rows_of self.new ≡ limited_rows (λ q. stays) koid.0 page (page + 1) (rows_of self.old) }
-        ensures spare { notes_spare self.new ≡ notes_spare self.old }
+        ensures rows { rows_of self.new ≡ changed_rows (row_limited (λ q. stays)) koid.0 page (page + 1) (rows_of self.old) }
+        ensures spare { self.new.room ≡ self.old.room }
     {
         let Some(stamp) = self.stamps.find(koid.0, page) else {
             return;
@@ -255,7 +275,7 @@ impl ReadyMap {
         ensures rows { rows_of self.new ≡ without_range (rows_of self.old) root.0 page (page + 1) }
         ensures none { values_of self.new.places root.0 page ≡ None }
         ensures fewer { count_of self.new.places + 1 ≡ count_of self.old.places }
-        ensures spare { notes_spare self.new ≡ notes_spare self.old }
+        ensures spare { self.new.room ≡ self.old.room }
     {
         let kept = self.places.remove(root.0 as u64, page);
         lower(&mut self.stamps, kept);

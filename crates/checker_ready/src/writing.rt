@@ -13,12 +13,12 @@ ghost use Rattle.mapping_set.specs.Backed.{AreBacked};
 ghost use Rattle.ready_pages.specs.Access.{DeniesWrite, WritesReady};
 ghost use Rattle.ready_pages.specs.Changes.{Entries};
 ghost use Rattle.checker_pages.specs.Eager.{eager_content, eager_spare};
-ghost use Rattle.checker_ready.specs.Notes.{rows_of, ready_in, notes_spare, FitsRows, NotesAreTrue, AreGoodNotes};
+ghost use Rattle.checker_ready.specs.Notes.{rows_of, ready_in, FitsRows, NotesAreTrue, AreGoodNotes};
 ghost use Rattle.checker_ready.specs.inside.Pages.{IsTouched, Touches, MayWrite, MayWritePage, faults_in, list_of};
 
 use crate::finding::find_writable;
 use crate::places::{PagePlace, Place};
-use crate::ready_map::{ReadyMap, ReadyPage};
+use crate::ready_map::ReadyMap;
 use crate::touching::{Touched, TouchedPage, touch};
 use checker_pages::CheckerPages;
 use mapping_set::MappingSet;
@@ -62,7 +62,7 @@ pub(crate) fn write(
 // Makes room for so many page faults: for owning two pages, if there are any, and for a note for each.
 fn make_room(pages: &mut CheckerPages, ready: &mut ReadyMap, faults: u64) -> Result<(), HostMemory>
     ensures rows { OnOk result (1 ≤ faults → 2 ≤ eager_spare pages.new) }
-    ensures notes { OnOk result (faults ≤ notes_spare ready.new) }
+    ensures notes { OnOk result (faults ≤ ready.new.room) }
     ensures wanted { OnErr result (1 ≤ faults) }
     ensures content { eager_content pages.new ≡ eager_content pages.old }
     ensures same { rows_of ready.new ≡ rows_of ready.old }
@@ -91,7 +91,7 @@ fn write_touched(
     requires may { MayWrite (eager_content pages.old) place.addr (length bytes.now) (list_of accessed) }
     requires len { length bytes.now ≤ DATA_BYTES }
     requires room { 1 ≤ faults_in (list_of accessed) → 2 ≤ eager_spare pages.old }
-    requires notes { faults_in (list_of accessed) ≤ notes_spare ready.old }
+    requires notes { faults_in (list_of accessed) ≤ ready.old.room }
     ensures writes { (table : Entries)
         → first_of (write_refusals (eager_content pages.old) (table place.root.0) (touched place.addr (length bytes.now))) ≡ None
         → NotesAreTrue (eager_content pages.old) table (rows_of ready.old)
@@ -135,7 +135,7 @@ fn write_page(
     requires own { MayOwn (eager_content pages.old) page.entry.koid.0 page.entry.page }
     requires range { place.at + length bytes.now ≤ PAGE }
     requires room { faults_in (page ∷ []) ≤ eager_spare pages.old }
-    requires notes { faults_in (page ∷ []) ≤ notes_spare ready.old }
+    requires notes { faults_in (page ∷ []) ≤ ready.old.room }
     ensures piece { WritesPiece (eager_content pages.old)
         (record { koid = page.entry.koid.0; page = page.entry.page; at = place.at; bytes = bytes.now }) (eager_content pages.new) }
     ensures rows { (table : Entries) → NotesAreTrue (eager_content pages.old) table (rows_of ready.old)
@@ -144,17 +144,11 @@ fn write_page(
         (with_ready (settled (eager_content pages.old) (eager_content pages.new) table (ready_in (rows_of ready.old)))
         place.root.0 place.page Readiness.Write) (rows_of ready.new) }
     ensures room { eager_spare pages.old ≤ eager_spare pages.new + 1 }
-    ensures notes { notes_spare ready.old ≤ notes_spare ready.new + faults_in (page ∷ []) }
+    ensures notes { ready.old.room ≤ ready.new.room + faults_in (page ∷ []) }
 {
     let entry = page.entry;
     pages.write(entry.koid, entry.page, place.at, bytes);
     if page.unready {
-        let row = ReadyPage {
-            koid: entry.koid,
-            page: entry.page,
-            frame: pages.frame(entry.koid, entry.page),
-            readiness: Readiness::Write,
-        };
-        ready.set(place.root, place.page, row);
+        ready.set(pages, place.root, place.page, entry, Readiness::Write);
     }
 }

@@ -9,14 +9,12 @@ use Rattle.vm_model.specs.declared.space.Readiness.TheVariants.{Read, Write}
 use Rattle.vm_model.specs.Contents.Content.{Content, pages_of, shown, used, sole, hold, IsGood}
 use Rattle.vm_model.specs.Contents.Owning.{VmoPage, need_each}
 use Rattle.vm_model.specs.Contents.Writing.{touched}
-use Rattle.vm_model.specs.Space.Readiness.{Ready, is_writable, frame_at, frame_number}
+use Rattle.vm_model.specs.Space.Readiness.{Ready, is_writable, frame_at}
 use Rattle.vm_model.specs.Machine.Access.{page_shown}
 use Rattle.ready_pages.specs.Changes.{Entries}
 use Rattle.checker_ready.specs.declared.touching.Touched.{Touched}
 use Rattle.checker_ready.specs.declared.touching.Touched.TheVariants.{No, One, Two}
 use Rattle.checker_ready.specs.declared.touching.TouchedPage.{TouchedPage}
-use Rattle.checker_ready.specs.declared.ready_map.ReadyPage.{ReadyPage}
-use Rattle.checker_ready.specs.Notes.{ReadyRows, with_ready_row, kept_rows, agrees}
 
 -- ---- pages that are touched
 
@@ -80,15 +78,6 @@ pub record IsTouched (wanted : Readiness) (c : Content) (table : Entries) (ready
 abbrev pub faults_in : List TouchedPage → ℕ
 faults_in [] = 0
 faults_in (page ∷ pages) = (if page.unready then 1 else 0) + faults_in pages
-
--- a page that was noted as ready for this shows this entry, and its note has the frame that the entry's page has in c
-pub record IsNotedReady (readiness : Readiness) (c : Content) (root p : ℕ) (entry : Entry) (old new : ReadyRows) : Type 0 where
-  pub row : ReadyPage
-  pub koid : row.koid.0 ≡ entry.koid.0
-  pub page : row.page ≡ entry.page
-  pub frame : frame_number row.frame ≡ frame_at c entry.koid.0 entry.page
-  pub readiness_is : row.readiness ≡ readiness
-  pub rows : new ≡ with_ready_row (kept_rows (agrees row.koid.0 row.page row.frame) old) root p row
 
 -- ---- writing
 

@@ -7,15 +7,14 @@ use Rattle.checker_ready.proofs.RowLaws.{rows-dropped, AreNotes-dropped}
 use Rattle.checker_ready.proofs.ready_map.ReadyMap.drop_place.Goals as goal
 
 pub invariant_of-self : goal.invariant_of-self
-invariant_of-self c = record {
-  notes = AreNotes-dropped (notes_of c.self.inside) c.args.root.0 c.args.page c.remove-kept.result c.remove-kept.new.self c.lower.new.stamps c.self.invariant.notes
-      c.remove-kept.ensures.value c.remove-kept.ensures.values c.lower.ensures.values
-      (omega (arith, c.self.invariant.notes.places_room, c.remove-kept.ensures.spare)) (omega (arith, c.self.invariant.notes.stamps_room, c.lower.ensures.spare));
-}
+invariant_of-self c =
+    AreNotes-dropped (notes_of c.self.inside) c.args.root.0 c.args.page c.remove-kept.result c.remove-kept.new.self c.lower.new.stamps c.self.invariant
+    c.remove-kept.ensures.value c.remove-kept.ensures.values c.lower.ensures.values
+    (omega (arith, c.self.invariant.places_room, c.remove-kept.ensures.spare)) (omega (arith, c.self.invariant.stamps_room, c.lower.ensures.spare))
 
 pub returns-clause-rows : goal.returns-clause-rows
 returns-clause-rows c =
-    rw (← c.self.view_is) (rows-dropped (notes_of c.self.inside) c.args.root.0 c.args.page c.remove-kept.result c.remove-kept.new.self c.lower.new.stamps c.self.invariant.notes
+    rw (← c.self.view_is) (rows-dropped (notes_of c.self.inside) c.args.root.0 c.args.page c.remove-kept.result c.remove-kept.new.self c.lower.new.stamps c.self.invariant
     c.remove-kept.ensures.value c.remove-kept.ensures.values c.lower.ensures.values)
 
 pub returns-clause-none : goal.returns-clause-none

@@ -1,13 +1,13 @@
 use Rattle.std.proofs.Common.{◌≡◌}
 use Rattle.pair_map.specs.Maps.{count_of}
-use Rattle.checker_ready.specs.Notes.{rows_of, notes_spare, without_range}
+use Rattle.checker_ready.specs.Notes.{rows_of, without_range}
 use Rattle.checker_ready.proofs.ready_map.ReadyMap.drop_range.Given as goal
 
 -- what is left to be dropped
 abbrev pub invariant-loop-page : goal.invariant-loop-page
 invariant-loop-page l = record {
   rest : without_range (rows_of l.self) l.root.0 l.first l.end ≡ without_range (rows_of l.initial.self) l.root.0 l.first l.end;
-  spare : notes_spare l.self ≡ notes_spare l.initial.self;
+  spare : l.self.room ≡ l.initial.self.room;
 }
 
 abbrev pub decreases-loop-page : goal.decreases-loop-page

@@ -1,15 +1,15 @@
 use Rattle.std.proofs.Common.{refl, inl, inr, ◌∙◌, arith}
 use Rattle.vm_model.specs.Naming.Pins.{is_pinned}
 use Rattle.pin_table.specs.Table.{pins_of}
-use Rattle.checker_ready.specs.Notes.{rows_of}
-use Rattle.checker_ready.proofs.RowLaws.{limited-start, limited-next, limited-end, pinned-one}
+use Rattle.checker_ready.specs.Notes.{rows_of, row_limited}
+use Rattle.checker_ready.proofs.RowLaws.{changed-start, changed-next, changed-end, limited-alike, limited-leaves, pinned-one}
 use Rattle.checker_ready.proofs.ready_map.ReadyMap.restrict.Goals as goal
 
 pub loop-page-init : goal.loop-page-init
 loop-page-init c = record {
   first = omega arith;
   end = inr refl;
-  rows = limited-start (is_pinned (pins_of c.args.pins.now) c.args.koid.0) c.args.koid.0 c.args.first (rows_of c.args.self.now);
+  rows = changed-start (row_limited (is_pinned (pins_of c.args.pins.now) c.args.koid.0)) c.args.koid.0 c.args.first (rows_of c.args.self.now);
   spare = refl;
 }
 
@@ -23,13 +23,14 @@ loop-page-preserved c =
     record {
       first = omega (arith, some.0, inv.first);
       end = inl (omega (arith, some.1));
-      rows = limited-next (is_pinned (pins_of c.args.pins.now) c.args.koid.0) c.args.koid.0 c.args.first c.loop-page.from c.args.end (rows_of c.args.self.now) (rows_of c.loop-page.self) inv.rows
-          (rows_of c.restrict_page.new.self) c.in-Some.page c.pinned.result inv.first some.0 some.2
-          (c.pinned.ensures ∙ pinned-one (pins_of c.args.pins.now) c.args.koid.0 c.in-Some.page) c.restrict_page.ensures.rows;
+      rows = changed-next (row_limited (is_pinned (pins_of c.args.pins.now) c.args.koid.0)) c.args.koid.0 c.args.first c.loop-page.from c.args.end (rows_of c.args.self.now) (rows_of c.loop-page.self) inv.rows
+          (row_limited (λ q. c.pinned.result)) c.in-Some.page
+          (limited-alike (is_pinned (pins_of c.args.pins.now) c.args.koid.0) c.pinned.result c.in-Some.page (c.pinned.ensures ∙ pinned-one (pins_of c.args.pins.now) c.args.koid.0 c.in-Some.page))
+          (limited-leaves (is_pinned (pins_of c.args.pins.now) c.args.koid.0)) (rows_of c.restrict_page.new.self) inv.first some.0 some.2 c.restrict_page.ensures.rows;
       spare = c.restrict_page.ensures.spare ∙ inv.spare;
     }
 
 pub returns-clause-rows : goal.returns-clause-rows
 returns-clause-rows c =
     let inv = c.loop-page.invariant in
-    limited-end (is_pinned (pins_of c.args.pins.now) c.args.koid.0) c.args.koid.0 c.args.first c.loop-page.from c.args.end (rows_of c.args.self.now) (rows_of c.loop-page.self) inv.rows inv.end c.in_default.ensures.none
+    changed-end (row_limited (is_pinned (pins_of c.args.pins.now) c.args.koid.0)) c.args.koid.0 c.args.first c.loop-page.from c.args.end (rows_of c.args.self.now) (rows_of c.loop-page.self) inv.rows inv.end c.in_default.ensures.none

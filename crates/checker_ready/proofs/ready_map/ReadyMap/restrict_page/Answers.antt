@@ -7,12 +7,10 @@ use Rattle.checker_ready.proofs.ready_map.ReadyMap.restrict_page.Goals as goal
 pub invariant_of-self : goal.invariant_of-self
 invariant_of-self c =
     let found = sym c.find.ensures ∙ c.in-Some.is in
-    record {
-      notes = AreNotes-stamped (notes_of c.self.inside) c.args.koid.0 c.args.page c.replace.new.self _ c.self.invariant.notes c.replace.ensures.values
-          (c.self.invariant.notes.stamped c.args.koid.0 c.args.page c.in-Some.stamp found).0 (omega arith)
-          (c.self.invariant.notes.counted c.args.koid.0 c.args.page c.in-Some.stamp found) (c.self.invariant.notes.noted c.args.koid.0 c.args.page c.in-Some.stamp found)
-          (omega (arith, c.self.invariant.notes.stamps_room, c.replace.ensures.spare));
-    }
+    AreNotes-stamped (notes_of c.self.inside) c.args.koid.0 c.args.page c.replace.new.self _ c.self.invariant c.replace.ensures.values
+    (c.self.invariant.stamped c.args.koid.0 c.args.page c.in-Some.stamp found).0 (omega arith)
+    (c.self.invariant.counted c.args.koid.0 c.args.page c.in-Some.stamp found) (c.self.invariant.noted c.args.koid.0 c.args.page c.in-Some.stamp found)
+    (omega (arith, c.self.invariant.stamps_room, c.replace.ensures.spare))
 
 pub returns-in_default-clause-rows : goal.returns-in_default-clause-rows
 returns-in_default-clause-rows c =
@@ -20,7 +18,7 @@ returns-in_default-clause-rows c =
 
 pub returns-then-not-stays-clause-rows : goal.returns-then-not-stays-clause-rows
 returns-then-not-stays-clause-rows c =
-    rw c.if-not-stays.true (rw (← c.self.view_is) (rows-limited (notes_of c.self.inside) c.args.koid.0 c.args.page c.replace.new.self c.self.invariant.notes c.in-Some.stamp (sym c.find.ensures ∙ c.in-Some.is) c.replace.ensures.values))
+    rw c.if-not-stays.true (rw (← c.self.view_is) (rows-limited (notes_of c.self.inside) c.args.koid.0 c.args.page c.replace.new.self c.self.invariant c.in-Some.stamp (sym c.find.ensures ∙ c.in-Some.is) c.replace.ensures.values))
 
 pub returns-else-not-stays-clause-rows : goal.returns-else-not-stays-clause-rows
 returns-else-not-stays-clause-rows c = rw (← c.self.view_is) (rows-unlimited (notes_of c.self.inside) c.args.koid.0 c.args.page c.args.stays (inr c.if-not-stays.false))

@@ -1,12 +1,9 @@
-use Rattle.std.proofs.Common.{Bool, ap, ◌∙◌}
-use Rattle.checker_ready.specs.declared.ready_map.ReadyPage.{ReadyPage}
-use Rattle.checker_ready.specs.Notes.{ReadyRows, rows_of, agrees, kept_rows, with_ready_row}
-use Rattle.checker_ready.proofs.RowLaws.{row-cleared}
+use Rattle.checker_pages.specs.Eager.{eager_content}
+use Rattle.checker_ready.specs.Notes.{rows_of}
+use Rattle.checker_ready.proofs.NoteLaws.{rows_replaced}
 use Rattle.checker_ready.proofs.ready_map.ReadyMap.set.Goals as goal
 
 pub returns-clause-rows : goal.returns-clause-rows
-returns-clause-rows c =
-    let stays : ReadyPage → Bool = agrees c.args.row.koid.0 c.args.row.page c.args.row.frame in
-    c.note.ensures.rows
-    ∙ (ap (λ (rows : ReadyRows). with_ready_row (kept_rows stays rows) c.args.root.0 c.args.page c.args.row) c.clear.ensures.rows
-    ∙ row-cleared (rows_of c.args.self.now) c.args.root.0 c.args.page c.args.row stays)
+returns-clause-rows c = λ before table are shows change.
+    rows_replaced before (eager_content c.args.pages.now) table c.args.root.0 c.args.page c.args.entry c.frame.result c.args.readiness (rows_of c.args.self.now) (rows_of c.clear.new.self) (rows_of c.note.new.self)
+    c.frame.ensures c.clear.ensures.rows (c.note.ensures.rows (eager_content c.args.pages.now)) are shows change

@@ -1,14 +1,14 @@
 use Rattle.std.proofs.Common.{refl, inl, inr, ◌∙◌, arith}
 use Rattle.checker_pages.specs.Eager.{eager_content}
-use Rattle.checker_ready.specs.Notes.{rows_of}
-use Rattle.checker_ready.proofs.RowLaws.{settled-start, settled-next, settled-end}
+use Rattle.checker_ready.specs.Notes.{rows_of, row_if_current}
+use Rattle.checker_ready.proofs.RowLaws.{changed-start, changed-next, changed-end, current-leaves}
 use Rattle.checker_ready.proofs.ready_map.ReadyMap.settle.Goals as goal
 
 pub loop-page-init : goal.loop-page-init
 loop-page-init c = record {
   first = omega arith;
   end = inr refl;
-  rows = settled-start (eager_content c.args.pages.now) c.args.koid.0 c.args.first (rows_of c.args.self.now);
+  rows = changed-start (row_if_current (eager_content c.args.pages.now)) c.args.koid.0 c.args.first (rows_of c.args.self.now);
   spare = refl;
 }
 
@@ -22,12 +22,12 @@ loop-page-preserved c =
     record {
       first = omega (arith, some.0, inv.first);
       end = inl (omega (arith, some.1));
-      rows = settled-next (eager_content c.args.pages.now) c.args.koid.0 c.args.first c.loop-page.from c.args.end (rows_of c.args.self.now) (rows_of c.loop-page.self) inv.rows
-          (rows_of c.settle_page.new.self) c.in-Some.page inv.first some.0 some.2 c.settle_page.ensures.rows;
+      rows = changed-next (row_if_current (eager_content c.args.pages.now)) c.args.koid.0 c.args.first c.loop-page.from c.args.end (rows_of c.args.self.now) (rows_of c.loop-page.self) inv.rows
+          (row_if_current (eager_content c.args.pages.now)) c.in-Some.page (λ x same. refl) (current-leaves (eager_content c.args.pages.now)) (rows_of c.settle_page.new.self) inv.first some.0 some.2 c.settle_page.ensures.rows;
       spare = c.settle_page.ensures.spare ∙ inv.spare;
     }
 
 pub returns-clause-rows : goal.returns-clause-rows
 returns-clause-rows c =
     let inv = c.loop-page.invariant in
-    settled-end (eager_content c.args.pages.now) c.args.koid.0 c.args.first c.loop-page.from c.args.end (rows_of c.args.self.now) (rows_of c.loop-page.self) inv.rows inv.end c.in_default.ensures.none
+    changed-end (row_if_current (eager_content c.args.pages.now)) c.args.koid.0 c.args.first c.loop-page.from c.args.end (rows_of c.args.self.now) (rows_of c.loop-page.self) inv.rows inv.end c.in_default.ensures.none

@@ -1,6 +1,6 @@
 use Rattle.std.proofs.Common.{◌≡◌, ◌⊎◌, ◌-◌, ◌≤◌}
 use Rattle.checker_pages.specs.Eager.{eager_content}
-use Rattle.checker_ready.specs.Notes.{rows_of, notes_spare, kept_rows, is_current}
+use Rattle.checker_ready.specs.Notes.{rows_of, changed_rows, row_if_current}
 use Rattle.checker_ready.proofs.ready_map.ReadyMap.settle.Given as goal
 
 -- the pages up to here are settled
@@ -8,8 +8,8 @@ abbrev pub invariant-loop-page : goal.invariant-loop-page
 invariant-loop-page l = record {
   first : l.first ≤ l.from;
   end : (l.from ≤ l.end) ⊎ (l.from ≡ l.first);
-  rows : rows_of l.self ≡ kept_rows (is_current (eager_content l.pages) l.koid.0 l.first l.from) (rows_of l.initial.self);
-  spare : notes_spare l.self ≡ notes_spare l.initial.self;
+  rows : rows_of l.self ≡ changed_rows (row_if_current (eager_content l.pages)) l.koid.0 l.first l.from (rows_of l.initial.self);
+  spare : l.self.room ≡ l.initial.self.room;
 }
 
 abbrev pub decreases-loop-page : goal.decreases-loop-page

@@ -10,10 +10,9 @@ use Rattle.checker_ready.proofs.RowLaws.{rows-settled, rows-current, AreNotes-un
 use Rattle.checker_ready.proofs.ready_map.ReadyMap.settle_page.Goals as goal
 
 pub invariant_of-self : goal.invariant_of-self
-invariant_of-self c = record {
-  notes = AreNotes-unstamped (notes_of c.self.inside) c.args.koid.0 c.args.page c.remove.new.self c.self.invariant.notes c.remove.ensures.values
-      (omega (arith, c.self.invariant.notes.stamps_room, c.remove.ensures.spare));
-}
+invariant_of-self c =
+    AreNotes-unstamped (notes_of c.self.inside) c.args.koid.0 c.args.page c.remove.new.self c.self.invariant c.remove.ensures.values
+    (omega (arith, c.self.invariant.stamps_room, c.remove.ensures.spare))
 
 pub returns-in_default-clause-rows : goal.returns-in_default-clause-rows
 returns-in_default-clause-rows c =
