@@ -41,7 +41,7 @@ module _ (old new : Machine) (command : Command) (told : ℕ) where
       (λ answer. MachineStep old command (reply_for answer) new)
 
   step_or_none : (given : Option Answer) → IsGiven given → IsStepOrNone given
-  step_or_none None lacks = (lacks.kept, lacks.asks, lacks.none, no_step old command told lacks.none lacks.asks (lacks.never told refl))
+  step_or_none None lacks = let misses = lacks.misses in (lacks.kept, misses.asks, misses.none, no_step old command told misses.none misses.asks (misses.never told refl))
   step_or_none (Some answer) step = step
 
   -- the machine stays as it is for want of memory

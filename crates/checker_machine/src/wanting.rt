@@ -18,7 +18,6 @@ ghost use Rattle.checker_pages.specs.Eager.{eager_content};
 ghost use Rattle.machine.specs.Groups.{group_of};
 ghost use Rattle.machine.specs.declared.groups.Group.{Group};
 ghost use Rattle.checker_machine.specs.Machine.{ready_by};
-ghost use Rattle.machine.specs.Machine.{with_memory};
 ghost use Rattle.checker_machine.specs.inside.Wanting.{may_lack, may_want};
 
 use checker_pages::CheckerPages;
@@ -388,8 +387,9 @@ pub(crate) fn memory_wants(
 ) -> bool
     requires group { group_of call.now ≡ Group.Memory }
     requires backed { AreBacked (eager_content pages.now) (table_of maps.now) }
-    ensures { (s : State) → result ≡ may_want (with_memory s (eager_content pages.now)
-        (spaces_of (regions_of regions.now) (table_of maps.now)) (ready_by ready.now)) (command_of call.now) }
+    ensures { (s : State) → result ≡ may_want (record {
+        state = record s { content = eager_content pages.now; spaces = spaces_of (regions_of regions.now) (table_of maps.now) };
+        ready = ready_by ready.now }) (command_of call.now) }
 {
     match call {
         Call::MemRead { region, addr, len } => {

@@ -1,11 +1,13 @@
 -- The machine's answer to a call, put together from what the handlers of commands and what keeps the ready pages promise.
 use Rattle.std.proofs.Common.{◌≡◌, ℕ, Option, None, Some, refl, sym, ap, subst, ◌∙◌, inl, inr}
 use Rattle.vm_base.specs.declared.refusal.Refusal.{Refusal}
+use Rattle.vm_model.specs.declared.call.Call.{Call}
 use Rattle.vm_model.specs.declared.command.Command.{Command}
 use Rattle.vm_model.specs.declared.reply.Reply.{Reply}
 use Rattle.vm_model.specs.declared.space.Readiness.{Readiness}
 use Rattle.vm_model.specs.Contents.Content.{Content}
 use Rattle.vm_model.specs.Space.Readiness.{Ready, settled}
+use Rattle.vm_model.specs.Machine.Lent.{command_of}
 use Rattle.vm_model.specs.Machine.State.{State, IsGoodState}
 use Rattle.vm_model.specs.Machine.Given.{GivesName}
 use Rattle.vm_model.specs.Machine.Refusals.{refusals, first_of}
@@ -18,12 +20,19 @@ use Rattle.mapping_set.specs.Tables.{table_of}
 use Rattle.ready_pages.specs.declared.change.Change.{Change}
 use Rattle.ready_pages.specs.Changes.{Entries, Covers, AreReadyAt, IsBounded, left_ready}
 use Rattle.ready_pages.proofs.SettledLaws.{settled-none, settled-stays}
-use Rattle.machine.specs.Machine.{MachineParts, spaces_in, state_of, machine_of_parts, IsSoundMachine}
+use Rattle.machine.specs.Groups.{group_of}
+use Rattle.machine.specs.declared.groups.Group.{Group}
+use Rattle.machine.specs.Machine.{MachineParts, state_of, machine_of_parts, IsSoundMachine}
 use Rattle.machine.specs.inside.Changes.{change_after, IsNoAccess}
-use Rattle.machine.specs.inside.Steps.{DoesAccess, StepsSame}
 use Rattle.machine.proofs.BoundLaws.{done_bounded}
 use Rattle.machine.proofs.StaysLaws.{EntryStays-same}
 use Rattle.machine.proofs.EffectLaws.{effect_settles, covers_same}
+
+-- a call of another group is no access
+pub no_access : (call : Call) → (group_of call ≡ Group.Memory → ⊥) → IsNoAccess (command_of call)
+no_access (Call.MemRead region addr len) other = absurd (other refl)
+no_access (Call.MemWrite region addr bytes) other = absurd (other refl)
+no_access _ other = tt
 
 -- what is ready stays where no content and no entry changes
 settled_same : (m : Machine) → IsGoodMachine m → settled m.state.content m.state.content m.state.spaces.table m.ready ≡ m.ready
@@ -104,17 +113,11 @@ module _ {R : Type 0} (ready : R → Ready) (AreTrue : Content → Entries → R
       let keeps = MachineStep-keeps m command reply (machine_of_parts ready d new) sound.good gives whole in
       answered whole (notes c (table_of old.maps) (table_of new.maps) sound.notes covers (ready_at (machine_of_parts ready d new) keeps.good))
 
-  -- by an access
-  pub access_answered : DoesAccess (spaces_in old) c (ready old.ready) command reply d (ready new.ready) → new ≡ record old { ready = new.ready } → AreTrue d (table_of old.maps) new.ready
-      → Answers ready AreTrue c old command reply d new
-  access_answered does same notes =
-      answered (subst (λ (m : MachineParts R). MachineStep (machine_of_parts ready c old) command reply (machine_of_parts ready d m)) (sym same) (does.step (state_of c old)))
-      (subst (λ (m : MachineParts R). AreTrue d (table_of m.maps) new.ready) (sym same) notes)
-
--- a command was answered by pages that do not change, and nothing else did
+-- by one that leaves the pages and the tables as they are
 pub same_answered : {R : Type 0} (ready : R → Ready) (AreTrue : Content → Entries → R → Type 0) (c : Content) (m : MachineParts R) (command : Command) (reply : Reply)
-    → IsSoundMachine ready AreTrue c m → StepsSame c command reply → Answers ready AreTrue c m command reply c m
-same_answered ready AreTrue c m command reply sound same =
+    → IsSoundMachine ready AreTrue c m → GivesName command → IsNoAccess command → Step (state_of c m) command reply (state_of c m) → Change.None ≡ change_after (state_of c m) command reply
+    → Answers ready AreTrue c m command reply c m
+same_answered ready AreTrue c m command reply sound gives access step none =
     let old = machine_of_parts ready c m in
-    let stays = ap (λ (ch : Change). left_ready ch old.state.pins old.state.spaces.table (settled c c old.state.spaces.table old.ready)) (same.changes old.state) ∙ settled_same old sound.good in
-    answered ready AreTrue c m command reply c m sound same.name (step_leaves old command reply old.state sound.good same.access (same.step old.state) old.ready (sym stays)) sound.notes
+    let stays = ap (λ (ch : Change). left_ready ch old.state.pins old.state.spaces.table (settled c c old.state.spaces.table old.ready)) (sym none) ∙ settled_same old sound.good in
+    answered ready AreTrue c m command reply c m sound gives (step_leaves old command reply old.state sound.good access step old.ready (sym stays)) sound.notes

@@ -1,9 +1,10 @@
--- What a command on VMOs may change of what is ready, and where its pages lie.
+-- What a command may change of what is ready, and where its pages lie.
 use Rattle.std.proofs.Common.{◌≡◌, ◌≢◌, ℕ, ◌+◌, ◌-◌, ◌*◌, ◌/◌, ◌≤◌, length, Option, None, Some, refl, sym, ap, subst, ◌∙◌, inl, inr, arith}
 use Rattle.std.specs.Prelude.{Result, IfOk, MatchResult}
 use Rattle.std.specs.declared.result.Result.TheVariants.{Ok, Err}
 use Rattle.std.proofs.lemmas.Bool.{ltb-false}
 use Rattle.std.proofs.lemmas.List.FromFn.{length-range_with_len}
+use Rattle.vm_base.specs.Pages.{rounded}
 use Rattle.vm_base.specs.declared.limits.TheConstants.{PAGE, VMO_PAGES}
 use Rattle.vm_base.specs.declared.names.PinName.{PinName}
 use Rattle.vm_base.specs.declared.names.VmoName.{VmoName}
@@ -13,23 +14,26 @@ use Rattle.vm_model.specs.declared.command.Command.TheVariants.{VmoPin}
 use Rattle.vm_model.specs.declared.names.Target.{Target}
 use Rattle.vm_model.specs.declared.reply.Reply.{Reply}
 use Rattle.vm_model.specs.declared.reply.Reply.TheVariants.{Done, Refused}
+use Rattle.vm_model.specs.declared.space.Region.{Region}
 use Rattle.vm_model.specs.Contents.Content.{Content, pages_of}
 use Rattle.vm_model.specs.Contents.Writing.{touched}
+use Rattle.vm_model.specs.Space.Regions.{region_of, end_of}
+use Rattle.vm_model.specs.Machine.Given.{GivesName}
 use Rattle.vm_model.specs.Machine.State.{State, target_of, size_of, IsGoodState}
 use Rattle.vm_model.specs.Machine.Refusals.{refusals, first_of}
 use Rattle.vm_model.specs.Machine.Step.{StepAfter, Step, reply_of}
 use Rattle.vm_model.proofs.ContentLaws.{pages_of_le}
 use Rattle.vm_model.proofs.NamesLaws.{target_of-at}
+use Rattle.vm_model.proofs.RegionLaws.{region_of-at}
 use Rattle.vm_model.proofs.StepLaws.{AllOff-from_none, place_inside}
-use Rattle.vmo_table.specs.Table.{Vmos, names_of, with_vmos}
-use Rattle.pin_table.specs.Table.{Pins}
+use Rattle.vmo_table.specs.Table.{names_of}
 use Rattle.vmo_ops.specs.declared.ranges.TouchedPages.{TouchedPages}
 use Rattle.vmo_ops.specs.Ranges.{AreTouched}
-use Rattle.vmo_ops.specs.Targets.{with_tables}
-use Rattle.region_ops.proofs.PlaceLaws.{Step-refused}
 use Rattle.ready_pages.specs.declared.change.Change.{Change}
-use Rattle.machine.specs.inside.Changes.{range_part, change_made, change_after}
-use Rattle.machine.specs.inside.Steps.{Steps, ChangesVmos, ChangesTables}
+use Rattle.machine.specs.declared.tables.Tables.{Tables}
+use Rattle.machine.specs.inside.Changes.{range_part, region_part, change_made}
+use Rattle.machine.specs.inside.Fields.{state_in, IsCounted}
+use Rattle.machine.specs.inside.Steps.{Handles}
 
 -- ---- ranges of bytes
 
@@ -52,18 +56,21 @@ pub changed_named : (s : State) (name : ℕ) {target : Target} {change : Change}
     → change ≡ of (target_of s name)
 changed_named s name {target} of named e = e ∙ ap of (sym (target_of-at s name target (sym named)))
 
--- a range of a name, if the command was done
-pub changes_range : {old : Content} (vmos : Vmos) (name : VmoName) {target : Target} (command : Command) (offset len : ℕ) {change : Change}
-    → ((s : State) (reply : Reply) → change_made s command reply ≡ range_part (target_of s name.0) offset len)
-    → Some target ≡ names_of vmos name.0 → (outcome : Result TouchedPages Refusal) → IfOk outcome (AreTouched (target.first * PAGE + offset) len)
+-- a command that changes pages of a range of a name
+pub handles_range : {c d : Content} {t : Tables} (name : VmoName) {target : Target} (command : Command) (offset len : ℕ) {change : Change}
+    → ((s : State) (reply : Reply) → change_made s command reply ≡ range_part (target_of s name.0) offset len) → GivesName command → IsCounted t
+    → Some target ≡ names_of t.vmos name.0 → (outcome : Result TouchedPages Refusal) → Step (state_in c t) command (reply_of (λ _. Done) outcome) (state_in d t)
+    → IfOk outcome (AreTouched (target.first * PAGE + offset) len)
     → MatchResult outcome (λ pages. change ≡ Change.Frames target.koid pages.first pages.end) (λ _. change ≡ Change.None)
-    → ChangesVmos old vmos command (reply_of (λ _. Done) outcome) change
-changes_range {old} vmos name {target} command offset len range named (Ok pages) are is = record {
-  is = λ s.
-      let all = with_vmos s old vmos in
-      changed_named all name.0 (λ (t : Target). range_part t offset len) named (is ∙ touched_part target offset len pages are) ∙ sym (range all Done);
-}
-changes_range vmos name command offset len range named (Err refusal) are is = record { is = λ s. is }
+    → Handles c t command (reply_of (λ _. Done) outcome) change d t
+handles_range {c} {t = t} name {target} command offset len range gives counted named (Ok pages) step are is =
+    let s = state_in c t in record {
+      step = step;
+      changes = changed_named s name.0 (λ (v : Target). range_part v offset len) named (is ∙ touched_part target offset len pages are) ∙ sym (range s Done);
+      counted = counted;
+      name = gives;
+    }
+handles_range name command offset len range gives counted named (Err refusal) step are is = record { step = step; changes = is; counted = counted; name = gives }
 
 -- a pinned range lies in its VMO
 pub pinned_inside : (s new : State) (pin : PinName) (name : VmoName) {target : Target} (offset len : ℕ) {reply : Reply} → IsGoodState s
@@ -83,24 +90,15 @@ pinned_inside s new pin name {target} offset len {reply} good step done named = 
   go None e (inl effect) = few e
   go None e (inr lacked) = absurd (done _ lacked.0.answer)
 
--- ---- commands that change nothing that is ready
+-- ---- commands on regions
 
--- whatever the reply
-pub changes_none : {old : Content} {vmos : Vmos} {command : Command} {reply : Reply} → ((s : State) (r : Reply) → change_made s command r ≡ Change.None)
-    → ChangesVmos old vmos command reply Change.None
-changes_none {old} {vmos} {command} {reply} none = record { is = λ s. at (with_vmos s old vmos) reply } where
-  at : (s : State) (r : Reply) → Change.None ≡ change_after s command r
-  at s (Refused refusal) = refl
-  at s r = sym (none s r)
+-- the pages of a range of a region
+pub part_changed : (regions : ℕ → Option Region) (name : ℕ) {region : Region} → regions name ≡ Some region → (addr len first count : ℕ) → first ≡ addr / PAGE → count ≡ rounded len / PAGE
+    → Change.Mapped region.root first (first + count) ≡ region_part (region_of regions name) addr len
+part_changed regions name {region} given addr len first count begins counts =
+    (λ i. Change.Mapped region.root (begins i) (begins i + counts i)) ∙ ap (λ (r : Region). region_part r addr len) (sym (region_of-at regions name region given))
 
--- a command that is refused
-pub refused_tables : {c : Content} {vmos : Vmos} {pins : Pins} {command : Command} {refusal : Refusal}
-    → ((s : State) → first_of (refusals (with_tables s c vmos pins) command) ≡ Some refusal) → Steps c vmos pins command (Refused refusal) c vmos pins
-refused_tables {c} {vmos} {pins} {command} {refusal} refused =
-    record { step = λ s well. Step-refused (with_tables s c vmos pins) command refusal (refused s) }
-
-pub unchanged_vmos : {c : Content} {vmos : Vmos} {command : Command} {refusal : Refusal} → ChangesVmos c vmos command (Refused refusal) Change.None
-unchanged_vmos = record { is = λ s. refl }
-
-pub unchanged_tables : {c : Content} {vmos : Vmos} {pins : Pins} {command : Command} {refusal : Refusal} → ChangesTables c vmos pins command (Refused refusal) Change.None
-unchanged_tables = record { is = λ s. refl }
+-- those of a whole region
+pub whole_changed : (regions : ℕ → Option Region) (name : ℕ) {region : Region} → regions name ≡ Some region
+    → let is = region_of regions name in Change.Mapped region.root region.first (region.first + region.count) ≡ Change.Mapped is.root is.first (end_of is)
+whole_changed regions name {region} given = ap (λ (r : Region). Change.Mapped r.root r.first (end_of r)) (sym (region_of-at regions name region given))

@@ -5,7 +5,6 @@ pub mod BoundLaws
 pub mod AnswerLaws
 pub mod HandleLaws
 pub mod StartLaws
-pub mod CallLaws
 pub mod ChangeLaws
 pub mod AskingLaws
 pub mod RegionLaws

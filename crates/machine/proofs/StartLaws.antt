@@ -12,7 +12,7 @@ use Rattle.vm_model.specs.Space.AddressSpaces.{no_spaces}
 use Rattle.mapping_set.specs.Tables.{table_of}
 use Rattle.region_tree.specs.Tree.{regions_of}
 use Rattle.vm_model.specs.Machine.Machine.{empty_machine}
-use Rattle.machine.specs.Machine.{MachineParts, spaces_in, bare_state, bare_machine, state_of}
+use Rattle.machine.specs.Machine.{MachineParts, bare_state, bare_machine, state_of}
 use Rattle.vm_model.proofs.SpaceLaws.{AreGoodSpaces-none, mapped_count-none}
 
 -- tables in which nothing stands
@@ -69,5 +69,5 @@ pub counts_none : {R : Type 0} (vm : MachineParts R) → ((v : ℕ) → keepers_
     → table_of vm.maps ≡ (λ root p. None) → CountsKeepers vm.vmos (state_of nothing vm)
 counts_none vm none empty table v =
     let no_pin = entry_count-empty NAMES (λ (pin : Pin). pin.koid == v) (pins_of vm.pins) empty in
-    let no_page = mapped_count-none (spaces_in vm) v table in
+    let no_page = mapped_count-none (state_of nothing vm).spaces v table in
     omega (arith, none v, no_pin, no_page)

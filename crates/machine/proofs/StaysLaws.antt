@@ -1,6 +1,5 @@
 -- Laws of entries that stay where a content changes, and of what a change covers.
 use Rattle.std.proofs.Common.{◌≡◌, ◌≢◌, ℕ, ◌<◌, ◌≤◌, Bool, true, false, cond, ◌==◌, Option, None, Some, refl, sym, ap, subst, ◌∙◌, inl, inr, arith}
-use Rattle.std.specs.Prelude.{IsSome, unwrap_or}
 use Rattle.std.proofs.lemmas.Bool.{cases_eq, cases_lt, and_from, both_ways, eq-eqb}
 use Rattle.vm_base.specs.declared.limits.TheConstants.{NAMES, ROOT_END, VMO_PAGES}
 use Rattle.vm_base.specs.declared.names.Koid.{Koid}
@@ -14,12 +13,11 @@ use Rattle.vm_model.specs.Contents.Sharing.{snapshotted, only}
 use Rattle.vm_model.specs.Contents.Zeroing.{is_within, resized}
 use Rattle.vm_model.specs.Space.Readiness.{shows_in}
 use Rattle.vm_model.specs.Space.AddressSpaces.{Spaces, shows, is_mapped}
-use Rattle.vm_model.specs.declared.names.Target.{Target}
-use Rattle.vm_model.specs.Machine.State.{State, is_live, name_pages}
+use Rattle.vm_model.specs.Machine.State.{State, is_live}
 use Rattle.vm_model.specs.Machine.Leaving.{pruned}
 use Rattle.vm_model.proofs.ContentLaws.{pages_of-at, pages_of-same, count_from_page, koid_below}
 use Rattle.vm_model.proofs.ZeroingLaws.{page_past}
-use Rattle.vm_model.proofs.SharingLaws.{koid_some, page-snapshotted_other, page-only_stays}
+use Rattle.vm_model.proofs.SharingLaws.{page-snapshotted_other, page-only_stays}
 use Rattle.vm_model.proofs.ZeroingLaws.{is_within-true, cases_zeroed, count-resized_here, count-resized_other, page-resized_stays, page-resized_some}
 use Rattle.vm_model.proofs.LiveLaws.{is_live-mapped}
 use Rattle.vmo_ops.proofs.OutsideLaws.{ChangesWithin, LeavesOthers}

@@ -1,4 +1,3 @@
 pub mod Changes
 pub mod Fields
-pub mod Held
 pub mod Steps

@@ -8,10 +8,11 @@ ghost use Rattle.vm_model.specs.declared.command.Command.{Command};
 ghost use Rattle.vm_model.specs.Machine.Lent.{reply_for};
 ghost use Rattle.mapping_set.specs.Tables.{table_of};
 ghost use Rattle.mapping_set.specs.Backed.{AreBacked};
-ghost use Rattle.machine.specs.inside.Steps.{DoesAccess};
-ghost use Rattle.machine.specs.inside.Held.{spaces_held};
+ghost use Rattle.vm_model.specs.Machine.MachineStep.{MachineStep};
+ghost use Rattle.machine.specs.Machine.{machine_of_parts};
+ghost use Rattle.machine.specs.inside.Fields.{parts_of};
 
-use crate::address_spaces::AddressSpaces;
+use crate::tables::Tables;
 use pages::Pages;
 use ready_pages::ReadyPages;
 use region_ops::RegionRange;
@@ -23,20 +24,20 @@ use vm_model::Answer;
 #[tactic(auto, unfolding(vm_model::specs::Space::Regions::region_of))]
 pub(crate) fn mem_read<'a, P: Pages, R: ReadyPages<P>>(
     pages: &P,
-    spaces: &AddressSpaces,
+    tables: &Tables,
     ready: &mut R,
     range: RegionRange,
     room: &'a mut [u8],
 ) -> Answer<'a>
-    requires backed { AreBacked (P.content pages.now) (table_of spaces.now.maps) }
-    requires notes { R.AreTrue (P.content pages.now) (table_of spaces.now.maps) ready.old }
+    requires backed { AreBacked (P.content pages.now) (table_of tables.now.maps) }
+    requires notes { R.AreTrue (P.content pages.now) (table_of tables.now.maps) ready.old }
     requires room { DATA_BYTES ≤ length room.old }
-    ensures does { DoesAccess (spaces_held spaces.now) (P.content pages.now)
-        (R.ready ready.old) (Command.MemRead range.region range.addr range.len) (reply_for result) (P.content pages.now)
-        (R.ready ready.new) }
-    ensures notes { R.AreTrue (P.content pages.now) (table_of spaces.now.maps) ready.new }
+    ensures step { MachineStep (machine_of_parts R.ready (P.content pages.now) (parts_of tables.now ready.old))
+        (Command.MemRead range.region range.addr range.len) (reply_for result)
+        (machine_of_parts R.ready (P.content pages.now) (parts_of tables.now ready.new)) }
+    ensures notes { R.AreTrue (P.content pages.now) (table_of tables.now.maps) ready.new }
 {
-    let Some(root) = spaces.regions.get(range.region) else {
+    let Some(root) = tables.regions.get(range.region) else {
         return Answer::Refused(Refusal::BadHandle);
     };
     if !root.live {
@@ -47,7 +48,7 @@ pub(crate) fn mem_read<'a, P: Pages, R: ReadyPages<P>>(
     }
     match ready.read(
         pages,
-        &spaces.maps,
+        &tables.maps,
         range.region,
         range.addr,
         range.len,
@@ -62,21 +63,21 @@ pub(crate) fn mem_read<'a, P: Pages, R: ReadyPages<P>>(
 #[tactic(auto, unfolding(vm_model::specs::Space::Regions::region_of))]
 pub(crate) fn mem_write<P: Pages, R: ReadyPages<P>>(
     pages: &mut P,
-    spaces: &AddressSpaces,
+    tables: &Tables,
     ready: &mut R,
     region: RegionName,
     addr: u64,
     bytes: &[u8],
 ) -> Answer<'static>
-    requires backed { AreBacked (P.content pages.old) (table_of spaces.now.maps) }
-    requires notes { R.AreTrue (P.content pages.old) (table_of spaces.now.maps) ready.old }
+    requires backed { AreBacked (P.content pages.old) (table_of tables.now.maps) }
+    requires notes { R.AreTrue (P.content pages.old) (table_of tables.now.maps) ready.old }
     requires bytes { length bytes.now ≤ DATA_BYTES }
-    ensures does { DoesAccess (spaces_held spaces.now) (P.content pages.old)
-        (R.ready ready.old) (Command.MemWrite region addr bytes.now) (reply_for result) (P.content pages.new)
-        (R.ready ready.new) }
-    ensures notes { R.AreTrue (P.content pages.new) (table_of spaces.now.maps) ready.new }
+    ensures step { MachineStep (machine_of_parts R.ready (P.content pages.old) (parts_of tables.now ready.old))
+        (Command.MemWrite region addr bytes.now) (reply_for result)
+        (machine_of_parts R.ready (P.content pages.new) (parts_of tables.now ready.new)) }
+    ensures notes { R.AreTrue (P.content pages.new) (table_of tables.now.maps) ready.new }
 {
-    let Some(root) = spaces.regions.get(region) else {
+    let Some(root) = tables.regions.get(region) else {
         return Answer::Refused(Refusal::BadHandle);
     };
     if !root.live {
@@ -85,7 +86,7 @@ pub(crate) fn mem_write<P: Pages, R: ReadyPages<P>>(
     if root.parent.is_some() {
         return Answer::Refused(Refusal::InvalidArgs);
     }
-    match ready.write(pages, &spaces.maps, region, addr, bytes) {
+    match ready.write(pages, &tables.maps, region, addr, bytes) {
         Ok(faults) => Answer::Faults(faults),
         Err(refusal) => Answer::Refused(refusal),
     }

@@ -7,34 +7,29 @@ ghost use Rattle.vm_model.specs.declared.command.Command.{Command};
 ghost use Rattle.vm_model.specs.declared.reply.Reply.{Reply};
 ghost use Rattle.vm_model.specs.Machine.Lent.{reply_for};
 ghost use Rattle.vm_model.specs.Machine.Step.{reply_of};
-ghost use Rattle.vmo_table.specs.Table.{AreParts};
-ghost use Rattle.vmo_ops.specs.Targets.{AreTogether};
-ghost use Rattle.machine.specs.inside.Steps.{ChangesVmos, Steps, StepsVmos};
+ghost use Rattle.machine.specs.inside.Steps.{Handles, IsSoundState};
 ghost use Rattle.ready_pages.specs.declared.change.Change.{Change};
 
+use crate::tables::Tables;
 use pages::Pages;
-use pin_table::PinTable;
 use ready_pages::Change;
 use vm_base::{Koid, Refusal, VmoName, page_count};
 use vm_model::Answer;
 use vmo_ops::{NameRange, TouchedPages};
-use vmo_table::VmoTable;
 
 /// Writes bytes from `offset` bytes into the name on.
 pub(crate) fn vmo_write<P: Pages>(
     pages: &mut P,
-    vmos: &VmoTable,
+    tables: &Tables,
     name: VmoName,
     offset: u64,
     bytes: &[u8],
 ) -> (Answer<'static>, Change)
-    requires { AreParts (P.content pages.old) vmos.now }
-    ensures step { StepsVmos (P.content pages.old) vmos.now (Command.VmoWrite name offset bytes.now) (reply_for result.0)
-        (P.content pages.new) vmos.now }
-    ensures change { ChangesVmos (P.content pages.old) vmos.now (Command.VmoWrite name offset bytes.now)
-        (reply_for result.0) result.1 }
+    requires { IsSoundState (P.content pages.old) tables.now }
+    ensures { Handles (P.content pages.old) tables.now (Command.VmoWrite name offset bytes.now)
+        (reply_for result.0) result.1 (P.content pages.new) tables.now }
 {
-    match vmos.resolve(name) {
+    match tables.vmos.resolve(name) {
         Some(target) => {
             let outcome = vmo_ops::write_touching(pages, &target, offset, bytes);
             changed(target.koid, outcome)
@@ -46,17 +41,15 @@ pub(crate) fn vmo_write<P: Pages>(
 /// Writes one byte at every place of a range.
 pub(crate) fn vmo_fill<P: Pages>(
     pages: &mut P,
-    vmos: &VmoTable,
+    tables: &Tables,
     range: NameRange,
     byte: u8,
 ) -> (Answer<'static>, Change)
-    requires { AreParts (P.content pages.old) vmos.now }
-    ensures step { StepsVmos (P.content pages.old) vmos.now (Command.VmoFill range.name range.offset range.len byte)
-        (reply_for result.0) (P.content pages.new) vmos.now }
-    ensures change { ChangesVmos (P.content pages.old) vmos.now (Command.VmoFill range.name range.offset range.len byte)
-        (reply_for result.0) result.1 }
+    requires { IsSoundState (P.content pages.old) tables.now }
+    ensures { Handles (P.content pages.old) tables.now (Command.VmoFill range.name range.offset range.len byte)
+        (reply_for result.0) result.1 (P.content pages.new) tables.now }
 {
-    match vmos.resolve(range.name) {
+    match tables.vmos.resolve(range.name) {
         Some(target) => {
             let outcome = vmo_ops::fill_touching(pages, &target, range.offset, range.len, byte);
             changed(target.koid, outcome)
@@ -68,16 +61,14 @@ pub(crate) fn vmo_fill<P: Pages>(
 /// Gives each page that a range touches a frame of its own.
 pub(crate) fn vmo_commit<P: Pages>(
     pages: &mut P,
-    vmos: &VmoTable,
+    tables: &Tables,
     range: NameRange,
 ) -> (Answer<'static>, Change)
-    requires { AreParts (P.content pages.old) vmos.now }
-    ensures step { StepsVmos (P.content pages.old) vmos.now (Command.VmoCommit range.name range.offset range.len)
-        (reply_for result.0) (P.content pages.new) vmos.now }
-    ensures change { ChangesVmos (P.content pages.old) vmos.now (Command.VmoCommit range.name range.offset range.len)
-        (reply_for result.0) result.1 }
+    requires { IsSoundState (P.content pages.old) tables.now }
+    ensures { Handles (P.content pages.old) tables.now (Command.VmoCommit range.name range.offset range.len)
+        (reply_for result.0) result.1 (P.content pages.new) tables.now }
 {
-    match vmos.resolve(range.name) {
+    match tables.vmos.resolve(range.name) {
         Some(target) => {
             let outcome = vmo_ops::commit_touching(pages, &target, range.offset, range.len);
             changed(target.koid, outcome)
@@ -89,19 +80,22 @@ pub(crate) fn vmo_commit<P: Pages>(
 /// Makes the bytes of a range zero.
 pub(crate) fn vmo_zero<P: Pages>(
     pages: &mut P,
-    vmos: &VmoTable,
-    pins: &PinTable,
+    tables: &Tables,
     range: NameRange,
 ) -> (Answer<'static>, Change)
-    requires { AreTogether (P.content pages.old) vmos.now pins.now }
-    ensures step { Steps (P.content pages.old) vmos.now pins.now (Command.VmoZero range.name range.offset range.len)
-        (reply_for result.0) (P.content pages.new) vmos.now pins.now }
-    ensures change { ChangesVmos (P.content pages.old) vmos.now (Command.VmoZero range.name range.offset range.len)
-        (reply_for result.0) result.1 }
+    requires { IsSoundState (P.content pages.old) tables.now }
+    ensures { Handles (P.content pages.old) tables.now (Command.VmoZero range.name range.offset range.len)
+        (reply_for result.0) result.1 (P.content pages.new) tables.now }
 {
-    match vmos.resolve(range.name) {
+    match tables.vmos.resolve(range.name) {
         Some(target) => {
-            let outcome = vmo_ops::zero_touching(pages, pins, &target, range.offset, range.len);
+            let outcome = vmo_ops::zero_touching(
+                pages,
+                &tables.pins,
+                &target,
+                range.offset,
+                range.len,
+            );
             changed(target.koid, outcome)
         }
         None => (Answer::Refused(Refusal::BadHandle), Change::None),
@@ -111,22 +105,19 @@ pub(crate) fn vmo_zero<P: Pages>(
 /// Makes the pages of a range zero and gives their frames back.
 pub(crate) fn vmo_decommit<P: Pages>(
     pages: &mut P,
-    vmos: &VmoTable,
-    pins: &PinTable,
+    tables: &Tables,
     range: NameRange,
 ) -> (Answer<'static>, Change)
-    requires { AreTogether (P.content pages.old) vmos.now pins.now }
-    ensures step { Steps (P.content pages.old) vmos.now pins.now (Command.VmoDecommit range.name range.offset range.len)
-        (reply_for result.0) (P.content pages.new) vmos.now pins.now }
-    ensures change { ChangesVmos (P.content pages.old) vmos.now (Command.VmoDecommit range.name range.offset range.len)
-        (reply_for result.0) result.1 }
+    requires { IsSoundState (P.content pages.old) tables.now }
+    ensures { Handles (P.content pages.old) tables.now (Command.VmoDecommit range.name range.offset range.len)
+        (reply_for result.0) result.1 (P.content pages.new) tables.now }
 {
-    match vmos.resolve(range.name) {
+    match tables.vmos.resolve(range.name) {
         Some(target) => {
             let outcome = vmo_ops::decommit_touching(
                 pages,
-                vmos,
-                pins,
+                &tables.vmos,
+                &tables.pins,
                 &target,
                 range.offset,
                 range.len,
@@ -140,20 +131,18 @@ pub(crate) fn vmo_decommit<P: Pages>(
 /// Changes the size of the VMO.
 pub(crate) fn vmo_set_size<P: Pages>(
     pages: &mut P,
-    vmos: &VmoTable,
-    pins: &PinTable,
+    tables: &Tables,
     name: VmoName,
     size: u64,
 ) -> (Answer<'static>, Change)
-    requires { AreTogether (P.content pages.old) vmos.now pins.now }
-    ensures step { Steps (P.content pages.old) vmos.now pins.now (Command.VmoSetSize name size) (reply_for result.0)
-        (P.content pages.new) vmos.now pins.now }
-    ensures change { ChangesVmos (P.content pages.old) vmos.now (Command.VmoSetSize name size) (reply_for result.0) result.1 }
+    requires { IsSoundState (P.content pages.old) tables.now }
+    ensures { Handles (P.content pages.old) tables.now (Command.VmoSetSize name size)
+        (reply_for result.0) result.1 (P.content pages.new) tables.now }
 {
-    let Some(target) = vmos.resolve(name) else {
+    let Some(target) = tables.vmos.resolve(name) else {
         return (Answer::Refused(Refusal::BadHandle), Change::None);
     };
-    match vmo_ops::resize(pages, pins, &target, size) {
+    match vmo_ops::resize(pages, &tables.pins, &target, size) {
         Ok(()) => {
             let change = Change::Past {
                 koid: target.koid,

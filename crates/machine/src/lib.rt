@@ -9,7 +9,6 @@
 #![tactic(auto)]
 
 mod accessing;
-mod address_spaces;
 mod asking;
 mod changing;
 mod dispatching;

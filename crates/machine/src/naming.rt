@@ -1,45 +1,39 @@
-//! The commands that give a name or close one: `vmo_create`, `vmo_create_child`, `vmo_close`. Each clause `name` hands
-//! up the range of the name's number, which the caller has behind a reference.
+//! The commands that give a name or close one: `vmo_create`, `vmo_create_child`, `vmo_close`.
 
 ghost use Rattle.std.specs.Prelude.{◌≡◌, ◌<◌};
-ghost use Rattle.vm_base.specs.declared.limits.TheConstants.{KOIDS, NAMES};
+ghost use Rattle.vm_base.specs.declared.limits.TheConstants.{KOIDS};
 ghost use Rattle.vm_model.specs.declared.command.Command.{Command};
 ghost use Rattle.vm_model.specs.Machine.Lent.{reply_for};
-ghost use Rattle.vm_model.specs.Machine.State.{State};
-ghost use Rattle.vmo_table.specs.Table.{keepers_of, with_vmos, AreParts, IsWellCounted};
-ghost use Rattle.vmo_ops.specs.Targets.{AreTogether};
 ghost use Rattle.vm_model.specs.Contents.Content.{IsGood};
 ghost use Rattle.pages.specs.Names.{IsInside};
 ghost use Rattle.machine.specs.inside.Changes.{change_of_child, shared_part};
-ghost use Rattle.machine.specs.inside.Steps.{ChangesTables, Steps, StepsVmos};
+ghost use Rattle.ready_pages.specs.declared.change.Change.{Change};
+ghost use Rattle.machine.specs.inside.Steps.{Handles, IsSoundState};
 
 use crate::requests::ChildRequest;
+use crate::tables::Tables;
 use pages::{Pages, pages_of_name};
-use pin_table::PinTable;
 use ready_pages::Change;
 use vm_base::{Refusal, VmoName, page_count, page_of};
 use vm_model::{Answer, ChildKind, Target};
-use vmo_table::VmoTable;
 
 /// Makes a VMO. `NameInUse` if the name is open.
 pub(crate) fn vmo_create<P: Pages>(
     pages: &mut P,
-    vmos: &mut VmoTable,
+    tables: &mut Tables,
     name: VmoName,
     size: u64,
     resizable: bool,
 ) -> Answer<'static>
-    requires parts { AreParts (P.content pages.old) vmos.old }
+    requires sound { IsSoundState (P.content pages.old) tables.old }
     requires next { (P.content pages.old).next < KOIDS }
-    ensures step { StepsVmos (P.content pages.old) vmos.old (Command.VmoCreate name size resizable) (reply_for result)
-        (P.content pages.new) vmos.new }
-    ensures keepers { keepers_of vmos.new ≡ keepers_of vmos.old }
-    ensures name { name.0 < NAMES }
+    ensures { Handles (P.content pages.old) tables.old (Command.VmoCreate name size resizable) (reply_for result) Change.None
+        (P.content pages.new) tables.new }
 {
-    if vmos.resolve(name).is_some() {
+    if tables.vmos.resolve(name).is_some() {
         return Answer::Refused(Refusal::NameInUse);
     }
-    match vmo_ops::create(pages, vmos, name, size, resizable) {
+    match vmo_ops::create(pages, &mut tables.vmos, name, size, resizable) {
         Ok(_) => Answer::Done,
         Err(refusal) => Answer::Refused(refusal),
     }
@@ -49,34 +43,28 @@ pub(crate) fn vmo_create<P: Pages>(
 /// pages that a snapshot shares are answered, of which those that are not pinned may be written no more by what showed them.
 pub(crate) fn vmo_create_child<P: Pages>(
     pages: &mut P,
-    vmos: &mut VmoTable,
-    pins: &PinTable,
+    tables: &mut Tables,
     name: VmoName,
     request: ChildRequest,
 ) -> (Answer<'static>, Change)
-    requires good { AreTogether (P.content pages.old) vmos.old pins.now }
+    requires sound { IsSoundState (P.content pages.old) tables.old }
     requires next { (P.content pages.old).next < KOIDS }
-    ensures step { Steps (P.content pages.old) vmos.old pins.now
+    ensures { Handles (P.content pages.old) tables.old
         (Command.VmoChild name request.parent request.kind request.shape.offset request.shape.size request.shape.resizable
-        request.shape.no_write) (reply_for result.0) (P.content pages.new) vmos.new pins.now }
-    ensures change { ChangesTables (P.content pages.old) vmos.old pins.now
-        (Command.VmoChild name request.parent request.kind request.shape.offset request.shape.size request.shape.resizable
-        request.shape.no_write) (reply_for result.0) result.1 }
-    ensures keepers { keepers_of vmos.new ≡ keepers_of vmos.old }
-    ensures name { name.0 < NAMES }
+        request.shape.no_write) (reply_for result.0) result.1 (P.content pages.new) tables.new }
 {
-    let Some(target) = vmos.resolve(request.parent) else {
+    let Some(target) = tables.vmos.resolve(request.parent) else {
         return (Answer::Refused(Refusal::BadHandle), Change::None);
     };
-    if vmos.resolve(name).is_some() {
+    if tables.vmos.resolve(name).is_some() {
         return (Answer::Refused(Refusal::NameInUse), Change::None);
     }
     let change = child_change(pages, &target, request);
     let shape = request.shape;
     match vmo_ops::create_child(
         pages,
-        vmos,
-        pins,
+        &mut tables.vmos,
+        &tables.pins,
         name,
         &target,
         request.kind,
@@ -123,17 +111,16 @@ fn seen_part<P: Pages>(pages: &P, target: &Target, offset: u64, size: u64) -> Ch
 /// Closes a name. `BadHandle` if it is not open.
 pub(crate) fn vmo_close<P: Pages>(
     pages: &mut P,
-    vmos: &mut VmoTable,
+    tables: &mut Tables,
     name: VmoName,
 ) -> Answer<'static>
-    requires { (s : State) × IsWellCounted vmos.old (with_vmos s (P.content pages.old) vmos.old) }
-    ensures step { StepsVmos (P.content pages.old) vmos.old (Command.VmoClose name) (reply_for result)
-        (P.content pages.new) vmos.new }
-    ensures keepers { keepers_of vmos.new ≡ keepers_of vmos.old }
+    requires { IsSoundState (P.content pages.old) tables.old }
+    ensures { Handles (P.content pages.old) tables.old (Command.VmoClose name) (reply_for result) Change.None
+        (P.content pages.new) tables.new }
 {
-    if vmos.resolve(name).is_none() {
+    if tables.vmos.resolve(name).is_none() {
         return Answer::Refused(Refusal::BadHandle);
     }
-    vmo_ops::close(pages, vmos, name);
+    vmo_ops::close(pages, &mut tables.vmos, name);
     Answer::Done
 }
