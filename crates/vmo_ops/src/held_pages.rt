@@ -1,6 +1,7 @@
 //! Walks over the held pages of a range. The zero pages of a long range cost nothing.
 
 ghost use Rattle.std.specs.Prelude.{◌≡◌, ℕ, ◌<◌, ◌≤◌, None, IsSome, IfSome, IfNone};
+ghost use Rattle.vm_base.specs.Search.{HasNone, IsFirst, IsFirstOrNone};
 ghost use Rattle.vm_model.specs.Contents.Content.{is_held, pages_of, sole, IsGood};
 
 use crate::owning::is_sole;
@@ -21,10 +22,7 @@ pub(crate) fn next_held_below<P: Pages>(
 ) -> Option<PageNo>
     requires vmo { IsSome ((P.content store.now).count v.0) }
     requires pages { end ≤ pages_of (P.content store.now) v.0 }
-    ensures some { IfSome result (λ page. (from ≤ page) × (page < end)
-        × IsSome ((P.content store.now).page v.0 page)
-        × ((p : ℕ) → from ≤ p → p < page → (P.content store.now).page v.0 p ≡ None)) }
-    ensures none { IfNone result ((p : ℕ) → from ≤ p → p < end → (P.content store.now).page v.0 p ≡ None) }
+    ensures { IsFirstOrNone (is_held (P.content store.now) v.0) from end result }
 {
     if end.saturating_sub(from) <= FEW_PAGES {
         return first_held(store, v, from, end);
@@ -56,11 +54,9 @@ pub(crate) fn next_with_sole<P: Pages>(
     requires vmo { IsSome ((P.content store.now).count v.0) }
     requires good { IsGood (P.content store.now) }
     requires pages { end ≤ pages_of (P.content store.now) v.0 }
-    ensures some { IfSome result (λ held. (from ≤ held.page) × (held.page < end)
-        × IsSome ((P.content store.now).page v.0 held.page)
-        × ((p : ℕ) → from ≤ p → p < held.page → (P.content store.now).page v.0 p ≡ None)) }
+    ensures some { IfSome result (λ held. IsFirst (is_held (P.content store.now) v.0) from end held.page) }
     ensures sole { IfSome result (λ held. held.sole ≡ sole (P.content store.now) v.0 held.page) }
-    ensures none { IfNone result ((p : ℕ) → from ≤ p → p < end → (P.content store.now).page v.0 p ≡ None) }
+    ensures none { IfNone result (HasNone (is_held (P.content store.now) v.0) from end) }
 {
     if in_row && from < end {
         if let Some(held) = held_at(store, v, from) {
@@ -94,10 +90,7 @@ fn held_at<P: Pages>(store: &P, v: Koid, page: PageNo) -> Option<HeldPage>
 // Does what `next_held_below` does, by a look at each page.
 fn first_held<P: Pages>(store: &P, v: Koid, from: PageNo, end: PageNo) -> Option<PageNo>
     requires { end ≤ pages_of (P.content store.now) v.0 }
-    ensures some { IfSome result (λ page. (from ≤ page) × (page < end)
-        × IsSome ((P.content store.now).page v.0 page)
-        × ((p : ℕ) → from ≤ p → p < page → (P.content store.now).page v.0 p ≡ None)) }
-    ensures none { IfNone result ((p : ℕ) → from ≤ p → p < end → (P.content store.now).page v.0 p ≡ None) }
+    ensures { IsFirstOrNone (is_held (P.content store.now) v.0) from end result }
 {
     let mut page = from;
     while page < end {

@@ -13,9 +13,3 @@ loop-page-preserved c =
 
 pub returns : goal.returns
 returns c = omega (arith, c.loop-page.invariant.counted, copies-counted_none _ _ _ _ c.loop-page.invariant.bound c.in_default.ensures)
-
-pub loop-page-smaller : goal.loop-page-smaller
-loop-page-smaller c = omega (arith, c.in-Some.ensures.order, c.in-Some.ensures.below)
-
-pub overflow_add-from : goal.overflow_add-from
-overflow_add-from c = omega (arith, c.in-Some.ensures.below, c.requires)

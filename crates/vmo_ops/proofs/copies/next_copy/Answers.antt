@@ -1,4 +1,4 @@
-use Rattle.std.proofs.Common.{◌+◌, arith}
+use Rattle.std.proofs.Common.{◌+◌}
 use Rattle.vm_base.proofs.SearchLaws.{first-below, first-past}
 use Rattle.vmo_ops.proofs.CopyRows.{copy-first, no_copy}
 use Rattle.vmo_ops.proofs.copies.next_copy.Goals as goal
@@ -11,6 +11,3 @@ returns-then-page-end c = no_copy _ _ _ _ (first-past c.in-Some.ensures.some (c.
 
 pub returns : goal.returns
 returns c = copy-first _ _ _ _ _ (first-below c.in-Some.ensures.some (c.args.first + c.args.seen) c.if-page-end.false)
-
-pub overflow_sub-result : goal.overflow_sub-result
-overflow_sub-result c = omega (arith, c.in-Some.ensures.some.order)

@@ -23,9 +23,3 @@ loop-page-preserved g c = owning-next c.loop-page.invariant c.in-Some.ensures c.
 
 pub returns : goal.returns
 returns g c = owning-end c.loop-page.invariant c.in_default.ensures
-
-pub loop-page-smaller : goal.loop-page-smaller
-loop-page-smaller g c = omega (arith, c.in-Some.ensures.order, c.in-Some.ensures.below)
-
-pub overflow_add-from : goal.overflow_add-from
-overflow_add-from g c = omega (arith, c.in-Some.ensures.below, c.requires.range)

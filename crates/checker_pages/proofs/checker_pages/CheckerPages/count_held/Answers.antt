@@ -9,9 +9,6 @@ overflow_add-held c =
     let next = held_in-next (eager_content c.args.self.now) c.args.v.0 c.loop-page.from c.args.end _ c.in-Some.ensures.some in
     omega (arith, inv.held, next, held_in_le (eager_content c.args.self.now) c.args.v.0 c.args.first (c.args.end - c.args.first))
 
-pub loop-page-smaller : goal.loop-page-smaller
-loop-page-smaller c = let next = c.in-Some.ensures.some in omega (arith, next.order, next.below)
-
 pub loop-page-preserved : goal.loop-page-preserved
 loop-page-preserved c =
     let next = c.in-Some.ensures.some in

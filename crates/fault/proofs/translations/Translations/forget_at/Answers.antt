@@ -8,12 +8,6 @@ use Rattle.fault.proofs.translations.Translations.forget_at.Goals as goal
 pub loop-page-init : goal.loop-page-init
 loop-page-init c = record { first = omega arith; end = omega arith; changed = places-start dropped dropped-once c.args.root.0 c.args.first (translations_of c.args.self.now); room = omega arith }
 
-pub drop_place-requires : goal.drop_place-requires
-drop_place-requires c = c.in-Some.ensures.hit
-
-pub loop-page-smaller : goal.loop-page-smaller
-loop-page-smaller c = omega (arith, c.in-Some.ensures.order, c.in-Some.ensures.below)
-
 pub loop-page-preserved : goal.loop-page-preserved
 loop-page-preserved c =
     let inv = c.loop-page.invariant in

@@ -21,21 +21,3 @@ returns c =
     let e : c.loop-pinned.from + (c.args.end - c.loop-pinned.from) ≡ c.args.end = omega (arith, inv.bound) in
     gaps-end _ _ _ _ _ inv.first inv.bound c.in_default.ensures _ _ _ inv.left
     (c.make_readonly-2.ensures.at ∙ ap (λ (n : ℕ). with_read_only c.args.v.0 c.loop-pinned.from n (translations_of c.loop-pinned.self)) e)
-
-pub loop-pinned-smaller : goal.loop-pinned-smaller
-loop-pinned-smaller c = omega (arith, c.in-Some.ensures.order, c.in-Some.ensures.below)
-
-pub overflow_add-from : goal.overflow_add-from
-overflow_add-from c = omega (arith, c.in-Some.ensures.below, c.requires.range)
-
-pub overflow_sub-pinned : goal.overflow_sub-pinned
-overflow_sub-pinned c = omega (arith, c.in-Some.ensures.order)
-
-pub overflow_sub-end : goal.overflow_sub-end
-overflow_sub-end c = omega (arith, c.loop-pinned.invariant.bound)
-
-pub make_readonly-requires : goal.make_readonly-requires
-make_readonly-requires c = omega (arith, c.in-Some.ensures.order, c.in-Some.ensures.below, c.requires.range)
-
-pub make_readonly-requires-2 : goal.make_readonly-requires-2
-make_readonly-requires-2 c = omega (arith, c.loop-pinned.invariant.bound, c.requires.range)

@@ -11,9 +11,6 @@ overflow_add-held c =
     let next = c.in-Some.ensures.some in
     omega (arith, c.loop-page.invariant.held, held_le (flat_content c.args.self.now) c.args.v.0 c.args.first (c.loop-page.from - c.args.first), next.order, next.below)
 
-pub loop-page-smaller : goal.loop-page-smaller
-loop-page-smaller c = let next = c.in-Some.ensures.some in omega (arith, next.order, next.below)
-
 pub loop-page-preserved : goal.loop-page-preserved
 loop-page-preserved c =
     let next = c.in-Some.ensures.some in

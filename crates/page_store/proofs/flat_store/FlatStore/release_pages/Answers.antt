@@ -6,9 +6,6 @@ use Rattle.page_store.proofs.flat_store.FlatStore.release_pages.Goals as goal
 pub loop-page-init : goal.loop-page-init
 loop-page-init c = record { first = omega arith; end = inr refl; zero = zeroed-start (flat_content c.args.self.now) c.args.v.0 c.args.first; room = omega arith }
 
-pub loop-page-smaller : goal.loop-page-smaller
-loop-page-smaller c = let next = c.in-Some.ensures.some in omega (arith, next.order, next.below)
-
 pub loop-page-preserved : goal.loop-page-preserved
 loop-page-preserved c =
     let next = c.in-Some.ensures.some in

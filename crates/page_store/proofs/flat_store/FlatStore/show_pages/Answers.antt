@@ -14,9 +14,6 @@ loop-page-init c = record {
   asked = refl;
 }
 
-pub overflow_sub-page : goal.overflow_sub-page
-overflow_sub-page c = let next = c.in-Some.ensures.some in omega (arith, next.order, c.loop-page.invariant.first)
-
 pub show_page-requires-clause-zero : goal.show_page-requires-clause-zero
 show_page-requires-clause-zero c =
     let inv = c.loop-page.invariant in
@@ -38,9 +35,6 @@ show_page-requires-clause-room c =
     let next = c.in-Some.ensures.some in
     let more = held-more (flat_content c.args.self.now) c.args.of.0 c.args.first (c.in-Some.page + 1 - c.args.first) (c.args.end - c.args.first) (omega (arith, next.below)) in
     omega (arith, inv.room, more, held-shown (flat_content c.args.self.now) (flat_content c.loop-page.self) _ _ _ _ _ inv.shown c.requires.apart _ inv.first next)
-
-pub loop-page-smaller : goal.loop-page-smaller
-loop-page-smaller c = let next = c.in-Some.ensures.some in omega (arith, next.order, next.below)
 
 pub loop-page-preserved : goal.loop-page-preserved
 loop-page-preserved c =
@@ -66,6 +60,3 @@ pub returns-clause-room : goal.returns-clause-room
 returns-clause-room c =
     let inv = c.loop-page.invariant in
     omega (arith, inv.spare, held-more (flat_content c.args.self.now) c.args.of.0 c.args.first (c.loop-page.from - c.args.first) (c.args.end - c.args.first) (omega (arith, inv.end)))
-
-pub returns-clause-asked : goal.returns-clause-asked
-returns-clause-asked c = c.loop-page.invariant.asked

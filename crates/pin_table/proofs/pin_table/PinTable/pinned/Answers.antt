@@ -4,9 +4,6 @@ use Rattle.vm_model.proofs.PinLaws.{none_pinned}
 use Rattle.pin_table.proofs.CountedLaws.{any_pinned-first}
 use Rattle.pin_table.proofs.pin_table.PinTable.pinned.Goals as goal
 
-pub overflow_sub-result : goal.overflow_sub-result
-overflow_sub-result c = c.in-Some.ensures.some.order
-
 moved : (first page count : ℕ) → first ≤ page → ltb (page - first) count ≡ ltb page (first + count)
 moved first page count h = grind (arith, common_steps)
 
