@@ -1,12 +1,13 @@
 -- Laws of counting the absent pages of a range by those that are held.
-use Rattle.std.proofs.Common.{◌≡◌, ℕ, ◌+◌, ◌-◌, ◌<◌, ◌≤◌, ◌++◌, ◌∷◌, [], not, ◌&&◌, Bool, true, false, cond, zero, suc, List, length, map, None, Some, refl, sym, ap, subst, ◌∙◌, append-nil, arith, inl, inr}
+use Rattle.std.proofs.Common.{◌≡◌, ℕ, ◌+◌, ◌-◌, ◌<◌, ◌≤◌, ◌++◌, ◌∷◌, [], not, ◌&&◌, Bool, true, false, cond, zero, suc, List, length, map, Some, refl, sym, ap, subst, ◌∙◌, append-nil, arith, inl, inr}
 use Rattle.std.specs.Prelude.{IsSome, is_some}
 use Rattle.vm_base.specs.Entries.{passes}
 use Rattle.std.specs.List.{filter, range_with_len}
 use Rattle.std.proofs.lemmas.Bool.{cases_lt, lt-ltb, le-ltb}
 use Rattle.std.proofs.lemmas.List.Elements.{filter-append}
-use Rattle.vm_base.proofs.EntryLaws.{some_is}
-use Rattle.vm_model.specs.Contents.Content.{Content}
+use Rattle.vm_base.specs.Search.{HasNone, IsFirst}
+use Rattle.vm_base.proofs.EntryLaws.{some_is, none_is}
+use Rattle.vm_model.specs.Contents.Content.{Content, is_held}
 use Rattle.vm_model.specs.Contents.Writing.{touched}
 use Rattle.vm_model.proofs.OwningLaws.{count_from}
 use Rattle.vmo_ops.proofs.ModelLaws.{count_from-none, count_from-not, count_from-split, range_with_len-append}
@@ -27,11 +28,11 @@ module _ (c : Content) (b : Backing) (v first end : ℕ) (seen : (p : ℕ) → f
   test = is_absent c (Some b) v
 
   -- pages that are not held
-  gap_count : (from page : ℕ) → first ≤ from → from ≤ page → page ≤ end → ((p : ℕ) → from ≤ p → p < page → c.page v p ≡ None)
+  gap_count : (from page : ℕ) → first ≤ from → from ≤ page → page ≤ end → HasNone (is_held c v) from page
       → count_from test from (page - from) ≡ page - from
   gap_count from page low order high gap = count_all test from (page - from) (λ p l h.
       let less : p < page = omega (arith, order, h) in
-      absent-zero c b v p (gap p l less) ∙ lt-ltb p b.seen (seen p (omega (arith, low, l)) (omega (arith, less, high))))
+      absent-zero c b v p (none_is _ (gap p l less)) ∙ lt-ltb p b.seen (seen p (omega (arith, low, l)) (omega (arith, less, high))))
 
   -- a page that is held
   held_count : (page : ℕ) → IsSome (c.page v page) → count_from test page (page + 1 - page) ≡ 0
@@ -41,19 +42,19 @@ module _ (c : Content) (b : Backing) (v first end : ℕ) (seen : (p : ℕ) → f
       ap test here ∙ absent-held c (Some b) v page held.0 held.1)
 
   -- one held page more was found
-  pub absent_next : (from page n : ℕ) → first ≤ from → from ≤ page → page < end → ((p : ℕ) → from ≤ p → p < page → c.page v p ≡ None) → IsSome (c.page v page)
+  pub absent_next : (from page n : ℕ) → first ≤ from → IsFirst (is_held c v) from end page
       → n ≡ length (filter test (range_with_len first (from - first))) + (end - from)
       → (1 ≤ n) × (n - 1 ≡ length (filter test (range_with_len first (page + 1 - first))) + (end - (page + 1)))
-  absent_next from page n low order less gap held counted =
+  absent_next from page n low next counted =
       let before = filter_count test first (from - first) in
       let after = filter_count test first (page + 1 - first) in
-      let all = count_from-split test first from (page + 1) low (omega (arith, order)) in
-      let parts = count_from-split test from page (page + 1) order (omega arith) in
-      let gap_is = gap_count from page low order (omega (arith, less)) gap in
-      let held_is = held_count page held in
-      (omega (arith, counted, order, less), omega (arith, counted, before, after, all, parts, gap_is, held_is, order, less))
+      let all = count_from-split test first from (page + 1) low (omega (arith, next.order)) in
+      let parts = count_from-split test from page (page + 1) next.order (omega arith) in
+      let gap_is = gap_count from page low next.order (omega (arith, next.below)) next.gap in
+      let held_is = held_count page next.hit in
+      (omega (arith, counted, next.order, next.below), omega (arith, counted, before, after, all, parts, gap_is, held_is, next.order, next.below))
 
-  pub absent_last : (from n : ℕ) → first ≤ from → from ≤ end → ((p : ℕ) → from ≤ p → p < end → c.page v p ≡ None)
+  pub absent_last : (from n : ℕ) → first ≤ from → from ≤ end → HasNone (is_held c v) from end
       → n ≡ length (filter test (range_with_len first (from - first))) + (end - from) → n ≡ length (filter test (range_with_len first (end - first)))
   absent_last from n low order gap counted =
       let before = filter_count test first (from - first) in
@@ -78,14 +79,14 @@ pub absent-behind : (c : Content) (b : Backing) (v p : ℕ) → b.seen ≤ p →
 unfolding is_absent passes
 absent-behind c b v p h = ap (λ (t : Bool). not (is_some (c.page v p)) && t) (le-ltb p b.seen h) ∙ none_absent (not (is_some (c.page v p)))
 
-none_pass : (test : ℕ → Bool) (first n : ℕ) → ((p : ℕ) → first ≤ p → p < first + n → test p ≡ false) → filter test (range_with_len first n) ≡ []
+none_pass : (test : ℕ → Bool) (first n : ℕ) → HasNone test first (first + n) → filter test (range_with_len first n) ≡ []
 none_pass test first zero each = refl
 none_pass test first (suc n) each =
     ap (λ (t : Bool). cond t (first ∷ filter test (range_with_len (first + 1) n)) (filter test (range_with_len (first + 1) n))) (each first (omega arith) (omega arith))
     ∙ none_pass test (first + 1) n (λ p low less. each p (omega (arith, low)) (omega (arith, less)))
 
 -- what passes in a range is what passes in its front
-pub filter_front : (test : ℕ → Bool) (first last end : ℕ) → first ≤ last → last ≤ end → ((p : ℕ) → last ≤ p → p < end → test p ≡ false)
+pub filter_front : (test : ℕ → Bool) (first last end : ℕ) → first ≤ last → last ≤ end → HasNone test last end
     → filter test (range_with_len first (last - first)) ≡ filter test (range_with_len first (end - first))
 filter_front test first last end low high behind =
     let size : end - first ≡ (last - first) + (end - last) = omega (arith, low, high) in
@@ -98,7 +99,7 @@ filter_front test first last end low high behind =
     ∙ (ap (λ (xs : List ℕ). filter test (range_with_len first (last - first)) ++ xs) none ∙ append-nil (filter test (range_with_len first (last - first)))))))
 
 pub IsSupplied-front : (bs : Backings) (ls : LooseLinks) (v : ℕ) (old new : Content) (first last end : ℕ) → first ≤ last → last ≤ end
-    → ((c : Content) (p : ℕ) → last ≤ p → p < end → is_end_absent bs ls c v p ≡ false) → IsSupplied bs ls v old first last new → IsSupplied bs ls v old first end new
+    → ((c : Content) → HasNone (is_end_absent bs ls c v) last end) → IsSupplied bs ls v old first last new → IsSupplied bs ls v old first end new
 IsSupplied-front bs ls v old new first last end low high behind s = record {
   fills = subst (λ (ps : List ℕ). FillsPages bs ls old (map (end_piece ls old v) ps) new)
       (filter_front (is_end_absent bs ls old v) first last end low high (behind old)) s.fills;
@@ -116,5 +117,5 @@ module _ (bs : Backings) (ls : LooseLinks) (c : Content) (v offset len : ℕ) wh
     touched-ends = ap (filter (is_end_absent bs ls c v)) pages
 
     -- none is absent where they were supplied
-    pub touched-supplied : ((p : ℕ) → first ≤ p → p < end → is_end_absent bs ls c v p ≡ false) → absent_touched bs ls c v offset len ≡ []
+    pub touched-supplied : HasNone (is_end_absent bs ls c v) first end → absent_touched bs ls c v offset len ≡ []
     touched-supplied none = touched-ends ∙ none_pass (is_end_absent bs ls c v) first (end - first) (λ p low less. none p low (omega (arith, less)))

@@ -1,8 +1,10 @@
 -- Laws of pages that are evicted.
 use Rattle.std.proofs.Common.{◌≡◌, ◌≢◌, ℕ, ◌+◌, ◌<◌, ◌≤◌, ◌⊎◌, inl, inr, ◌&&◌, ◌==◌, Bool, true, false, cond, Option, None, Some, refl, sym, ap, ◌∙◌, arith}
 use Rattle.std.proofs.lemmas.Bool.{cases_eq, cases_lt}
+use Rattle.vm_base.specs.Search.{HasNone, IsFirst}
 use Rattle.vm_base.proofs.SearchLaws.{eqb_same, eqb_apart}
-use Rattle.vm_model.specs.Contents.Content.{Content, Page, IsGood, pages_of}
+use Rattle.vm_base.proofs.EntryLaws.{none_is}
+use Rattle.vm_model.specs.Contents.Content.{Content, Page, is_held, IsGood, pages_of}
 use Rattle.vm_model.specs.Contents.Zeroing.{is_within, zeroed}
 use Rattle.vm_model.proofs.ContentLaws.{IsGood-part, own_pages}
 use Rattle.vm_model.proofs.ZeroingLaws.{is_within-true, is_within-false, page-zeroed_in, page-zeroed_out}
@@ -60,7 +62,7 @@ module _ (b : Backing) (c : Content) (v first end : ℕ) where
       (λ w q. elim (cases_eq w v) [ inl e ↦ rw e (here q) | inr apart ↦ other w q apart ∙ sym (page-cleared_vmo b c v first end w q apart) ])
 
 -- no page of the range is clean
-pub cleared-none : (b : Backing) (c : Content) (v first end : ℕ) → ((q : ℕ) → first ≤ q → q < end → is_clean_at b c v q ≡ false) → c ≡ cleared b c v first end
+pub cleared-none : (b : Backing) (c : Content) (v first end : ℕ) → HasNone (is_clean_at b c v) first end → c ≡ cleared b c v first end
 cleared-none b c v first end none = by_page b c v first end c refl refl refl (λ q. elim (cases_lt q first) [
   | inl before ↦ sym (page-cleared_out b c v first end q (inl before))
   | inr low ↦ elim (cases_lt q end) [
@@ -87,7 +89,7 @@ cleared-not b c v p not_clean = cleared-none b c v p (p + 1) (λ q low less. let
 
 -- the pages before `from` were cleared, those from there to `page` are not held, and then the page was cleared
 module _ (b : Backing) (old now : Content) (v first from page : ℕ) (is : now ≡ cleared b old v first from) (order : first ≤ from) (low : from ≤ page)
-    (gap : (q : ℕ) → from ≤ q → q < page → now.page v q ≡ None) where
+    (gap : HasNone (is_held now v) from page) where
   now_out : (q : ℕ) → (q < first) ⊎ (from ≤ q) → now.page v q ≡ old.page v q
   now_out q out = ap (λ (c : Content). c.page v q) is ∙ page-cleared_out b old v first from q out
 
@@ -105,8 +107,9 @@ module _ (b : Backing) (old now : Content) (v first from page : ℕ) (is : now �
       | inl done ↦ page-cleared_out b now v page (page + 1) q (inl (omega (arith, done, low))) ∙ (now_in q above done ∙ sym (page-cleared_in b old v first (page + 1) q above (omega (arith, done, low))))
       | inr later ↦ elim (cases_lt q page) [
         | inl between ↦
-            let none : old.page v q ≡ None = sym (now_out q (inr later)) ∙ gap q later between in
-            page-cleared_out b now v page (page + 1) q (inl between) ∙ (gap q later between
+            let bare = none_is (now.page v q) (gap q later between) in
+            let none : old.page v q ≡ None = sym (now_out q (inr later)) ∙ bare in
+            page-cleared_out b now v page (page + 1) q (inl between) ∙ (bare
             ∙ sym (page-cleared_in b old v first (page + 1) q above (omega (arith, between)) ∙ nothing_left q (is_clean_at b old v q) none))
         | inr at ↦ elim (cases_lt q (page + 1)) [
           | inl less ↦ page-cleared_in b now v page (page + 1) q at less ∙ (ap (λ (o : Option Page). cond (is_clean_page b o q) None o) (now_out q (inr later))
@@ -125,7 +128,7 @@ module _ (b : Backing) (old now : Content) (v first from page : ℕ) (is : now �
 
 -- the pages that are left of the range are not held
 pub cleared-end : (b : Backing) (old now : Content) (v first from end : ℕ) → now ≡ cleared b old v first from → first ≤ from
-    → ((q : ℕ) → from ≤ q → q < end → now.page v q ≡ None) → from ≤ end → now ≡ cleared b old v first end
+    → HasNone (is_held now v) from end → from ≤ end → now ≡ cleared b old v first end
 unfolding cleared
 cleared-end b old now v first from end is order gap h = by_page b old v first end now
     (ap (λ (c : Content). c.frames) is) (ap (λ (c : Content). c.next) is) (ap (λ (c : Content). c.count) is)
@@ -136,8 +139,9 @@ cleared-end b old now v first from end is order gap h = by_page b old v first en
         | inr later ↦ elim (cases_lt q end) [
           | inl left ↦
               let out = ap (λ (c : Content). c.page v q) is ∙ page-cleared_out b old v first from q (inr later) in
-              let none : old.page v q ≡ None = sym out ∙ gap q later left in
-              gap q later left ∙ sym (page-cleared_in b old v first end q above left ∙ either (is_clean_at b old v q) (old.page v q) none)
+              let bare = none_is (now.page v q) (gap q later left) in
+              let none : old.page v q ≡ None = sym out ∙ bare in
+              bare ∙ sym (page-cleared_in b old v first end q above left ∙ either (is_clean_at b old v q) (old.page v q) none)
           | inr past ↦ ap (λ (c : Content). c.page v q) is ∙ (page-cleared_out b old v first from q (inr later) ∙ sym (page-cleared_out b old v first end q (inr past)))
         ]
       ]
@@ -174,10 +178,10 @@ module _ (b : Backing) (old mid : Content) (v first from end : ℕ) (is : mid �
       (λ w q apart. page-cleared_vmo b mid v from end w q apart ∙ (ap (λ (c : Content). c.page w q) is ∙ page-cleared_vmo b old v first from w q apart))
 
 -- the first clean page of a range was made zero
-pub cleared-first : (b : Backing) (old mid : Content) (v first page : ℕ) → ((q : ℕ) → first ≤ q → q < page → is_clean_at b old v q ≡ false) → is_clean_at b old v page ≡ true
-    → first ≤ page → mid ≡ zeroed old v page (page + 1) → mid ≡ cleared b old v first (page + 1)
-cleared-first b old mid v first page none clean low is =
-    is ∙ (cleared-one b old v page clean ∙ cleared-append b old old v first page (page + 1) (cleared-none b old v first page none) low (omega arith))
+pub cleared-first : (b : Backing) (old mid : Content) (v first end page : ℕ) → IsFirst (is_clean_at b old v) first end page
+    → mid ≡ zeroed old v page (page + 1) → mid ≡ cleared b old v first (page + 1)
+cleared-first b old mid v first end page next is =
+    is ∙ (cleared-one b old v page next.hit ∙ cleared-append b old old v first page (page + 1) (cleared-none b old v first page next.gap) next.order (omega arith))
 
 -- nothing is cleared yet
 pub cleared-nothing : (b : Backing) (c : Content) (v first : ℕ) → c ≡ cleared b c v first first
@@ -189,17 +193,16 @@ clean-unheld : (b : Backing) (c : Content) (v p : ℕ) → c.page v p ≡ None �
 clean-unheld b c v p e = clean-zero b (c.page v p) p e
 
 -- the pages before a held one are not clean
-pub none_clean-to : (b : Backing) (c : Content) (v first from page : ℕ) → ((p : ℕ) → first ≤ p → p < from → is_clean_at b c v p ≡ false)
-    → ((p : ℕ) → from ≤ p → p < page → c.page v p ≡ None) → (p : ℕ) → first ≤ p → p < page → is_clean_at b c v p ≡ false
+pub none_clean-to : (b : Backing) (c : Content) (v first from page : ℕ) → HasNone (is_clean_at b c v) first from
+    → HasNone (is_held c v) from page → HasNone (is_clean_at b c v) first page
 none_clean-to b c v first from page before gap p low less = elim (cases_lt p from) [
   | inl done ↦ before p low done
-  | inr later ↦ clean-unheld b c v p (gap p later less)
+  | inr later ↦ clean-unheld b c v p (none_is _ (gap p later less))
 ]
 
 -- the pages up to one are not clean
-pub none_clean-more : (b : Backing) (c : Content) (v first from page : ℕ) → ((p : ℕ) → first ≤ p → p < from → is_clean_at b c v p ≡ false)
-    → ((p : ℕ) → from ≤ p → p < page → c.page v p ≡ None) → is_clean_at b c v page ≡ false
-    → (p : ℕ) → first ≤ p → p < page + 1 → is_clean_at b c v p ≡ false
+pub none_clean-more : (b : Backing) (c : Content) (v first from page : ℕ) → HasNone (is_clean_at b c v) first from
+    → HasNone (is_held c v) from page → is_clean_at b c v page ≡ false → HasNone (is_clean_at b c v) first (page + 1)
 none_clean-more b c v first from page before gap here p low less = elim (cases_lt p page) [
   | inl inside ↦ none_clean-to b c v first from page before gap p low inside
   | inr at ↦ let same : p ≡ page = omega (arith, at, less) in ap (is_clean_at b c v) same ∙ here

@@ -2,6 +2,7 @@
 use Rattle.std.proofs.Common.{◌≡◌, ◌≢◌, ℕ, zero, suc, ◌+◌, ◌-◌, ◌<◌, ◌≤◌, ◌⊎◌, inl, inr, Bool, true, false, cond, List, [], ◌∷◌, length, map, refl, sym, ap, subst, ◌∙◌, arith}
 use Rattle.std.specs.List.{filter, range_with_len}
 use Rattle.std.proofs.lemmas.Bool.{cases_Bool, cases_lt}
+use Rattle.vm_base.specs.Search.{HasNone}
 use Rattle.vm_model.specs.Contents.Content.{Content, pages_of, used, sole}
 use Rattle.vm_model.specs.Contents.Writing.{Piece}
 use Rattle.vm_model.proofs.ContentLaws.{sole_held}
@@ -94,7 +95,7 @@ module _ (bs : Backings) (ls : LooseLinks) (v : ℕ) (start : Content) where
     pub readable : IsReadable now bs ls
     pub ends : (w q : ℕ) → lookup_end ls now w q ≡ lookup_end ls start w q
     pub same : (q : ℕ) → from ≤ q → is_end_absent bs ls now v q ≡ began q
-    pub none : (q : ℕ) → first ≤ q → q < from → is_end_absent bs ls now v q ≡ false
+    pub none : HasNone (is_end_absent bs ls now v) first from
     pub rows : count_from (takes now) from (end - from) ≤ spare
     pub pages : (w : ℕ) → pages_of now w ≡ pages_of start w
 

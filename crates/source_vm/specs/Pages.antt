@@ -2,6 +2,7 @@
 use Rattle.std.specs.Prelude.{◌≡◌, ℕ, ◌+◌, ◌-◌, ◌*◌, ◌<◌, ◌≤◌, ◌⊎◌, Bool, map, false, true, ◌&&◌, ◌==◌, nat_eq, List, if◌then◌else◌, Option, None, Some}
 use Rattle.std.specs.List.{filter, range_with_len}
 use Rattle.std.specs.Cmp.Lexicographic.{pointwise}
+use Rattle.vm_base.specs.Search.{HasNone}
 use Rattle.vm_base.specs.declared.limits.TheConstants.{PAGE, SOURCE_PAGES, SOURCE_KIND_MAX}
 use Rattle.vm_base.specs.declared.refusal.Refusal.{Refusal}
 use Rattle.vm_base.specs.declared.refusal.Refusal.TheVariants.{NoMemory, HostMemory}
@@ -73,7 +74,7 @@ pub record FillsPages (backings : Backings) (links : LooseLinks) (old : Content)
 -- The absent pages at which the look-ups of the pages from `first` to below `end` of v end were supplied: none of them is absent now.
 pub record IsSupplied (backings : Backings) (links : LooseLinks) (v : ℕ) (old : Content) (first end : ℕ) (new : Content) : Type 0 where
   pub fills : FillsPages backings links old (map (end_piece links old v) (absent_ends backings links old v first end)) new
-  pub none : (p : ℕ) → first ≤ p → p < end → is_end_absent backings links new v p ≡ false
+  pub none : HasNone (is_end_absent backings links new v) first end
   pub readable : IsReadable new backings links
   pub pages : (w : ℕ) → pages_of new w ≡ pages_of old w
 

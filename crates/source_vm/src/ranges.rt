@@ -2,8 +2,8 @@
 
 ghost use Rattle.std.specs.Prelude.{◌≡◌, ℕ, ◌+◌, ◌-◌, ◌*◌, ◌/◌, ◌<◌, ◌≤◌, true, false, [], ◌∷◌, map, length, Some, None, IsSome, IfSome, IfNone, IfErr, OnOk, OnErr};
 ghost use Rattle.std.specs.List.{filter, range_with_len};
-ghost use Rattle.vm_base.specs.Search.{any_from};
-ghost use Rattle.vm_model.specs.Contents.Content.{pages_of, used, IsGood};
+ghost use Rattle.vm_base.specs.Search.{any_from, IsFirstOrNone};
+ghost use Rattle.vm_model.specs.Contents.Content.{pages_of, is_held, used, IsGood};
 ghost use Rattle.vm_model.specs.Contents.Owning.{need};
 ghost use Rattle.vm_model.specs.Contents.Writing.{touched, pieces};
 ghost use Rattle.vmo_ops.specs.Costs.{HasRows};
@@ -356,10 +356,7 @@ pub(crate) fn evict_pages<P: PageStore>(
 /// Returns the first held page from `from` to below `end`. `None` if and only if none is.
 fn next_held_in<P: PageStore>(store: &P, v: Koid, from: PageNo, end: PageNo) -> Option<PageNo>
     requires { IsSome ((P.content store.now).count v.0) }
-    ensures some { IfSome result (λ page. (from ≤ page) × (page < end)
-        × ((p : ℕ) → from ≤ p → p < page → (P.content store.now).page v.0 p ≡ None)
-        × IsSome ((P.content store.now).page v.0 page)) }
-    ensures none { IfNone result ((p : ℕ) → from ≤ p → p < end → (P.content store.now).page v.0 p ≡ None) }
+    ensures { IsFirstOrNone (is_held (P.content store.now) v.0) from end result }
 {
     let page = store.next_held(v, from)?;
     if page < end { Some(page) } else { None }
@@ -380,9 +377,7 @@ fn first_clean<P: PageStore>(
     requires vmo { IsSome ((P.content store.now).count v.0) }
     requires order { first ≤ end }
     requires pages { end ≤ pages_of (P.content store.now) v.0 }
-    ensures some { IfSome result (λ page. (first ≤ page) × (page < end) × (is_clean_at backing.now (P.content store.now) v.0 page ≡ true)
-        × ((p : ℕ) → first ≤ p → p < page → is_clean_at backing.now (P.content store.now) v.0 p ≡ false)) }
-    ensures none { IfNone result ((p : ℕ) → first ≤ p → p < end → is_clean_at backing.now (P.content store.now) v.0 p ≡ false) }
+    ensures { IsFirstOrNone (is_clean_at backing.now (P.content store.now) v.0) first end result }
 {
     let mut from = first;
     while let Some(page) = next_held_in(store, v, from, end) {

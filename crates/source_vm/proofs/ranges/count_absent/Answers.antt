@@ -12,27 +12,27 @@ loop-page-init g c = record {
 
 pub overflow_sub-absent-in-Some : goal.overflow_sub-absent-in-Some
 overflow_sub-absent-in-Some g c =
-    let found = c.in-Some.ensures.some in
+    let found = c.in-Some.ensures in
     let inv = c.loop-page.invariant in
     omega (
       arith,
       (absent_next (g.P.PageStore.content c.args.store.now) c.args.backing.now c.args.v.0 c.args.first c.args.end c.requires.seen
-          c.loop-page.from c.in-Some.page c.loop-page.absent inv.order found.0 found.1 found.2 found.3 inv.counted).0,
+          c.loop-page.from c.in-Some.page c.loop-page.absent inv.order found inv.counted).0,
     )
 
 pub loop-page-preserved : goal.loop-page-preserved
 loop-page-preserved g c =
-    let found = c.in-Some.ensures.some in
+    let found = c.in-Some.ensures in
     let inv = c.loop-page.invariant in
     record {
-      order = omega (arith, found.0, inv.order);
-      inside = omega (arith, found.1);
+      order = omega (arith, found.order, inv.order);
+      inside = omega (arith, found.below);
       counted = (absent_next (g.P.PageStore.content c.args.store.now) c.args.backing.now c.args.v.0 c.args.first c.args.end c.requires.seen
-          c.loop-page.from c.in-Some.page c.loop-page.absent inv.order found.0 found.1 found.2 found.3 inv.counted).1;
+          c.loop-page.from c.in-Some.page c.loop-page.absent inv.order found inv.counted).1;
     }
 
 pub returns : goal.returns
 returns g c =
     let inv = c.loop-page.invariant in
     absent_last (g.P.PageStore.content c.args.store.now) c.args.backing.now c.args.v.0 c.args.first c.args.end c.requires.seen
-    c.loop-page.from c.loop-page.absent inv.order inv.inside c.in_default.ensures.none inv.counted
+    c.loop-page.from c.loop-page.absent inv.order inv.inside c.in_default.ensures inv.counted

@@ -9,12 +9,12 @@ use Rattle.source_vm.proofs.ranges.evict_pages.Goals as goal
 
 pub returns-in_default-clause-ok : goal.returns-in_default-clause-ok
 returns-in_default-clause-ok g c =
-    cleared-none c.args.backing.now (g.P.PageStore.content c.args.store.now) c.args.v.0 c.args.first c.args.end c.in_default.ensures.none
+    cleared-none c.args.backing.now (g.P.PageStore.content c.args.store.now) c.args.v.0 c.args.first c.args.end c.in_default.ensures
 
 pub returns-in_default-reserve-clause-err : goal.returns-in_default-reserve-clause-err
 returns-in_default-reserve-clause-err g c =
-    let found = c.in-Some.ensures.some in
-    any_from_at (is_clean_at c.args.backing.now (g.P.PageStore.content c.args.store.now) c.args.v.0) c.args.first c.args.end c.in-Some.page found.0 found.1 found.2
+    let found = c.in-Some.ensures in
+    any_from_at (is_clean_at c.args.backing.now (g.P.PageStore.content c.args.store.now) c.args.v.0) c.args.first c.args.end c.in-Some.page found.order found.below found.hit
 
 pub evict_range-requires-clause-good : goal.evict_range-requires-clause-good
 evict_range-requires-clause-good g c =
@@ -22,8 +22,7 @@ evict_range-requires-clause-good g c =
     let old = g.P.PageStore.content c.args.store.now in
     let v = c.args.v.0 in
     let page = c.in-Some.page in
-    let found = c.in-Some.ensures.some in
-    let mid = cleared-first b old _ v c.args.first page found.3 found.2 found.0
+    let mid = cleared-first b old _ v c.args.first c.args.end page c.in-Some.ensures
     (c.zero.ensures.zero ∙ ap (λ (d : Content). zeroed d v page (page + 1)) c.reserve.ensures.same) in
     subst IsGood (sym mid) (IsGood-cleared b old v c.args.first (page + 1) c.requires.good)
 
@@ -33,8 +32,7 @@ evict_range-requires-clause-vmo g c =
     let old = g.P.PageStore.content c.args.store.now in
     let v = c.args.v.0 in
     let page = c.in-Some.page in
-    let found = c.in-Some.ensures.some in
-    let mid = cleared-first b old _ v c.args.first page found.3 found.2 found.0
+    let mid = cleared-first b old _ v c.args.first c.args.end page c.in-Some.ensures
     (c.zero.ensures.zero ∙ ap (λ (d : Content). zeroed d v page (page + 1)) c.reserve.ensures.same) in
     subst (λ count. IsSome (count v)) (sym (count-cleared b old _ v c.args.first (page + 1) mid)) c.requires.vmo
 
@@ -44,8 +42,7 @@ evict_range-requires-clause-pages g c =
     let old = g.P.PageStore.content c.args.store.now in
     let v = c.args.v.0 in
     let page = c.in-Some.page in
-    let found = c.in-Some.ensures.some in
-    let mid = cleared-first b old _ v c.args.first page found.3 found.2 found.0
+    let mid = cleared-first b old _ v c.args.first c.args.end page c.in-Some.ensures
     (c.zero.ensures.zero ∙ ap (λ (d : Content). zeroed d v page (page + 1)) c.reserve.ensures.same) in
     let same = ap (λ (d : Content). pages_of d v) mid ∙ pages_of-cleared b old v c.args.first (page + 1) v in
     omega (arith, same, c.requires.pages)
@@ -56,7 +53,6 @@ returns-clause-ok g c =
     let old = g.P.PageStore.content c.args.store.now in
     let v = c.args.v.0 in
     let page = c.in-Some.page in
-    let found = c.in-Some.ensures.some in
-    let mid = cleared-first b old _ v c.args.first page found.3 found.2 found.0
+    let mid = cleared-first b old _ v c.args.first c.args.end page c.in-Some.ensures
     (c.zero.ensures.zero ∙ ap (λ (d : Content). zeroed d v page (page + 1)) c.reserve.ensures.same) in
-    c.evict_range.ensures ∙ cleared-append b old _ v c.args.first (page + 1) c.args.end mid (omega (arith, found.0)) (omega (arith, found.1))
+    c.evict_range.ensures ∙ cleared-append b old _ v c.args.first (page + 1) c.args.end mid (omega (arith, c.in-Some.ensures.order)) (omega (arith, c.in-Some.ensures.below))

@@ -24,21 +24,21 @@ pub evict_page-requires-clause-page : goal.evict_page-requires-clause-page
 evict_page-requires-clause-page g c =
     let same = ap (λ (d : Content). pages_of d c.args.v.0) c.loop-page.invariant.cleared
     ∙ pages_of-cleared c.args.backing.now _ c.args.v.0 c.args.first c.loop-page.from c.args.v.0 in
-    omega (arith, same, c.requires.pages, c.in-Some.ensures.some.1)
+    omega (arith, same, c.requires.pages, c.in-Some.ensures.below)
 
 pub loop-page-preserved : goal.loop-page-preserved
 loop-page-preserved g c =
-    let found = c.in-Some.ensures.some in
+    let found = c.in-Some.ensures in
     let inv = c.loop-page.invariant in
     record {
-      order = omega (arith, found.0, inv.order);
-      inside = omega (arith, found.1);
+      order = omega (arith, found.order, inv.order);
+      inside = omega (arith, found.below);
       cleared = c.evict_page.ensures.content ∙ cleared-step c.args.backing.now _ _ c.args.v.0 c.args.first c.loop-page.from c.in-Some.page inv.cleared
-          inv.order found.0 found.2;
-      room = omega (arith, inv.room, c.evict_page.ensures.spare, found.0, found.1);
+          inv.order found.order found.gap;
+      room = omega (arith, inv.room, c.evict_page.ensures.spare, found.order, found.below);
     }
 
 pub returns : goal.returns
 returns g c =
     cleared-end c.args.backing.now _ _ c.args.v.0 c.args.first c.loop-page.from c.args.end c.loop-page.invariant.cleared
-    c.loop-page.invariant.order c.in_default.ensures.none c.loop-page.invariant.inside
+    c.loop-page.invariant.order c.in_default.ensures c.loop-page.invariant.inside
