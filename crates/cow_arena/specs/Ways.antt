@@ -1,12 +1,11 @@
 -- The ways upwards: from which pages of which nodes a walk comes to a page of a node.
-use Rattle.std.specs.Prelude.{◌≡◌, ◌≢◌, ◌⊎◌, ℕ, zero, suc, ◌+◌, ◌<◌, ◌≤◌, Option, None, Some, IsSome}
+use Rattle.std.specs.Prelude.{◌≡◌, ◌≢◌, ◌⊎◌, ℕ, zero, suc, ◌+◌, ◌<◌, ◌≤◌, Option, None, Some}
 use Rattle.std.specs.Option.{option_map}
 use Rattle.page_list.specs.declared.row.Slot.{Slot}
 use Rattle.cow_arena.specs.declared.node.Node.{Node}
 use Rattle.cow_arena.specs.declared.node.Side.{Side}
 use Rattle.cow_arena.specs.Nodes.{link_to, side_in}
 use Rattle.cow_arena.specs.Walk.{Tree, Slots, Found, frame_in}
-use Rattle.cow_arena.specs.Forest.{IsChild}
 
 -- node h is there, and its list has this row at page q
 pub record HasRow (t : Tree) (h q : ℕ) (slot : Slot) : Type 0 where
@@ -109,10 +108,3 @@ pub record KeepsBare (old new : Slots) (list : ℕ) : Type 0 where
 pub record KeepsBelow (old new : Slots) (parent sibling : Node) : Type 0 where
   pub others : (l q : ℕ) → l ≢ sibling.list.0 → old l q ≡ None → new l q ≡ None
   pub child : (p : ℕ) → old sibling.list.0 p ≡ None → old parent.list.0 (sibling.first + p) ≡ None → new sibling.list.0 p ≡ None
-
--- Node v is gone, and its parent. The other nodes are there, and see no more pages of their parents than they did. A page of one of
--- them that rose to a page of another rises to it.
-pub record KeepsRises (old new : Tree) (v : ℕ) : Type 0 where
-  pub stays : (k : ℕ) (node : Node) → old.nodes k ≡ Some node → k ≢ v → (IsChild old.nodes k v → ⊥) → IsSome (new.nodes k)
-  pub seen : (k : ℕ) (node now : Node) → old.nodes k ≡ Some node → new.nodes k ≡ Some now → now.seen ≤ node.seen
-  pub rises : (k p : ℕ) (side : Side) (h q : ℕ) → IsSome (new.nodes k) → IsSome (new.nodes h) → Rises old k p side h q → Rises new k p side h q

@@ -5,10 +5,9 @@ use Rattle.cow_forest.proofs.Words.{eqb_apart, some_same, some_is, none_is, with
 use Rattle.cow_forest.proofs.Words.{is_taken, Node, Pair, Arena, Nodes, nodes_of, IsVisible, Tree, Slots, tree_with, IsForest, root_node}
 use Rattle.cow_forest.proofs.Words.{paired, KeepsBare, tree_of, HasShared, split_slots, split_row, is_taken_in, with_count, KeepsPages, IsPartOf}
 use Rattle.cow_forest.proofs.Words.{jump_in, serial_in, IsCurrentJump, IsJump, AreJumps, AreMovedUp, ArePairRetired, Forest, tree, HasNode}
-use Rattle.cow_forest.proofs.Words.{IsStore, HasZeroed}
+use Rattle.cow_forest.proofs.Words.{IsStore, HasZeroed, HasGone}
 use Rattle.cow_arena.proofs.PairWalkLaws.{paired_tree, leaf-at, hidden-at, other-at}
 use Rattle.cow_arena.proofs.RelinkLaws.{relinked-stays, relinked-was}
-use Rattle.cow_arena.specs.Ways.{KeepsRises}
 use Rattle.cow_arena.proofs.RisesLaws.{rises-stays, rises-changed, rises-paired, rises-hidden}
 use Rattle.cow_arena.proofs.MovedLaws.{IsChangeOf}
 use Rattle.cow_arena.proofs.WindowWalkLaws.{node-added, leaf-changed}
@@ -280,9 +279,9 @@ module _ (f : Forest) (s : IsStore f) (arena : Arena) (rows : Rows Row) (pool : 
 
 -- ---- a VMO closes
 
-pub jumps-closed : (t u : Tree) (next v : ℕ) (old new : JumpTable) → AreJumps t next old → ArePairRetired t.nodes old new v → KeepsRises t u v →
-    ((k : ℕ) (now : Node) → u.nodes k ≡ Some now → (node : Node) × (t.nodes k ≡ Some node)) → AreJumps u next new
-jumps-closed t u next v old new are retired keeps came = record {
+pub jumps-closed : (t u : Tree) (next v : ℕ) (old new : JumpTable) → AreJumps t next old → ArePairRetired t.nodes old new v → HasGone t u v →
+    AreJumps u next new
+jumps-closed t u next v old new are retired gone = record {
   jumps = λ k jump has taken. jump-closed k jump taken (are.jumps k jump (sym (retired.jumps k) ∙ has) (taken-retired t.nodes v old new retired jump taken));
   made = λ k jump has. are.made k jump (sym (retired.jumps k) ∙ has);
   serials = less-retired t.nodes v next old new retired are.serials;
@@ -295,12 +294,12 @@ jumps-closed t u next v old new are retired keeps came = record {
     stays : (jump : Jump) → IsCurrentJump new jump → IsSome (t.nodes jump.to.0) → IsSome (u.nodes jump.to.0)
     stays jump taken some =
         let it = some_is (t.nodes jump.to.0) some in
-        keeps.stays jump.to.0 it.0 it.1 (λ same. numbered jump taken v same retired.leaf) (λ child. numbered jump taken jump.to.0 refl (retired.parent jump.to.0 child))
+        gone.kept jump.to.0 it.0 it.1 (λ same. numbered jump taken v same retired.leaf) (λ child. numbered jump taken jump.to.0 refl (retired.parent jump.to.0 child))
 
     jump-closed : (k : ℕ) (jump : Jump) → IsCurrentJump new jump → IsJump t k jump → IsJump u k jump
     jump-closed k jump taken is = jump-carried t u k k jump
-        (λ now at. let node = came k now at in let seen = keeps.seen k node.0 now node.1 at in (node.0, node.1, omega arith)) (stays jump taken)
+        (λ now at. let was = gone.came k now at in let seen = gone.seen k was.node now was.at at in (was.node, was.at, omega arith)) (stays jump taken)
         (λ p now at inside.
-        let node = came k now at in
-        let seen = keeps.seen k node.0 now node.1 at in
-        keeps.rises k p jump.side jump.to.0 (p + jump.shift) (ap is_some at) (stays jump taken (is.there node.0 node.1 (omega arith)))) is
+        let was = gone.came k now at in
+        let seen = gone.seen k was.node now was.at at in
+        gone.rises k p jump.side jump.to.0 (p + jump.shift) (ap is_some at) (stays jump taken (is.there was.node was.at (omega arith)))) is

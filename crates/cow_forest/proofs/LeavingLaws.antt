@@ -3,7 +3,7 @@ use Rattle.cow_forest.proofs.Words.{◌≡◌, ◌≢◌, ℕ, ◌+◌, ◌-◌,
 use Rattle.cow_forest.proofs.Words.{inr, arith, is_some, IsSome, IfSome, IfNone, cases_eq, cases_lt, eq-eqb, Rows, without_key, some_same}
 use Rattle.cow_forest.proofs.Words.{some_is, without_key-same, without_key-other, without_key-some, eqb_apart, Page, vmos_of, only, without}
 use Rattle.cow_forest.proofs.Words.{page-only_stays, count-without_here, count-without_other, Pool, ListId, Row, Node, NodeId, Arena}
-use Rattle.cow_forest.proofs.Words.{nodes_of, AreFamily, link_to, sibling_in, frame_shown, IsForest, IsChild, IsPage, HasListOfParent}
+use Rattle.cow_forest.proofs.Words.{nodes_of, AreFamily, link_to, sibling_in, frame_shown, IsForest, IsChild, IsPage, tree_of, HasListOfParent}
 use Rattle.cow_forest.proofs.Words.{visible_count, KeepsPages, HasGone, same_content, vmos_of-same, vmos_of-less, NodeEntries, node_in, IsDisowned, AreMerged}
 use Rattle.cow_forest.proofs.Words.{HasOneOf, Forest, tree, forest_content, count_from, pages_in, frame_from, page_showing, HasNode}
 use Rattle.cow_forest.proofs.Words.{IsNodeOf, IsStore}
@@ -51,11 +51,11 @@ led-on f led k (Some three) m j now it =
     ap led list ∙ (own.leads ∙ ap link_to (link_same (sym own.beside ∙ it.beside)))
 
 -- and once the VMO is closed, it has one of the two
-pub one-of : (f : Forest) (arena : Arena) (led : ℕ → Option NodeId) (k : ℕ) (merged : Option (NodeId × ListId × ListId)) →
-    IsForest (nodes_of f.arena) f.arena.lists → HasGone (nodes_of f.arena) (nodes_of arena) k → AreMergedIn f led k merged →
+pub one-of : (f : Forest) (arena : Arena) (rows : Rows Row) (led : ℕ → Option NodeId) (k : ℕ) (merged : Option (NodeId × ListId × ListId)) →
+    IsForest (nodes_of f.arena) f.arena.lists → HasGone (tree f) (tree_of arena rows) k → AreMergedIn f led k merged →
     IfSome merged (λ it. HasOneOf (nodes_of arena) it.0.0 it.1.0 it.2.0)
-one-of f arena led k None forest c m = tt
-one-of f arena led k (Some three) forest c m =
+one-of f arena rows led k None forest c m = tt
+one-of f arena rows led k (Some three) forest c m =
     let it = m.family in
     let now = some_is (nodes_of arena three.0.0) (c.beside three.0.0 it.beside) in
     let family : AreFamily (nodes_of f.arena) k it.h three.0.0 it.child.node it.parent it.sibling =
@@ -91,7 +91,7 @@ one-of f arena led k (Some three) forest c m =
     }
 
 module _ (f : Forest) (arena : Arena) (rows : Rows Row) (pool : Pool) (nodes owners led : NodeEntries) (v k : ℕ)
-    (s : IsStore f) (h : HasNode f v k) (c : HasGone (nodes_of f.arena) (nodes_of arena) k) (kept_pages : KeepsPages f.arena arena f.rows rows f.pool pool)
+    (s : IsStore f) (h : HasNode f v k) (c : HasGone (tree f) (tree_of arena rows) k) (kept_pages : KeepsPages f.arena arena f.rows rows f.pool pool)
     (visible : visible_count arena + 1 ≡ visible_count f.arena) (merged : Option (NodeId × ListId × ListId))
     (m : AreMergedIn f (node_in led) k merged) (d : IsDisowned (nodes_of f.arena) (node_in f.owners) (node_in led) k)
     (kept : (j : ℕ) (node : Node) → nodes_of arena j ≡ Some node → node_in owners node.list.0 ≡ node_in led node.list.0)

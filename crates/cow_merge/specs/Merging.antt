@@ -1,14 +1,16 @@
 -- What it is to shrink a VMO's node, and to close one.
-use Rattle.std.specs.Prelude.{◌≡◌, ◌≢◌, ◌⊎◌, ℕ, min, None, Some, IsSome}
+use Rattle.std.specs.Prelude.{◌≡◌, ◌≢◌, ◌⊎◌, ℕ, ◌≤◌, min, None, Some, IsSome}
 use Rattle.balanced_tree.specs.Rows.{Rows}
 use Rattle.page_list.specs.declared.row.Row.{Row}
 use Rattle.vm_base.specs.Entries.{with_key}
 use Rattle.frame_pool.specs.Pool.{Pool, is_taken}
 use Rattle.cow_arena.specs.declared.node.Node.{Node}
+use Rattle.cow_arena.specs.declared.node.Side.{Side}
 use Rattle.cow_arena.specs.Nodes.{Arena, Nodes, IsVisible, link_to, sibling_in}
 use Rattle.cow_arena.specs.Forest.{IsChild}
 use Rattle.cow_arena.specs.Changes.{with_window}
-use Rattle.cow_arena.specs.Walk.{frame_shown}
+use Rattle.cow_arena.specs.Walk.{Tree, frame_shown}
+use Rattle.cow_arena.specs.Ways.{Rises}
 use Rattle.cow_split.specs.Trees.{tree_of}
 use Rattle.cow_split.specs.Sight.{IsPage, StaysVisible}
 use Rattle.cow_split.specs.Exact.{IsExact, all_in_sight}
@@ -73,12 +75,18 @@ WasUnder old k h now = StaysUnder old k h now ⊎ IsRaised old k h now
 
 -- The visible node v is gone, and its parent too. Each other VMO has its node. Each node has the list that it had, except
 -- that the sibling may have the list of the parent.
-pub record HasGone (old new : Nodes) (v : ℕ) : Type 0 where
-  pub gone : new v ≡ None
-  pub stays : (w : ℕ) (node : Node) → w ≢ v → IsVisible old w node → StaysVisible old new w node
-  pub no_more : (w : ℕ) (node : Node) → IsVisible new w node → StaysVisible new old w node
-  pub came : (k : ℕ) (node : Node) → new k ≡ Some node → WasThere old k node
-  pub own_lists : (k : ℕ) (was now : Node) → old k ≡ Some was → new k ≡ Some now → (now.list ≡ was.list) ⊎ HasListOfParent old v k now
-  pub parent_gone : (h : ℕ) → IsChild old h v → new h ≡ None
-  pub beside : (s : ℕ) → sibling_in old v ≡ link_to s → IsSome (new s)
-  pub parents : (k h : ℕ) (now : Node) → new k ≡ Some now → now.parent ≡ link_to h → WasUnder old k h now
+pub record HasGone (old new : Tree) (v : ℕ) : Type 0 where
+  pub gone : new.nodes v ≡ None
+  pub stays : (w : ℕ) (node : Node) → w ≢ v → IsVisible old.nodes w node → StaysVisible old.nodes new.nodes w node
+  pub no_more : (w : ℕ) (node : Node) → IsVisible new.nodes w node → StaysVisible new.nodes old.nodes w node
+  pub came : (k : ℕ) (node : Node) → new.nodes k ≡ Some node → WasThere old.nodes k node
+  pub own_lists : (k : ℕ) (was now : Node) → old.nodes k ≡ Some was → new.nodes k ≡ Some now →
+      (now.list ≡ was.list) ⊎ HasListOfParent old.nodes v k now
+  pub parent_gone : (h : ℕ) → IsChild old.nodes h v → new.nodes h ≡ None
+  pub beside : (s : ℕ) → sibling_in old.nodes v ≡ link_to s → IsSome (new.nodes s)
+  pub parents : (k h : ℕ) (now : Node) → new.nodes k ≡ Some now → now.parent ≡ link_to h → WasUnder old.nodes k h now
+  -- The other nodes are there, and see no more pages of their parents than they did. A page of one of them that rose to a page of
+  -- another rises to it.
+  pub kept : (k : ℕ) (node : Node) → old.nodes k ≡ Some node → k ≢ v → (IsChild old.nodes k v → ⊥) → IsSome (new.nodes k)
+  pub seen : (k : ℕ) (node now : Node) → old.nodes k ≡ Some node → new.nodes k ≡ Some now → now.seen ≤ node.seen
+  pub rises : (k p : ℕ) (side : Side) (h q : ℕ) → IsSome (new.nodes k) → IsSome (new.nodes h) → Rises old k p side h q → Rises new k p side h q

@@ -3,7 +3,6 @@
 ghost use Rattle.std.specs.Prelude.{◌≡◌, ℕ, ◌+◌, IsSomeAnd, IsSome, option_copied};
 ghost use Rattle.cow_arena.specs.Nodes.{nodes_of};
 ghost use Rattle.cow_arena.specs.Counts.{visible_count};
-ghost use Rattle.cow_arena.specs.Ways.{KeepsRises};
 ghost use Rattle.cow_split.specs.Trees.{tree_of};
 ghost use Rattle.cow_split.specs.Exact.{IsExact, all_in_sight};
 ghost use Rattle.frame_pool.specs.Pool.{is_taken};
@@ -46,9 +45,8 @@ pub fn close(arena: &mut CowArena, lists: &mut PageLists, frames: &mut FramePool
     requires exact { IsExact (tree_of arena.old lists.old) all_in_sight (is_taken frames.old) }
     requires leaf { IsSomeAnd (nodes_of arena.old leaf.0) (λ node. IsSome node.koid) }
     ensures kept { KeepsPages arena.old arena.new lists.old lists.new frames.old frames.new }
-    ensures gone { HasGone (nodes_of arena.old) (nodes_of arena.new) leaf.0 }
+    ensures gone { HasGone (tree_of arena.old lists.old) (tree_of arena.new lists.new) leaf.0 }
     ensures visible { visible_count arena.new + 1 ≡ visible_count arena.old }
-    ensures ways { KeepsRises (tree_of arena.old lists.old) (tree_of arena.new lists.new) leaf.0 }
 {
     close_with(arena, lists, frames, None, leaf);
 }
@@ -65,9 +63,8 @@ pub fn close_by_jumps(
     requires leaf { IsSomeAnd (nodes_of arena.old leaf.0) (λ node. IsSome node.koid) }
     requires jumps { (next : ℕ) × AreJumps (tree_of arena.old lists.old) next jumps.now }
     ensures kept { KeepsPages arena.old arena.new lists.old lists.new frames.old frames.new }
-    ensures gone { HasGone (nodes_of arena.old) (nodes_of arena.new) leaf.0 }
+    ensures gone { HasGone (tree_of arena.old lists.old) (tree_of arena.new lists.new) leaf.0 }
     ensures visible { visible_count arena.new + 1 ≡ visible_count arena.old }
-    ensures ways { KeepsRises (tree_of arena.old lists.old) (tree_of arena.new lists.new) leaf.0 }
 {
     close_with(arena, lists, frames, Some(jumps), leaf);
 }
@@ -84,9 +81,8 @@ fn close_with(
     requires leaf { IsSomeAnd (nodes_of arena.old leaf.0) (λ node. IsSome node.koid) }
     requires jumps { MayJump (tree_of arena.old lists.old) (option_copied jumps) }
     ensures kept { KeepsPages arena.old arena.new lists.old lists.new frames.old frames.new }
-    ensures gone { HasGone (nodes_of arena.old) (nodes_of arena.new) leaf.0 }
+    ensures gone { HasGone (tree_of arena.old lists.old) (tree_of arena.new lists.new) leaf.0 }
     ensures visible { visible_count arena.new + 1 ≡ visible_count arena.old }
-    ensures ways { KeepsRises (tree_of arena.old lists.old) (tree_of arena.new lists.new) leaf.0 }
 {
     let (Some(hidden), Some(sibling)) = (arena.node(leaf).parent, arena.sibling(leaf)) else {
         leave_out(arena, lists, frames, jumps, leaf, 0);

@@ -1,10 +1,6 @@
-use Rattle.cow_forest.proofs.Words.{arith}
 use Rattle.cow_forest.proofs.RangeLaws.{sweep-some, sweep-leaf, sweep-room, sweep-on}
 use Rattle.cow_forest.proofs.JumpKeptLaws.{jumps-zeroed}
 use Rattle.cow_forest.proofs.ranges.zero_rows.Goals as goal
-
-pub overflow_sub-row : goal.overflow_sub-row
-overflow_sub-row g c = omega (arith, c.in-Some.ensures.next.order, c.loop-row.invariant.order)
 
 pub zero_shown-requires-clause-page : goal.zero_shown-requires-clause-page
 zero_shown-requires-clause-page g c =
@@ -19,12 +15,6 @@ zero_shown-requires-clause-room g c =
 pub zero_shown-requires-clause-jumps : goal.zero_shown-requires-clause-jumps
 zero_shown-requires-clause-jumps g c =
     (c.requires.jumps.0, jumps-zeroed _ _ _ _ _ _ _ _ c.requires.ready.exact.forest _ c.requires.ready.visible c.loop-row.invariant.some _ _ c.requires.jumps.1)
-
-pub overflow_add-from : goal.overflow_add-from
-overflow_add-from g c = omega (arith, c.in-Some.ensures.next.below)
-
-pub loop-row-smaller : goal.loop-row-smaller
-loop-row-smaller g c = omega (arith, c.in-Some.ensures.next.order, c.in-Some.ensures.next.below)
 
 pub loop-row-preserved : goal.loop-row-preserved
 loop-row-preserved g c =

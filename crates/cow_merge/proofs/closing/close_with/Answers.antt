@@ -5,7 +5,6 @@ use Rattle.cow_merge.proofs.RangeLaws.{visible-of, lost-then}
 use Rattle.cow_merge.proofs.CloseLaws.{closed-root, closed-spliced, closed-over, root-of, root-ready, child-ready, family-of}
 use Rattle.cow_merge.proofs.SeenLaws.{seen-start, seen-kept}
 use Rattle.cow_merge.proofs.LiftedLaws.{lifting-start, lifting-end, lost-lifted}
-use Rattle.cow_merge.proofs.KeptWaysLaws.{keeps-root, keeps-spliced_rows, keeps-over_rows}
 use Rattle.cow_merge.proofs.closing.close_with.Goals as goal
 use Rattle.cow_merge.proofs.closing.close_with.Goals.{in_default-via-in-Some+in_default, in_default-via-in_default}
 use Rattle.cow_merge.proofs.HandLaws.{lost-handed}
@@ -36,14 +35,6 @@ returns-in_default c =
       kept = closed.0;
       gone = closed.1;
       visible = c.remove_root.ensures.visible;
-      ways =
-          let visible = visible-of c.args.arena.now c.requires.leaf c.node.ensures in
-          keeps-root c.args.arena.now c.remove_root.new.self c.args.lists.now c.leave_out.new.lists c.requires.exact.forest c.args.leaf.0 c.node.result visible
-          (elim c.in_default.branch [
-            | in_default-via-in-Some+in_default w ↦
-                root-of c.node.result c.sibling.result (c.sibling.ensures.root c.node.result c.node.ensures) w.in_default.is-1
-            | in_default-via-in_default w ↦ w.in_default.is-0
-          ]) c.leave_out.ensures.lost.keeps c.remove_root.ensures.nodes c.remove_root.ensures.lists c.remove_root.ensures.forest;
     }
 
 pub leave_out_above-requires : goal.leave_out_above-requires
@@ -81,12 +72,6 @@ returns-else-goes_over c =
       kept = closed.0;
       gone = closed.1;
       visible = c.splice.ensures.visible;
-      ways =
-          let of = c.lift_rows.ensures.lifting.of in
-          let was = lost-lifted c.requires.exact.forest of c.leave_out_above-else-goes_over.ensures.lost c.lift_rows.ensures.moves in
-          keeps-spliced_rows c.args.arena.now c.splice.new.self c.args.lists.now c.lift_rows.new.lists c.requires.exact.forest c.args.leaf.0 c.in-Some-Some.hidden.0
-          c.in-Some-Some.sibling.0 of was.keeps (λ p. c.lift_rows.ensures.empty of.parent of.family.parent_at p (omega arith) tt)
-          (c.splice.ensures.nodes c.in-Some-Some.hidden.0 c.in-Some-Some.sibling.0 of.node of.parent of.sibling of.family) c.splice.ensures.lists c.splice.ensures.forest;
     }
 
 -- ---- the parent's list goes over
@@ -132,16 +117,4 @@ returns-then-goes_over c =
       kept = closed.0;
       gone = closed.1;
       visible = c.splice_over.ensures.visible;
-      ways =
-          let over = lost-handed c.hand_over.ensures (lost-then c.uncover.ensures.lost c.leave_out_above.ensures.lost) in
-          keeps-over_rows c.args.arena.now c.splice_over.new.self c.args.lists.now c.hand_over.new.lists c.args.frames.now c.hand_over.new.frames
-          c.requires.exact.forest c.args.leaf.0 c.in-Some-Some.hidden.0 c.in-Some-Some.sibling.0 over
-          (c.splice_over.ensures.nodes c.in-Some-Some.hidden.0 c.in-Some-Some.sibling.0 over.of.node over.of.parent over.of.sibling over.of.family)
-          c.splice_over.ensures.lists c.splice_over.ensures.forest;
     }
-
--- ---- the ways upwards
-
--- ---- the jumps
-
--- ---- the parents

@@ -3,12 +3,6 @@ use Rattle.cow_merge.proofs.Words.{arith}
 use Rattle.cow_merge.proofs.PassingLaws.{outside-next, outside-none, outside-behind, outside-ends}
 use Rattle.cow_merge.proofs.ranges.next_outside.Goals as goal
 
-pub overflow_sub-row : goal.overflow_sub-row
-overflow_sub-row c = omega (arith, c.in-Some.ensures.order, c.requires)
-
-pub overflow_sub-to : goal.overflow_sub-to
-overflow_sub-to c = omega (arith, c.in-Some.ensures.order, c.in-Some.ensures.below, c.requires)
-
 pub returns-then-not-is_inside-clause-next : goal.returns-then-not-is_inside-clause-next
 returns-then-not-is_inside-clause-next c = outside-next _ _ _ _ _ _ c.in-Some.ensures
 

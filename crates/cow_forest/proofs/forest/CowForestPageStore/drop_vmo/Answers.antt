@@ -18,7 +18,7 @@ close_by_jumps-requires-clause-leaf c =
 pub leave_other-requires : goal.leave_other-requires
 leave_other-requires c =
     let s = c.self.invariant.store in
-    one-of (forest_of c.self.inside) c.close_by_jumps.new.arena _ c.get-node.result.0 c.disown-merged.result s.exact.forest c.close_by_jumps.ensures.gone
+    one-of (forest_of c.self.inside) c.close_by_jumps.new.arena c.close_by_jumps.new.lists _ c.get-node.result.0 c.disown-merged.result s.exact.forest c.close_by_jumps.ensures.gone
     (record { family = c.disown-merged.ensures.family; root = c.disown-merged.ensures.root })
 
 pub invariant_of-self : goal.invariant_of-self
@@ -32,7 +32,7 @@ invariant_of-self c =
           c.leave.ensures;
       jumps = c.renew_merged.ensures c.self.inside.next
           (jumps-closed (tree (forest_of c.self.inside)) _ c.self.inside.next c.get-node.result.0 c.self.inside.jumps c.retire_pair.new.jumps c.self.invariant.jumps
-          c.retire_pair.ensures c.close_by_jumps.ensures.ways (λ k now at. let was = c.close_by_jumps.ensures.gone.came k now at in (was.node, was.at)));
+          c.retire_pair.ensures c.close_by_jumps.ensures.gone);
       founders = founders-stay (nodes_of c.self.inside.arena) (nodes_of c.close_by_jumps.new.arena) c.self.inside.next c.self.inside.next (omega arith)
           c.close_by_jumps.ensures.gone.parents
           (λ k now at hidden. let was = c.close_by_jumps.ensures.gone.came k now at in (was.node, was.at, sym was.koid ∙ hidden))
@@ -61,11 +61,11 @@ renew_merged-requires c = record {
   forest = c.close_by_jumps.ensures.kept.exact.forest;
   merged =
       let s = c.self.invariant.store in
-      one-of (forest_of c.self.inside) c.close_by_jumps.new.arena _ c.get-node.result.0 c.disown-merged.result s.exact.forest c.close_by_jumps.ensures.gone
+      one-of (forest_of c.self.inside) c.close_by_jumps.new.arena c.close_by_jumps.new.lists _ c.get-node.result.0 c.disown-merged.result s.exact.forest c.close_by_jumps.ensures.gone
       (record { family = c.disown-merged.ensures.family; root = c.disown-merged.ensures.root });
   jumps = (
     c.self.inside.next,
     jumps-closed (tree (forest_of c.self.inside)) _ c.self.inside.next c.get-node.result.0 c.self.inside.jumps c.retire_pair.new.jumps c.self.invariant.jumps
-        c.retire_pair.ensures c.close_by_jumps.ensures.ways (λ k now at. let was = c.close_by_jumps.ensures.gone.came k now at in (was.node, was.at)),
+        c.retire_pair.ensures c.close_by_jumps.ensures.gone,
   );
 }
