@@ -1,18 +1,18 @@
 -- How many frames owning one page takes, or two pages one after another.
 use Rattle.std.proofs.Common.{◌≡◌, ℕ, suc, ◌+◌, ◌<◌, ◌≤◌, Bool, true, false, not, cond, ◌&&◌, ◌==◌, [], ◌∷◌, Option, None, Some, refl, sym, ap, ◌∙◌, inl, inr, arith}
+use Rattle.std.specs.Prelude.{is_some}
 use Rattle.std.specs.Option.{option_map}
 use Rattle.std.proofs.lemmas.Bool.{cases_Bool, cases_eq, and_from, both_ways, eq-eqb}
-use Rattle.vm_base.proofs.SearchLaws.{any_below_at, eqb_apart}
+use Rattle.vm_base.proofs.SearchLaws.{any_below_at, eqb_is, eqb_apart}
 use Rattle.vm_base.proofs.EntryLaws.{some_same}
 use Rattle.vm_model.specs.Contents.Content.{Page, Content, shown, used, pages_of, views, seen_elsewhere, sole, hold, IsGood}
 use Rattle.vm_model.specs.Contents.Owning.{VmoPage, need_from, need_each}
-use Rattle.vm_model.specs.Space.Readiness.{frame_at}
+use Rattle.vm_model.specs.Space.Readiness.{frame_at, is_same_frame}
 use Rattle.vm_model.proofs.ContentLaws.{page-hold_other, page-hold_cases, koid_below, views_at, sole-at, sole_from}
 use Rattle.pages.specs.Pages.{look_at}
 use Rattle.pages.specs.Needs.{have_one_frame, MayOwn}
 use Rattle.pages.proofs.NeedLaws.{need-one, need-same, need-apart}
 use Rattle.checker_pages.specs.Eager.{IsSeenByThird}
-use Rattle.checker_ready.specs.inside.Pages.{HaveOneFrame, need_after}
 
 -- ---- no page
 
@@ -57,55 +57,48 @@ module _ (c : Content) (v p w q : ℕ) where
   need-first_sole alone = rw alone refl
 
   -- it is not
-  pub need-first_shared : sole c v p ≡ false → 1 + need_after c first second ≡ need_each c (first ∷ second ∷ [])
-  unfolding need_from need_after
-  need-first_shared shared = rw shared (go (sole (hold c v p fresh) w q)) where
-    go : (alone : Bool) → ◌≡◌ {A = ℕ} (1 + cond alone 0 1) (suc (cond alone 0 1))
+  need-first_shared : sole c v p ≡ false → (alone : Bool) → sole (hold c v p fresh) w q ≡ alone → 1 + cond alone 0 1 ≡ need_each c (first ∷ second ∷ [])
+  unfolding need_from
+  need-first_shared shared alone is = rw (shared, is) (go alone) where
+    go : (b : Bool) → ◌≡◌ {A = ℕ} (1 + cond b 0 1) (suc (cond b 0 1))
     go true = refl
     go false = refl
 
-  need_after-sole : sole (hold c v p fresh) w q ≡ true → 0 ≡ need_after c first second
-  unfolding need_from need_after
-  need_after-sole alone = rw alone refl
-
-  need_after-shared : sole (hold c v p fresh) w q ≡ false → 1 ≡ need_after c first second
-  unfolding need_from need_after
-  need_after-shared shared = rw shared refl
+  -- both are held, with one frame
+  abbrev are_one : Bool
+  are_one = is_some (frame_at c v p) && is_same_frame (frame_at c v p) (frame_at c w q)
 
   module _ (good : IsGood c) (h : p < pages_of c v) (shared : sole c v p ≡ false) where
     -- both are one page
-    pub after-same : ((v == w) && (p == q)) ≡ true → 0 ≡ need_after c first second
-    after-same same =
-        let both = need-same c v p w q good h same in
-        let one = need-one c v p in
-        omega (arith, both, one, need-shared c v p shared, need-first_shared shared)
+    pub after-same : ((v == w) && (p == q)) ≡ true → 1 ≡ need_each c (first ∷ second ∷ [])
+    after-same same = need-shared c v p shared ∙ sym (need-one c v p) ∙ need-same c v p w q good h same
 
     module _ (two : ((v == w) && (p == q)) ≡ false) where
       -- they have not one frame
-      pub after-apart : (HaveOneFrame c first second → ⊥) → need_each c (second ∷ []) ≡ need_after c first second
+      pub after-apart : are_one ≡ false → 1 + need_each c (second ∷ []) ≡ need_each c (first ∷ second ∷ [])
       after-apart apart =
-          let other : have_one_frame (look_at c v (c.page v p)) (look_at c w (c.page w q)) ≡ false = go (c.page v p) (c.page w q) refl refl in
-          let both = need-apart c v p w q good h two other in
-          omega (arith, both, need-one c v p, need-one c w q, need-shared c v p shared, need-first_shared shared)
+          let both = need-apart c v p w q good h two (sym (go (c.page v p) (c.page w q)) ∙ apart) in
+          omega (arith, both, need-one c v p, need-one c w q, need-shared c v p shared)
         where
-          go : (o u : Option Page) → c.page v p ≡ o → c.page w q ≡ u → have_one_frame (look_at c v o) (look_at c w u) ≡ false
-          go None None e f = refl
-          go None (Some y) e f = refl
-          go (Some x) None e f = refl
-          go (Some x) (Some y) e f = eqb_apart x.tag y.tag (λ same. apart (record {
-            tag = x.tag;
-            first_is = ap (option_map (λ (held : Page). held.tag)) e;
-            second_is = ap (option_map (λ (held : Page). held.tag)) f ∙ ap (λ (t : ℕ). Some t) (sym same);
-          }))
+          go : (o u : Option Page)
+              → (is_some (option_map (λ (held : Page). held.tag) o) && is_same_frame (option_map (λ (held : Page). held.tag) o) (option_map (λ (held : Page). held.tag) u))
+              ≡ have_one_frame (look_at c v o) (look_at c w u)
+          go None None = refl
+          go None (Some y) = refl
+          go (Some x) None = refl
+          go (Some x) (Some y) = refl
 
       -- they have one frame
-      module _ (one : HaveOneFrame c first second) where
+      module _ (one : are_one ≡ true) where
         -- the pages with it
-        held-at : (x y : ℕ) → frame_at c x y ≡ Some one.tag → (held : Page) × (c.page x y ≡ Some held) × (held.tag ≡ one.tag)
-        held-at x y e = go (c.page x y) refl e where
-          go : (o : Option Page) → c.page x y ≡ o → option_map (λ (held : Page). held.tag) o ≡ Some one.tag → (held : Page) × (c.page x y ≡ Some held) × (held.tag ≡ one.tag)
-          go None is f = absurd cc
-          go (Some held) is f = (held, is, some_same f)
+        held_both : (mine : Page) × (its : Page) × (c.page v p ≡ Some mine) × (c.page w q ≡ Some its) × (mine.tag ≡ its.tag)
+        held_both = go (c.page v p) (c.page w q) refl refl one where
+          go : (o u : Option Page) → c.page v p ≡ o → c.page w q ≡ u
+              → (is_some (option_map (λ (held : Page). held.tag) o) && is_same_frame (option_map (λ (held : Page). held.tag) o) (option_map (λ (held : Page). held.tag) u)) ≡ true
+              → (mine : Page) × (its : Page) × (c.page v p ≡ Some mine) × (c.page w q ≡ Some its) × (mine.tag ≡ its.tag)
+          go None u e f is = absurd cc
+          go (Some x) None e f is = absurd cc
+          go (Some x) (Some y) e f is = (x, y, e, f, eqb_is x.tag y.tag is)
 
         elsewhere : w ≡ v → q ≡ p → ⊥
         elsewhere vmo page = both_ways ((v == w) && (p == q)) two (and_from (v == w) (p == q) (eq-eqb v w (sym vmo)) (eq-eqb p q (sym page)))
@@ -115,26 +108,25 @@ module _ (c : Content) (v p w q : ℕ) where
         second-held other e = page-hold_other c v p fresh w q elsewhere ∙ e
 
         -- no third VMO shows it
-        pub after-last : (IsSeenByThird c v p w → ⊥) → 0 ≡ need_after c first second
+        pub after-last : (IsSeenByThird c v p w → ⊥) → 1 ≡ need_each c (first ∷ second ∷ [])
         after-last none =
-            let mine = held-at v p one.first_is in
-            let its = held-at w q one.second_is in
-            let low = good.tags w q its.0 its.1 in
-            need_after-sole (sole_from (hold c v p fresh) w q its.0 (second-held its.0 its.1) (λ x y seen foreign e same.
+            let held = held_both in
+            let low = good.tags w q held.1 held.3 in
+            need-first_shared shared true (sole_from (hold c v p fresh) w q held.1 (second-held held.1 held.3) (λ x y seen foreign e same.
             elim (page-hold_cases c v p fresh x y seen e) [
-              | inl new ↦ let tag : c.frames ≡ seen.tag = ap (λ (held : Page). held.tag) new.2 in omega (arith, low, same, tag)
+              | inl new ↦ let tag : c.frames ≡ seen.tag = ap (λ (page : Page). page.tag) new.2 in omega (arith, low, same, tag)
               | inr old ↦ elim (cases_eq x v) [
                 | inl vmo ↦
                     let there : c.page v y ≡ Some seen = ap (λ (u : ℕ). c.page u y) (sym vmo) ∙ old.1 in
-                    old.0 vmo (good.apart v y p seen mine.0 there mine.1 (same ∙ (its.2 ∙ sym mine.2)))
+                    old.0 vmo (good.apart v y p seen held.0 there held.2 (same ∙ sym held.4))
                 | inr apart ↦ none (record {
-                  held = mine.0;
-                  is = mine.1;
+                  held = held.0;
+                  is = held.2;
                   u = x;
                   q = y;
                   seen = seen;
                   shows = old.1;
-                  same = same ∙ (its.2 ∙ sym mine.2);
+                  same = same ∙ sym held.4;
                   other = apart;
                   third = foreign;
                 })
@@ -151,10 +143,9 @@ module _ (c : Content) (v p w q : ℕ) where
             (views_at (hold c v p fresh) t third.u third.q third.seen low
             (page-hold_other c v p fresh third.u third.q (λ vmo page. third.other vmo) ∙ third.shows) same))
 
-        pub after-third : IsSeenByThird c v p w → 1 ≡ need_after c first second
+        pub after-third : IsSeenByThird c v p w → 2 ≡ need_each c (first ∷ second ∷ [])
         after-third third =
-            let its = held-at w q one.second_is in
-            let mine = held-at v p one.first_is in
-            let is : third.held ≡ mine.0 = some_same (sym third.is ∙ mine.1) in
-            let same : third.seen.tag ≡ its.0.tag = third.same ∙ (ap (λ (held : Page). held.tag) is ∙ (mine.2 ∙ sym its.2)) in
-            need_after-shared (sole-at (hold c v p fresh) w q its.0 (second-held its.0 its.1) ∙ ap not (seen-third its.0.tag third same))
+            let held = held_both in
+            let is : third.held ≡ held.0 = some_same (sym third.is ∙ held.2) in
+            let same : third.seen.tag ≡ held.1.tag = third.same ∙ (ap (λ (page : Page). page.tag) is ∙ held.4) in
+            need-first_shared shared false (sole-at (hold c v p fresh) w q held.1 (second-held held.1 held.3) ∙ ap not (seen-third held.1.tag third same))

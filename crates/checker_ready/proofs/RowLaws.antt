@@ -1,8 +1,8 @@
 -- What the calls leave of the rows.
-use Rattle.std.proofs.Common.{◌≡◌, ◌⊎◌, ℕ, ◌+◌, ◌<◌, ◌≤◌, Bool, true, false, not, cond, ◌&&◌, ◌==◌, Option, None, Some, refl, sym, ap, subst, ◌∙◌, inl, inr, arith}
-use Rattle.std.specs.Prelude.{nat_lt, IsSome}
+use Rattle.std.proofs.Common.{◌≡◌, ◌⊎◌, ℕ, ◌+◌, ◌-◌, ◌^◌, ◌<◌, ◌≤◌, Bool, true, false, not, cond, ◌&&◌, ◌==◌, Option, None, Some, refl, sym, ap, subst, ◌∙◌, inl, inr, arith}
+use Rattle.std.specs.Prelude.{nat_lt, IsSome, IfSome}
 use Rattle.std.specs.Option.{option_and_then}
-use Rattle.std.proofs.lemmas.Bool.{cases_Bool, and_parts, and_from, eq-eqb, lt-ltb, le-ltb, ltb-false, not-true}
+use Rattle.std.proofs.lemmas.Bool.{cases_Bool, and_parts, and_from, eq-eqb, lt-ltb, le-ltb, ltb-true, ltb-false, not-true}
 use Rattle.std.proofs.lemmas.Bool.Decides.{nat_tests}
 use Rattle.vm_base.specs.declared.names.Tag.{Tag}
 use Rattle.vm_base.specs.Entries.{passes}
@@ -22,9 +22,9 @@ use Rattle.checker_pages.proofs.LinkLaws.{pair-here, pair-other, pair-same, pair
 use Rattle.checker_ready.specs.declared.ready_map.ReadyPage.{ReadyPage}
 use Rattle.checker_ready.specs.declared.stamps.Kept.{Kept}
 use Rattle.checker_ready.specs.declared.stamps.Stamp.{Stamp}
-use Rattle.checker_ready.specs.Notes.{Notes, ReadyRows, ready_page, noted_under, rows_of, stamp_for, has_frame, is_row_in, changed_rows, row_if_current, row_limited, without_range, HasNoRow, IsReadySomewhere, AreNotes, lowered, counts, counting, without_place, HasCount}
+use Rattle.checker_ready.specs.Notes.{Notes, ReadyRows, ready_page, noted_under, rows_of, stamp_for, has_frame, is_row_in, changed_rows, row_if_current, row_limited, without_range, HasNoRow, IsReadySomewhere, IsStamp, AreNotes, lowered, counts, counting, without_place, HasCount}
 use Rattle.checker_ready.proofs.CountLaws.{count-same, count-more, count-less, count-none, count-some, without-none, counts-is, counts-apart, counts-old, counts-not, counting-at, counting-dropped, counting-here, counting-other}
-use Rattle.checker_ready.proofs.StampLaws.{row_of, changed-here, changed-other, page-stamped, page-noted, page-limited, page-unlimited, page-current, page-settled, page-lowered, lowered-some}
+use Rattle.checker_ready.proofs.StampLaws.{row_of, changed-here, changed-other, page-stamped, page-noted, page-limited, page-unlimited, page-current, page-settled, page-lowered}
 
 -- ---- one stamp changes
 
@@ -86,56 +86,49 @@ module _ (m : Notes) (v p : ℕ) where
   rows-current c s found same = λ i r q. row-changed m v p (values_of m.stamps v p) (values_of m.stamps) same-stamps (row_if_current c)
       (λ k r q e koid page. rw found (page-current c k s ((λ i. has_frame c (koid i) (page i) s.frame) ∙ same))) r q i
 
--- the notes stay so
-pub AreNotes-unstamped : (m : Notes) (v p : ℕ) (stamps : PairMap Stamp) → AreNotes m → values_of stamps ≡ with_pair (values_of m.stamps) v p None → m.room ≤ stamps.spare
-    → AreNotes (record m { stamps = stamps })
-AreNotes-unstamped m v p stamps notes values room = record {
-  made = notes.made;
-  stamped = λ w q s e. notes.stamped w q s (was w q s e);
-  counted = λ w q s e. notes.counted w q s (was w q s e);
-  noted = λ w q s e. notes.noted w q s (was w q s e);
-  places_room = notes.places_room;
-  stamps_room = room;
-  times = notes.times;
-}
-  where
-    was : (w q : ℕ) (s : Stamp) → values_of stamps w q ≡ Some s → values_of m.stamps w q ≡ Some s
-    was w q s e = elim (pair-cases (values_of m.stamps) v p None w q s (ap (λ (map : ℕ → ℕ → Option Stamp). map w q) (sym values) ∙ e)) [
-      | inl here ↦ absurd (let none = here.2 in cc)
-      | inr other ↦ other.1
-    ]
+-- ---- the notes stay so
 
-pub AreNotes-stamped : (m : Notes) (v p : ℕ) (stamps : PairMap Stamp) (s : Stamp) → AreNotes m → values_of stamps ≡ with_pair (values_of m.stamps) v p (Some s)
-    → s.since ≤ m.time → s.shared ≤ m.time → HasCount (counting (values_of m.places) v p s.since) s.notes → (1 ≤ s.notes) × (s.notes ≤ m.time)
-    → m.room ≤ stamps.spare → AreNotes (record m { stamps = stamps })
-AreNotes-stamped m v p stamps s notes values since shared count noted room = record {
-  made = notes.made;
-  stamped = λ w q st e. elim (pair-cases (values_of m.stamps) v p (Some s) w q st (ap (λ (map : ℕ → ℕ → Option Stamp). map w q) (sym values) ∙ e)) [
-    | inl here ↦
-        let same : s ≡ st = some_same here.2 in
-        let first = ap (λ (x : Stamp). x.since) same in
-        let second = ap (λ (x : Stamp). x.shared) same in
-        (omega arith, omega arith)
-    | inr other ↦ notes.stamped w q st other.1
-  ];
-  counted = λ w q st e. elim (pair-cases (values_of m.stamps) v p (Some s) w q st (ap (λ (map : ℕ → ℕ → Option Stamp). map w q) (sym values) ∙ e)) [
-    | inl here ↦
-        let same : s ≡ st = some_same here.2 in
-        subst (λ (x : Stamp). HasCount (counting (values_of m.places) w q x.since) x.notes) same
-        (subst (λ (u : ℕ). HasCount (counting (values_of m.places) w u s.since) s.notes) (sym here.1)
-        (subst (λ (u : ℕ). HasCount (counting (values_of m.places) u p s.since) s.notes) (sym here.0) count))
-    | inr other ↦ notes.counted w q st other.1
-  ];
-  noted = λ w q st e. elim (pair-cases (values_of m.stamps) v p (Some s) w q st (ap (λ (map : ℕ → ℕ → Option Stamp). map w q) (sym values) ∙ e)) [
-    | inl here ↦
-        let same = ap (λ (x : Stamp). x.notes) (some_same here.2) in
-        (omega (arith, noted.0), omega (arith, noted.1))
-    | inr other ↦ notes.noted w q st other.1
-  ];
-  places_room = notes.places_room;
-  stamps_room = room;
-  times = notes.times;
+-- what holds of the new value of a pair, and of the values of the others, holds of all
+pair-each : {V : Type 0} (holds : ℕ → ℕ → V → Type 0) (old new : ℕ → ℕ → Option V) (a b : ℕ) (o : Option V) → new ≡ with_pair old a b o
+    → ((x : V) → o ≡ Some x → holds a b x) → ((k q : ℕ) (x : V) → (k ≡ a → q ≡ b → ⊥) → old k q ≡ Some x → holds k q x)
+    → (k q : ℕ) (x : V) → new k q ≡ Some x → holds k q x
+pair-each holds old new a b o is here other k q x e = elim (pair-cases old a b o k q x (ap (λ (map : ℕ → ℕ → Option _). map k q) (sym is) ∙ e)) [
+  | inl hit ↦ rw (hit.0, hit.1) (here x hit.2)
+  | inr miss ↦ other k q x miss.0 miss.1
+]
+
+module _ (m : Notes) (v p : ℕ) (stamps : PairMap Stamp) (o : Option Stamp) (notes : AreNotes m) (values : values_of stamps ≡ with_pair (values_of m.stamps) v p o) where
+  pub AreNotes-stamped : ((s : Stamp) → o ≡ Some s → IsStamp (values_of m.places) m.time v p s) → m.room ≤ stamps.spare → AreNotes (record m { stamps = stamps })
+  AreNotes-stamped here room = record {
+    made = notes.made;
+    stamped = pair-each (IsStamp (values_of m.places) m.time) (values_of m.stamps) (values_of stamps) v p o values here (λ w q s apart. notes.stamped w q s);
+    places_room = notes.places_room;
+    stamps_room = room;
+    times = notes.times;
+  }
+
+-- the maps have room for more
+pub AreNotes-reserved : (m : Notes) (places : PairMap Kept) (stamps : PairMap Stamp) (room : ℕ) → AreNotes m → values_of places ≡ values_of m.places → values_of stamps ≡ values_of m.stamps
+    → room ≤ places.spare → room ≤ stamps.spare → m.time + room < 2 ^ 64 → AreNotes (record m { places = places; stamps = stamps; room = room })
+AreNotes-reserved m places stamps room notes same alike places_room stamps_room times = record {
+  made = λ r q k e. notes.made r q k (ap (λ (map : ℕ → ℕ → Option Kept). map r q) (sym same) ∙ e);
+  stamped = λ v p s e. subst (λ (map : ℕ → ℕ → Option Kept). IsStamp map m.time v p s) (sym same) (notes.stamped v p s (ap (λ (map : ℕ → ℕ → Option Stamp). map v p) (sym alike) ∙ e));
+  places_room = places_room;
+  stamps_room = stamps_room;
+  times = times;
 }
+
+-- where there is room for a note, a stamp can count it
+pub notes_few : (m : Notes) (v p : ℕ) (o : Option Stamp) → AreNotes m → o ≡ values_of m.stamps v p → 1 ≤ m.room → IfSome o (λ s. s.notes + 1 < 2 ^ 64)
+notes_few m v p None notes is some = tt
+notes_few m v p (Some s) notes is some = omega (arith, some, notes.times, (notes.stamped v p s (sym is)).few)
+
+-- the page is for reading alone from now on
+pub AreNotes-limited : (m : Notes) (v p : ℕ) (stamps : PairMap Stamp) (s : Stamp) → AreNotes m → values_of m.stamps v p ≡ Some s
+    → values_of stamps ≡ with_pair (values_of m.stamps) v p (Some (record s { shared = m.time })) → m.room ≤ stamps.spare → AreNotes (record m { stamps = stamps })
+AreNotes-limited m v p stamps s notes found values = AreNotes-stamped m v p stamps (Some (record s { shared = m.time })) notes values (λ t is.
+    let was = notes.stamped v p s found in
+    subst (IsStamp (values_of m.places) m.time v p) (some_same is) (record { since = was.since; shared = omega arith; counted = was.counted; some = was.some; few = was.few }))
 
 -- ---- one note more
 
@@ -157,7 +150,7 @@ module _ (m : Notes) (root page : ℕ) (k : Kept) (frame : Option Tag) (notes : 
         ap (λ (map : ℕ → ℕ → Option Stamp). ready_page k (map k.koid.0 k.page)) values
         ∙ (ap (ready_page k) (pair-here (values_of m.stamps) k.koid.0 k.page (Some (stamp_for (values_of m.stamps k.koid.0 k.page) frame m.time)))
         ∙ (ap (λ (t : ℕ). ready_page k (Some (stamp_for (values_of m.stamps k.koid.0 k.page) frame t))) (sym now)
-        ∙ page-noted k frame (values_of m.stamps k.koid.0 k.page) (λ s e. let low = notes.stamped k.koid.0 k.page s e in (omega (arith, low.0), omega (arith, low.1)))))
+        ∙ page-noted k frame (values_of m.stamps k.koid.0 k.page) (λ s e. let low = notes.stamped k.koid.0 k.page s e in (omega (arith, low.since), omega (arith, low.shared)))))
 
     each : (r q : ℕ) → rows_of after r q
         ≡ with_pair (changed_rows (row_if_current c) k.koid.0 k.page (k.page + 1) (rows_of m)) root page (Some (record { koid = k.koid; page = k.page; frame = frame; readiness = k.readiness })) r q
@@ -194,76 +187,54 @@ module _ (m : Notes) (root page : ℕ) (k : Kept) (frame : Option Tag) (notes : 
         (counting-here (values_of m.places) (values_of places) root page k put k.koid.0 k.page since ∙ counts-is k k.koid.0 k.page since refl refl (le-ltb k.made since (omega arith)))
         (counting-other (values_of m.places) (values_of places) root page k put k.koid.0 k.page since) count
 
-    stamp_counts : (at : Option Stamp) → values_of m.stamps k.koid.0 k.page ≡ at
-        → HasCount (counting (values_of places) k.koid.0 k.page (stamp_for at frame m.time).since) (stamp_for at frame m.time).notes
-    stamp_counts None e = fresh
-    stamp_counts (Some s) e = go (is_same_frame (frame_number s.frame) (frame_number frame)) where
-      go : (alike : Bool) → HasCount (counting (values_of places) k.koid.0 k.page (cond alike (record s { notes = s.notes + 1 }) (record { frame = frame; since = m.time; shared = m.time; notes = 1 })).since)
-          (cond alike (record s { notes = s.notes + 1 }) (record { frame = frame; since = m.time; shared = m.time; notes = 1 })).notes
-      go true = added s.since s.notes (notes.stamped k.koid.0 k.page s e).0 (notes.counted k.koid.0 k.page s e)
-      go false = fresh
+    -- the stamp of a page that had none, or another frame
+    abbrev fresh_stamp : Stamp
+    fresh_stamp = record { frame = frame; since = m.time; shared = m.time; notes = 1 }
 
-    stamp_low : (at : Option Stamp) → ((s : Stamp) → at ≡ Some s → (s.since ≤ m.time) × (s.shared ≤ m.time)) → ((s : Stamp) → at ≡ Some s → s.notes ≤ m.time)
-        → ((stamp_for at frame m.time).since ≤ m.time) × ((stamp_for at frame m.time).shared ≤ m.time) × (1 ≤ (stamp_for at frame m.time).notes) × ((stamp_for at frame m.time).notes ≤ m.time + 1)
-    stamp_low None times few = (omega arith, omega arith, omega arith, omega arith)
-    stamp_low (Some s) times few = go (is_same_frame (frame_number s.frame) (frame_number frame)) (times s refl) (few s refl) where
-      go : (alike : Bool) → (s.since ≤ m.time) × (s.shared ≤ m.time) → s.notes ≤ m.time
-          → ((cond alike (record s { notes = s.notes + 1 }) (record { frame = frame; since = m.time; shared = m.time; notes = 1 })).since ≤ m.time)
-          × ((cond alike (record s { notes = s.notes + 1 }) (record { frame = frame; since = m.time; shared = m.time; notes = 1 })).shared ≤ m.time)
-          × (1 ≤ (cond alike (record s { notes = s.notes + 1 }) (record { frame = frame; since = m.time; shared = m.time; notes = 1 })).notes)
-          × ((cond alike (record s { notes = s.notes + 1 }) (record { frame = frame; since = m.time; shared = m.time; notes = 1 })).notes ≤ m.time + 1)
-      go true low few = (low.0, low.1, omega arith, omega arith)
-      go false low few = (omega arith, omega arith, omega arith, omega arith)
+    first_fits : IsStamp (values_of places) (m.time + 1) k.koid.0 k.page fresh_stamp
+    first_fits = record { since = omega arith; shared = omega arith; counted = fresh; some = omega arith; few = omega arith }
 
-    low_here : ((stamp_for (values_of m.stamps k.koid.0 k.page) frame m.time).since ≤ m.time) × ((stamp_for (values_of m.stamps k.koid.0 k.page) frame m.time).shared ≤ m.time)
-        × (1 ≤ (stamp_for (values_of m.stamps k.koid.0 k.page) frame m.time).notes) × ((stamp_for (values_of m.stamps k.koid.0 k.page) frame m.time).notes ≤ m.time + 1)
-    low_here = stamp_low (values_of m.stamps k.koid.0 k.page) (notes.stamped k.koid.0 k.page) (λ s e. (notes.noted k.koid.0 k.page s e).1)
+    stamp_fits : (at : Option Stamp) → values_of m.stamps k.koid.0 k.page ≡ at → IsStamp (values_of places) (m.time + 1) k.koid.0 k.page (stamp_for at frame m.time)
+    stamp_fits None e = first_fits
+    stamp_fits (Some s) e = go (is_same_frame (frame_number s.frame) (frame_number frame)) (notes.stamped k.koid.0 k.page s e) where
+      go : (alike : Bool) → IsStamp (values_of m.places) m.time k.koid.0 k.page s → IsStamp (values_of places) (m.time + 1) k.koid.0 k.page (cond alike (record s { notes = s.notes + 1 }) fresh_stamp)
+      go true was = record {
+        since = omega (arith, was.since);
+        shared = omega (arith, was.shared);
+        counted = added s.since s.notes was.since was.counted;
+        some = omega arith;
+        few = omega (arith, was.few);
+      }
+      go false was = first_fits
+
+    same_places : (v p since : ℕ) → (v ≡ k.koid.0 → p ≡ k.page → ⊥) → (a b : ℕ) → counting (values_of m.places) v p since a b ≡ counting (values_of places) v p since a b
+    unfolding passes
+    same_places v p since apart a b = elim (same_page root page a b) [
+      | inl here ↦
+          (λ i. counting (values_of m.places) v p since (here.0 i) (here.1 i)) ∙ none_before v p since
+          ∙ sym ((λ i. counting (values_of places) v p since (here.0 i) (here.1 i)) ∙ counting-here (values_of m.places) (values_of places) root page k put v p since ∙ counts-apart k v p since apart)
+      | inr other ↦ sym (counting-other (values_of m.places) (values_of places) root page k put v p since a b other)
+    ]
 
     pub AreNotes-set : room + 1 ≡ m.room → room ≤ places.spare → room ≤ stamps.spare → AreNotes after
-    unfolding passes
     AreNotes-set fewer low high = record {
-      made = λ r q j e. elim (pair-cases (values_of m.places) root page (Some k) r q j (ap (λ (map : ℕ → ℕ → Option Kept). map r q) (sym put) ∙ e)) [
-        | inl here ↦ let same = ap (λ (x : Kept). x.made) (some_same here.2) in omega arith
-        | inr other ↦ let before = notes.made r q j other.1 in omega arith
-      ];
-      stamped = λ v p s e. elim (cases v p s e) [
-        | inl here ↦
-            let same = some_same here.2 in
-            let since = ap (λ (x : Stamp). x.since) same in
-            let shared = ap (λ (x : Stamp). x.shared) same in
-            (omega (arith, low_here.0), omega (arith, low_here.1))
-        | inr other ↦ let low = notes.stamped v p s other.1 in (omega (arith, low.0), omega (arith, low.1))
-      ];
-      counted = λ v p s e. elim (cases v p s e) [
-        | inl here ↦
-            subst (λ (x : Stamp). HasCount (counting (values_of places) v p x.since) x.notes) (some_same here.2)
-            (subst (λ (u : ℕ). HasCount (counting (values_of places) v u (stamp_for (values_of m.stamps k.koid.0 k.page) frame m.time).since) (stamp_for (values_of m.stamps k.koid.0 k.page) frame m.time).notes) (sym here.1)
-            (subst (λ (u : ℕ). HasCount (counting (values_of places) u k.page (stamp_for (values_of m.stamps k.koid.0 k.page) frame m.time).since) (stamp_for (values_of m.stamps k.koid.0 k.page) frame m.time).notes) (sym here.0)
-            (stamp_counts (values_of m.stamps k.koid.0 k.page) refl)))
-        | inr other ↦ count-same (counting (values_of m.places) v p s.since) (counting (values_of places) v p s.since) s.notes (same_places v p s.since other.0) (notes.counted v p s other.1)
-      ];
-      noted = λ v p s e. elim (cases v p s e) [
-        | inl here ↦
-            let same = ap (λ (x : Stamp). x.notes) (some_same here.2) in
-            (omega (arith, low_here.2), omega (arith, low_here.3))
-        | inr other ↦ let few = notes.noted v p s other.1 in (few.0, omega (arith, few.1))
-      ];
+      made = pair-each (λ r q j. j.made < m.time + 1) (values_of m.places) (values_of places) root page (Some k) put
+          (λ j is. let same = ap (λ (x : Kept). x.made) (some_same is) in omega arith) (λ r q j apart e. let before = notes.made r q j e in omega arith);
+      stamped = pair-each (IsStamp (values_of places) (m.time + 1)) (values_of m.stamps) (values_of stamps) k.koid.0 k.page (Some (stamp_for (values_of m.stamps k.koid.0 k.page) frame m.time)) values
+          (λ s is. subst (IsStamp (values_of places) (m.time + 1) k.koid.0 k.page) (some_same is) (stamp_fits (values_of m.stamps k.koid.0 k.page) refl))
+          (λ v p s apart e.
+          let was = notes.stamped v p s e in
+          record {
+            since = omega (arith, was.since);
+            shared = omega (arith, was.shared);
+            counted = count-same (counting (values_of m.places) v p s.since) (counting (values_of places) v p s.since) s.notes (same_places v p s.since apart) was.counted;
+            some = was.some;
+            few = omega (arith, was.few);
+          });
       places_room = low;
       stamps_room = high;
       times = let all = notes.times in omega arith;
     }
-      where
-        cases : (v p : ℕ) (s : Stamp) → values_of stamps v p ≡ Some s
-            → ((v ≡ k.koid.0) × (p ≡ k.page) × (Some (stamp_for (values_of m.stamps k.koid.0 k.page) frame m.time) ≡ Some s)) ⊎ ((v ≡ k.koid.0 → p ≡ k.page → ⊥) × (values_of m.stamps v p ≡ Some s))
-        cases v p s e = pair-cases (values_of m.stamps) k.koid.0 k.page (Some (stamp_for (values_of m.stamps k.koid.0 k.page) frame m.time)) v p s (ap (λ (map : ℕ → ℕ → Option Stamp). map v p) (sym values) ∙ e)
-
-        same_places : (v p since : ℕ) → (v ≡ k.koid.0 → p ≡ k.page → ⊥) → (a b : ℕ) → counting (values_of m.places) v p since a b ≡ counting (values_of places) v p since a b
-        same_places v p since apart a b = elim (same_page root page a b) [
-          | inl here ↦
-              (λ i. counting (values_of m.places) v p since (here.0 i) (here.1 i)) ∙ none_before v p since
-              ∙ sym ((λ i. counting (values_of places) v p since (here.0 i) (here.1 i)) ∙ counting-here (values_of m.places) (values_of places) root page k put v p since ∙ counts-apart k v p since apart)
-          | inr other ↦ sym (counting-other (values_of m.places) (values_of places) root page k put v p since a b other)
-        ]
 
 -- a note in place of another
 pub row-cleared : (change : ReadyPage → Option ReadyPage) (v first end : ℕ) (rows : ReadyRows) (root page : ℕ) (row : ReadyPage)
@@ -293,7 +264,7 @@ module _ (m : Notes) (root p : ℕ) (k : Kept) (places : PairMap Kept) (stamps :
   unfolding passes
   alone r q j s apart is koid page found new one =
       let few : s.notes ≤ 1 = ltb-false 1 s.notes one in
-      let rest = count-less s.notes (counting (values_of m.places) k.koid.0 k.page s.since) root p (notes.counted k.koid.0 k.page s found) (counted_here s.since new) in
+      let rest = count-less s.notes (counting (values_of m.places) k.koid.0 k.page s.since) root p (notes.stamped k.koid.0 k.page s found).counted (counted_here s.since new) in
       let none = count-none rest.0 (without_place (counting (values_of m.places) k.koid.0 k.page s.since) root p) rest.2 (let suc_is = rest.1 in omega arith) r q in
       counts-not j k.koid.0 k.page s.since (sym (counting-at (values_of m.places) k.koid.0 k.page s.since r q (Some j) is) ∙ other (counting (values_of m.places) k.koid.0 k.page s.since r q) none) koid page
     where
@@ -332,79 +303,63 @@ module _ (m : Notes) (root p : ℕ) (k : Kept) (places : PairMap Kept) (stamps :
           rw (miss, outside) (lower r q apart (values_of m.places r q) refl)
     ]
 
-  -- a stamp that is left is that of before, since the same times, and has the notes that are left
-  left : (v q : ℕ) (s : Stamp) → values_of stamps v q ≡ Some s → (t : Stamp) × (values_of m.stamps v q ≡ Some t) × (s.since ≡ t.since) × (s.shared ≡ t.shared) × (1 ≤ s.notes) × (s.notes ≤ t.notes)
-      × HasCount (counting (values_of places) v q s.since) s.notes
-  unfolding passes
-  left v q s e = elim (pair-cases (values_of m.stamps) k.koid.0 k.page (lowered k.made (values_of m.stamps k.koid.0 k.page)) v q s (ap (λ (map : ℕ → ℕ → Option Stamp). map v q) (sym less) ∙ e)) [
-    | inl here ↦
-        let was = lowered-some k.made (values_of m.stamps k.koid.0 k.page) s here.2 in
-        let found : values_of m.stamps v q ≡ Some was.0 = (λ i. values_of m.stamps (here.0 i) (here.1 i)) ∙ was.1 in
-        let count = here_count was.0 s was.1 was.2 was.4 in (
-          was.0,
-          found,
-          was.2,
-          was.3,
-          count.0,
-          count.1,
-          subst (λ (u : ℕ). HasCount (counting (values_of places) v u s.since) s.notes) (sym here.1)
-              (subst (λ (u : ℕ). HasCount (counting (values_of places) u k.page s.since) s.notes) (sym here.0) count.2),
-        )
-    | inr other ↦ (
-      s,
-      other.1,
-      refl,
-      refl,
-      (notes.noted v q s other.1).0,
-      omega arith,
-      kept v q s.since s.notes (counting-at (values_of m.places) v q s.since root p (Some k) at ∙ counts-apart k v q s.since other.0) (notes.counted v q s other.1),
-    )
-  ]
-    where
-      -- the note does not count there
-      kept : (v q since n : ℕ) → counting (values_of m.places) v q since root p ≡ false → HasCount (counting (values_of m.places) v q since) n → HasCount (counting (values_of places) v q since) n
-      kept v q since n out count = count-same (counting (values_of m.places) v q since) (counting (values_of places) v q since) n
-          (λ a b. sym (without-none (counting (values_of m.places) v q since) root p out a b) ∙ counting-dropped (values_of m.places) (values_of places) root p gone v q since a b) count
+  -- where the note does not count, as many do
+  kept : (v q since n : ℕ) → counting (values_of m.places) v q since root p ≡ false → HasCount (counting (values_of m.places) v q since) n → HasCount (counting (values_of places) v q since) n
+  kept v q since n out count = count-same (counting (values_of m.places) v q since) (counting (values_of places) v q since) n
+      (λ a b. sym (without-none (counting (values_of m.places) v q since) root p out a b) ∙ counting-dropped (values_of m.places) (values_of places) root p gone v q since a b) count
 
-      here_count : (t s : Stamp) → values_of m.stamps k.koid.0 k.page ≡ Some t → s.since ≡ t.since
-          → ((nat_lt k.made t.since ≡ true) × (s.notes ≡ t.notes)) ⊎ ((nat_lt k.made t.since ≡ false) × (1 ≤ s.notes) × (s.notes + 1 ≡ t.notes))
-          → (1 ≤ s.notes) × (s.notes ≤ t.notes) × HasCount (counting (values_of places) k.koid.0 k.page s.since) s.notes
-      here_count t s found since (inl old) =
-          let some = (notes.noted k.koid.0 k.page t found).0 in
-          let same = old.1 in (
-            omega arith,
-            omega arith,
-            subst (λ (u : ℕ). HasCount (counting (values_of places) k.koid.0 k.page u) s.notes) (sym since)
-                (subst (HasCount (counting (values_of places) k.koid.0 k.page t.since)) (sym old.1)
-                (kept k.koid.0 k.page t.since t.notes (counting-at (values_of m.places) k.koid.0 k.page t.since root p (Some k) at ∙ counts-old k k.koid.0 k.page t.since old.0) (notes.counted k.koid.0 k.page t found))),
-          )
-      here_count t s found since (inr new) =
-          let rest = count-less t.notes (counting (values_of m.places) k.koid.0 k.page t.since) root p (notes.counted k.koid.0 k.page t found) (counted_here t.since new.0) in
-          let number : rest.0 ≡ s.notes = let suc_is = rest.1 in let fewer = new.2 in omega arith in
-          let fewer = new.2 in (
-            new.1,
-            omega arith,
-            subst (λ (u : ℕ). HasCount (counting (values_of places) k.koid.0 k.page u) s.notes) (sym since)
-                (subst (HasCount (counting (values_of places) k.koid.0 k.page t.since)) number
-                (count-same (without_place (counting (values_of m.places) k.koid.0 k.page t.since) root p) (counting (values_of places) k.koid.0 k.page t.since) rest.0
-                (counting-dropped (values_of m.places) (values_of places) root p gone k.koid.0 k.page t.since) rest.2)),
-          )
+  -- and where it does, one less
+  fewer : (t : Stamp) (n : ℕ) → values_of m.stamps k.koid.0 k.page ≡ Some t → nat_lt k.made t.since ≡ false → n + 1 ≡ t.notes → HasCount (counting (values_of places) k.koid.0 k.page t.since) n
+  fewer t n found new less_one =
+      let rest = count-less t.notes (counting (values_of m.places) k.koid.0 k.page t.since) root p (notes.stamped k.koid.0 k.page t found).counted (counted_here t.since new) in
+      let number : rest.0 ≡ n = let suc_is = rest.1 in omega arith in
+      subst (HasCount (counting (values_of places) k.koid.0 k.page t.since)) number
+      (count-same (without_place (counting (values_of m.places) k.koid.0 k.page t.since) root p) (counting (values_of places) k.koid.0 k.page t.since) rest.0
+      (counting-dropped (values_of m.places) (values_of places) root p gone k.koid.0 k.page t.since) rest.2)
+
+  -- the stamp that is left
+  lowered_fits : (o : Option Stamp) → values_of m.stamps k.koid.0 k.page ≡ o → (s : Stamp) → lowered k.made o ≡ Some s → IsStamp (values_of places) m.time k.koid.0 k.page s
+  unfolding passes
+  lowered_fits None found s is = absurd cc
+  lowered_fits (Some t) found s is = go (nat_lt k.made t.since) refl (nat_lt 1 t.notes) refl is where
+    was : IsStamp (values_of m.places) m.time k.koid.0 k.page t
+    was = notes.stamped k.koid.0 k.page t found
+
+    go : (past : Bool) → nat_lt k.made t.since ≡ past → (more : Bool) → nat_lt 1 t.notes ≡ more
+        → cond past (Some t) (cond more (Some (record t { notes = t.notes - 1 })) None) ≡ Some s → IsStamp (values_of places) m.time k.koid.0 k.page s
+    go true old more e f = subst (IsStamp (values_of places) m.time k.koid.0 k.page) (some_same f) (record {
+      since = was.since;
+      shared = was.shared;
+      counted = kept k.koid.0 k.page t.since t.notes (counting-at (values_of m.places) k.koid.0 k.page t.since root p (Some k) at ∙ counts-old k k.koid.0 k.page t.since old) was.counted;
+      some = was.some;
+      few = was.few;
+    })
+    go false new true many f =
+        let low : 1 < t.notes = ltb-true 1 t.notes many in
+        subst (IsStamp (values_of places) m.time k.koid.0 k.page) (some_same f) (record {
+          since = was.since;
+          shared = was.shared;
+          counted = fewer t (t.notes - 1) found new (omega arith);
+          some = omega (arith, low);
+          few = omega (arith, was.few);
+        })
+    go false new false one f = absurd cc
 
   pub AreNotes-dropped : m.room ≤ places.spare → m.room ≤ stamps.spare → AreNotes (record m { places = places; stamps = stamps })
+  unfolding passes
   AreNotes-dropped room stamps_room = record {
-    made = λ r q j e. elim (pair-cases (values_of m.places) root p None r q j (ap (λ (map : ℕ → ℕ → Option Kept). map r q) (sym gone) ∙ e)) [
-      | inl here ↦ absurd (let none = here.2 in cc)
-      | inr other ↦ notes.made r q j other.1
-    ];
-    stamped = λ v q s e.
-        let was = left v q s e in
-        let times = notes.stamped v q was.0 was.1 in
-        (omega (arith, times.0, was.2), omega (arith, times.1, was.3));
-    counted = λ v q s e. (left v q s e).6;
-    noted = λ v q s e.
-        let was = left v q s e in
-        let few = notes.noted v q was.0 was.1 in
-        (was.4, omega (arith, was.5, few.1));
+    made = pair-each (λ r q j. j.made < m.time) (values_of m.places) (values_of places) root p None gone (λ j none. absurd cc) (λ r q j apart. notes.made r q j);
+    stamped = pair-each (IsStamp (values_of places) m.time) (values_of m.stamps) (values_of stamps) k.koid.0 k.page (lowered k.made (values_of m.stamps k.koid.0 k.page)) less
+        (lowered_fits (values_of m.stamps k.koid.0 k.page) refl)
+        (λ v q s apart e.
+        let was = notes.stamped v q s e in
+        record {
+          since = was.since;
+          shared = was.shared;
+          counted = kept v q s.since s.notes (counting-at (values_of m.places) v q s.since root p (Some k) at ∙ counts-apart k v q s.since apart) was.counted;
+          some = was.some;
+          few = was.few;
+        });
     places_room = room;
     stamps_room = stamps_room;
     times = notes.times;
@@ -433,7 +388,8 @@ dropped-done m root first end none = λ i r q. each r q i where
 pub IsReadySomewhere-stamped : (m : Notes) (v p : ℕ) (s : Stamp) → AreNotes m → values_of m.stamps v p ≡ Some s → IsReadySomewhere (rows_of m) v p
 unfolding passes
 IsReadySomewhere-stamped m v p s notes found =
-    let one = count-some s.notes (counting (values_of m.places) v p s.since) (notes.counted v p s found) (notes.noted v p s found).0 in
+    let stamp = notes.stamped v p s found in
+    let one = count-some s.notes (counting (values_of m.places) v p s.since) stamp.counted stamp.some in
     go one.0 one.1 (values_of m.places one.0 one.1) refl one.2 where
       go : (r q : ℕ) (o : Option Kept) → values_of m.places r q ≡ o → counting (values_of m.places) v p s.since r q ≡ true → IsReadySomewhere (rows_of m) v p
       go r q None at is = absurd (let none = counting-at (values_of m.places) v p s.since r q None at in cc)

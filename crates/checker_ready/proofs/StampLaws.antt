@@ -1,8 +1,8 @@
 -- What a note says, under one stamp and another.
-use Rattle.std.proofs.Common.{◌≡◌, ◌⊎◌, ℕ, ◌+◌, ◌-◌, ◌<◌, ◌≤◌, Bool, true, false, cond, ◌&&◌, Option, None, Some, refl, sym, ap, ◌∙◌, inl, inr, arith}
+use Rattle.std.proofs.Common.{◌≡◌, ℕ, ◌+◌, ◌<◌, ◌≤◌, Bool, true, false, cond, ◌&&◌, Option, None, Some, refl, sym, ap, ◌∙◌, arith}
 use Rattle.std.specs.Prelude.{nat_lt, is_some}
 use Rattle.std.specs.Option.{option_and_then}
-use Rattle.std.proofs.lemmas.Bool.{and_parts, le-ltb, lt-ltb, ltb-true}
+use Rattle.std.proofs.lemmas.Bool.{and_parts, le-ltb, lt-ltb}
 use Rattle.std.proofs.lemmas.Bool.Decides.{nat_tests}
 use Rattle.vm_base.specs.declared.names.Tag.{Tag}
 use Rattle.vm_base.proofs.EntryLaws.{some_same}
@@ -134,25 +134,6 @@ page-lowered k made (Some s) last = go (nat_lt made s.since) refl (nat_lt 1 s.no
 -- the note is from before
 pub lowered-old : (made : ℕ) (s : Stamp) → made < s.since → lowered made (Some s) ≡ Some s
 lowered-old made s old = rw (lt-ltb made s.since old) refl
-
--- the stamp that such a one was
-pub lowered-some : (made : ℕ) (o : Option Stamp) (s : Stamp) → lowered made o ≡ Some s → (t : Stamp) × (o ≡ Some t) × (s.since ≡ t.since) × (s.shared ≡ t.shared)
-    × (((nat_lt made t.since ≡ true) × (s.notes ≡ t.notes)) ⊎ ((nat_lt made t.since ≡ false) × (1 ≤ s.notes) × (s.notes + 1 ≡ t.notes)))
-lowered-some made None s is = absurd cc
-lowered-some made (Some t) s is = go (nat_lt made t.since) refl (nat_lt 1 t.notes) refl is where
-  go : (past : Bool) → nat_lt made t.since ≡ past → (more : Bool) → nat_lt 1 t.notes ≡ more
-      → cond past (Some t) (cond more (Some (record t { notes = t.notes - 1 })) None) ≡ Some s
-      → (u : Stamp) × (Some t ≡ Some u) × (s.since ≡ u.since) × (s.shared ≡ u.shared)
-      × (((nat_lt made u.since ≡ true) × (s.notes ≡ u.notes)) ⊎ ((nat_lt made u.since ≡ false) × (1 ≤ s.notes) × (s.notes + 1 ≡ u.notes)))
-  go true old more e is =
-      let same = sym (some_same is) in
-      (t, refl, ap (λ (x : Stamp). x.since) same, ap (λ (x : Stamp). x.shared) same, inl (old, ap (λ (x : Stamp). x.notes) same))
-  go false new true many is =
-      let same = sym (some_same is) in
-      let notes : s.notes ≡ t.notes - 1 = ap (λ (x : Stamp). x.notes) same in
-      let low : 1 < t.notes = ltb-true 1 t.notes many in
-      (t, refl, ap (λ (x : Stamp). x.since) same, ap (λ (x : Stamp). x.shared) same, inr (new, omega arith, omega arith))
-  go false new false one is = absurd cc
 
 -- ---- the frame that a page has now
 

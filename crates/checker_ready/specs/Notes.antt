@@ -113,13 +113,18 @@ abbrev pub HasCount : (ℕ → ℕ → Bool) → ℕ → Type 0
 HasCount among zero = (r q : ℕ) → among r q ≡ false
 HasCount among (suc n) = (r : ℕ) × (q : ℕ) × (among r q ≡ true) × HasCount (without_place among r q) n
 
--- What holds of all notes: those that were made have earlier times than the next, and no stamp has a later one. Each stamp
--- has the number of the notes that count under it, one at least.
+-- The times of a stamp are none later than this one. It has the number of the notes that count under it, one at least.
+pub record IsStamp (places : ℕ → ℕ → Option Kept) (time v p : ℕ) (stamp : Stamp) : Type 0 where
+  pub since : stamp.since ≤ time
+  pub shared : stamp.shared ≤ time
+  pub counted : HasCount (counting places v p stamp.since) stamp.notes
+  pub some : 1 ≤ stamp.notes
+  pub few : stamp.notes ≤ time
+
+-- What holds of all notes: those that were made have earlier times than the next.
 pub record AreNotes (m : Notes) : Type 0 where
   pub made : (root p : ℕ) (kept : Kept) → values_of m.places root p ≡ Some kept → kept.made < m.time
-  pub stamped : (v p : ℕ) (stamp : Stamp) → values_of m.stamps v p ≡ Some stamp → (stamp.since ≤ m.time) × (stamp.shared ≤ m.time)
-  pub counted : (v p : ℕ) (stamp : Stamp) → values_of m.stamps v p ≡ Some stamp → HasCount (counting (values_of m.places) v p stamp.since) stamp.notes
-  pub noted : (v p : ℕ) (stamp : Stamp) → values_of m.stamps v p ≡ Some stamp → (1 ≤ stamp.notes) × (stamp.notes ≤ m.time)
+  pub stamped : (v p : ℕ) (stamp : Stamp) → values_of m.stamps v p ≡ Some stamp → IsStamp (values_of m.places) m.time v p stamp
   pub places_room : m.room ≤ m.places.spare
   pub stamps_room : m.room ≤ m.stamps.spare
   pub times : m.time + m.room < 2 ^ 64

@@ -1,13 +1,14 @@
 //! How many frames a write takes (copy on write).
 
-ghost use Rattle.std.specs.Prelude.{◌≡◌, ℕ, ◌+◌, ◌<◌, ◌≤◌, ◌&&◌, ◌==◌, true, false, [], ◌∷◌, map};
-ghost use Rattle.vm_model.specs.Contents.Content.{pages_of, sole, IsGood};
+ghost use Rattle.std.specs.Prelude.{◌≡◌, ◌+◌, ◌≤◌, ◌&&◌, ◌==◌, false, [], ◌∷◌, is_some, map};
+ghost use Rattle.vm_model.specs.Contents.Content.{sole, IsGood};
 ghost use Rattle.vm_model.specs.Contents.Owning.{need_each};
 ghost use Rattle.vm_model.specs.Machine.Access.{page_shown};
-ghost use Rattle.vm_model.specs.Space.Readiness.{frame_at};
+ghost use Rattle.vm_model.specs.Space.Readiness.{frame_at, is_same_frame};
 ghost use Rattle.checker_pages.specs.Eager.{eager_content};
-ghost use Rattle.checker_ready.specs.inside.Pages.{AreFrom, LiesInVmo, list_of, need_after, HaveOneFrame};
+ghost use Rattle.checker_ready.specs.inside.Pages.{AreFrom, LiesInVmo, list_of};
 
+use crate::stamps::is_same_frame;
 use crate::touching::Touched;
 use checker_pages::CheckerPages;
 use vm_model::Entry;
@@ -51,7 +52,7 @@ fn frames_for_two(pages: &CheckerPages, first: Entry, second: Entry) -> u64
     }
 }
 
-// How many frames it takes to own a page once another was owned that is not sole. If both are one page, it takes none. If
+// How many frames it takes to own a page, once another was owned that is not sole. If both are one page, it takes none. If
 // they have one frame, it takes one only if a third VMO shows that frame too.
 fn frames_after(pages: &CheckerPages, first: Entry, second: Entry) -> u64
     requires good { IsGood (eager_content pages.now) }
@@ -59,7 +60,7 @@ fn frames_after(pages: &CheckerPages, first: Entry, second: Entry) -> u64
     requires second { LiesInVmo (eager_content pages.now) second }
     requires shared { sole (eager_content pages.now) first.koid.0 first.page ≡ false }
     ensures few { result ≤ 1 }
-    ensures need { result ≡ need_after (eager_content pages.now) (page_shown first) (page_shown second) }
+    ensures need { 1 + result ≡ need_each (eager_content pages.now) (page_shown first ∷ page_shown second ∷ []) }
 {
     if show_same_page(first, second) {
         return 0;
@@ -83,14 +84,10 @@ fn show_same_page(first: Entry, second: Entry) -> bool
 
 // Whether two pages are held, with one frame.
 fn have_one_frame(pages: &CheckerPages, first: Entry, second: Entry) -> bool
-    ensures one { result ≡ true → HaveOneFrame (eager_content pages.now) (page_shown first) (page_shown second) }
-    ensures two { result ≡ false → HaveOneFrame (eager_content pages.now) (page_shown first) (page_shown second) → ⊥ }
+    ensures { result ≡ (is_some (frame_at (eager_content pages.now) first.koid.0 first.page)
+        && is_same_frame (frame_at (eager_content pages.now) first.koid.0 first.page)
+        (frame_at (eager_content pages.now) second.koid.0 second.page)) }
 {
-    let Some(tag) = pages.frame(first.koid, first.page) else {
-        return false;
-    };
-    let Some(other) = pages.frame(second.koid, second.page) else {
-        return false;
-    };
-    tag == other
+    let frame = pages.frame(first.koid, first.page);
+    frame.is_some() && is_same_frame(frame, pages.frame(second.koid, second.page))
 }

@@ -6,10 +6,10 @@ use Rattle.vm_base.specs.declared.refusal.Refusal.{Refusal}
 use Rattle.vm_model.specs.declared.space.Entry.{Entry}
 use Rattle.vm_model.specs.declared.space.Readiness.{Readiness}
 use Rattle.vm_model.specs.declared.space.Readiness.TheVariants.{Read, Write}
-use Rattle.vm_model.specs.Contents.Content.{Content, pages_of, shown, used, sole, hold, IsGood}
-use Rattle.vm_model.specs.Contents.Owning.{VmoPage, need_each}
+use Rattle.vm_model.specs.Contents.Content.{Content, pages_of, used, sole, IsGood}
+use Rattle.vm_model.specs.Contents.Owning.{need_each}
 use Rattle.vm_model.specs.Contents.Writing.{touched}
-use Rattle.vm_model.specs.Space.Readiness.{Ready, is_writable, frame_at}
+use Rattle.vm_model.specs.Space.Readiness.{Ready, is_writable}
 use Rattle.vm_model.specs.Machine.Access.{page_shown}
 use Rattle.ready_pages.specs.Changes.{Entries}
 use Rattle.checker_ready.specs.declared.touching.Touched.{Touched}
@@ -48,19 +48,6 @@ pub record IsMappedInside (c : Content) (table : Entries) (root p : ℕ) (entry 
 abbrev pub FindsTouched : Content → Entries → (root addr len : ℕ) → Option Refusal → Result (Touched Entry) Refusal → Type 0
 FindsTouched c table root addr len refusal outcome =
     MatchResult outcome (λ found. (None ≡ refusal) × Touches (IsMappedInside c table root) addr len (list_of found)) (λ denied. Some denied ≡ refusal)
-
--- ---- how many frames a write takes
-
--- how many frames it takes to own a page, once another was owned that is not sole
-unfoldable pub need_after : Content → (first second : VmoPage) → ℕ
-need_after c first second =
-    need_each (hold c first.koid first.page (record { tag = c.frames; bytes = shown c first.koid first.page })) (second ∷ [])
-
--- Two pages are held, with one frame.
-pub record HaveOneFrame (c : Content) (first second : VmoPage) : Type 0 where
-  pub tag : ℕ
-  pub first_is : frame_at c first.koid first.page ≡ Some tag
-  pub second_is : frame_at c second.koid second.page ≡ Some tag
 
 -- ---- where an access takes page faults
 

@@ -2,8 +2,11 @@ use Rattle.std.proofs.Common.{◌-◌, Option, Some, refl, ap, ◌∙◌, arith}
 use Rattle.pair_map.specs.Maps.{values_of, with_pair}
 use Rattle.checker_ready.specs.declared.stamps.Stamp.{Stamp}
 use Rattle.checker_ready.specs.Notes.{notes_of, stamp_for}
-use Rattle.checker_ready.proofs.RowLaws.{rows-set, AreNotes-set}
+use Rattle.checker_ready.proofs.RowLaws.{rows-set, AreNotes-set, notes_few}
 use Rattle.checker_ready.proofs.ready_map.ReadyMap.note.Goals as goal
+
+pub stamp_for-stamp-requires : goal.stamp_for-stamp-requires
+stamp_for-stamp-requires c = notes_few (notes_of c.self.inside) c.args.row.koid.0 c.args.row.page c.find.result c.self.invariant c.find.ensures (let room = rw (← c.self.view_is) at c.requires.room in room)
 
 pub invariant_of-self : goal.invariant_of-self
 invariant_of-self c =

@@ -1,15 +1,12 @@
 use Rattle.std.proofs.Common.{sym, inl, inr, ◌∙◌, arith}
 use Rattle.checker_ready.specs.Notes.{notes_of}
 use Rattle.checker_ready.proofs.StampLaws.{none_else}
-use Rattle.checker_ready.proofs.RowLaws.{rows-limited, rows-unlimited, AreNotes-stamped}
+use Rattle.checker_ready.proofs.RowLaws.{rows-limited, rows-unlimited, AreNotes-limited}
 use Rattle.checker_ready.proofs.ready_map.ReadyMap.restrict_page.Goals as goal
 
 pub invariant_of-self : goal.invariant_of-self
 invariant_of-self c =
-    let found = sym c.find.ensures ∙ c.in-Some.is in
-    AreNotes-stamped (notes_of c.self.inside) c.args.koid.0 c.args.page c.replace.new.self _ c.self.invariant c.replace.ensures.values
-    (c.self.invariant.stamped c.args.koid.0 c.args.page c.in-Some.stamp found).0 (omega arith)
-    (c.self.invariant.counted c.args.koid.0 c.args.page c.in-Some.stamp found) (c.self.invariant.noted c.args.koid.0 c.args.page c.in-Some.stamp found)
+    AreNotes-limited (notes_of c.self.inside) c.args.koid.0 c.args.page c.replace.new.self c.in-Some.stamp c.self.invariant (sym c.find.ensures ∙ c.in-Some.is) c.replace.ensures.values
     (omega (arith, c.self.invariant.stamps_room, c.replace.ensures.spare))
 
 pub returns-in_default-clause-rows : goal.returns-in_default-clause-rows

@@ -6,12 +6,12 @@ use Rattle.checker_pages.proofs.LinkLaws.{pair-same}
 use Rattle.checker_ready.specs.declared.stamps.Stamp.{Stamp}
 use Rattle.checker_ready.specs.Notes.{notes_of, has_frame}
 use Rattle.checker_ready.proofs.StampLaws.{none_else}
-use Rattle.checker_ready.proofs.RowLaws.{rows-settled, rows-current, AreNotes-unstamped}
+use Rattle.checker_ready.proofs.RowLaws.{rows-settled, rows-current, AreNotes-stamped}
 use Rattle.checker_ready.proofs.ready_map.ReadyMap.settle_page.Goals as goal
 
 pub invariant_of-self : goal.invariant_of-self
 invariant_of-self c =
-    AreNotes-unstamped (notes_of c.self.inside) c.args.koid.0 c.args.page c.remove.new.self c.self.invariant c.remove.ensures.values
+    AreNotes-stamped (notes_of c.self.inside) c.args.koid.0 c.args.page c.remove.new.self None c.self.invariant c.remove.ensures.values (λ s none. absurd cc)
     (omega (arith, c.self.invariant.stamps_room, c.remove.ensures.spare))
 
 pub returns-in_default-clause-rows : goal.returns-in_default-clause-rows
