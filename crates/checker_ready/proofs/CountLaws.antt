@@ -6,7 +6,7 @@ use Rattle.vm_base.specs.Entries.{passes}
 use Rattle.vm_model.proofs.ContentLaws.{same_page}
 use Rattle.pair_map.specs.Maps.{with_pair}
 use Rattle.checker_ready.specs.declared.stamps.Kept.{Kept}
-use Rattle.checker_ready.specs.Notes.{counts, counting, without_place, HasCount}
+use Rattle.checker_ready.specs.Notes.{counting, without_place, HasCount}
 
 -- ---- a number of places
 
@@ -78,6 +78,10 @@ without-none among r q none a b = elim (same_page r q a b) [
 ]
 
 -- ---- the notes that count under a stamp
+
+-- the note is of page p of the VMO v, and was made at this time or later
+abbrev pub counts : (v p since : ℕ) → Kept → Bool
+counts v p since kept = (kept.koid.0 == v) && (kept.page == p) && not (nat_lt kept.made since)
 
 -- a note of the page that was made in time
 pub counts-is : (k : Kept) (v p since : ℕ) → k.koid.0 ≡ v → k.page ≡ p → nat_lt k.made since ≡ false → counts v p since k ≡ true

@@ -96,13 +96,9 @@ IsReadySomewhere rows v p = (root : ℕ) × (at : ℕ) × (row : ReadyPage) × (
 
 -- ---- what holds of them
 
--- a note is of page p of the VMO v, and was made at this time or later
-abbrev pub counts : (v p since : ℕ) → Kept → Bool
-counts v p since kept = (kept.koid.0 == v) && (kept.page == p) && not (nat_lt kept.made since)
-
 -- the places whose notes are of page p of the VMO v, and were made at this time or later
 abbrev pub counting : (ℕ → ℕ → Option Kept) → (v p since : ℕ) → ℕ → ℕ → Bool
-counting places v p since r q = passes (counts v p since) (places r q)
+counting places v p since r q = passes (λ kept. (kept.koid.0 == v) && (kept.page == p) && not (nat_lt kept.made since)) (places r q)
 
 -- the places without one
 abbrev pub without_place : (ℕ → ℕ → Bool) → (r q : ℕ) → ℕ → ℕ → Bool

@@ -2,16 +2,18 @@
 
 ghost use Rattle.checker_ready.specs.Notes.{rows_of, ready_in, AreGoodNotes};
 
+use crate::finding::{find_readable, find_writable};
 use crate::places::Place;
-use crate::reading::read;
+use crate::reading::read_touched;
 use crate::ready_map::ReadyMap;
-use crate::writing::write;
+use crate::touching::touch;
+use crate::writing::{make_room, write_touched};
 use checker_pages::CheckerPages;
 use mapping_set::MappingSet;
 use pin_table::PinTable;
 use ready_pages::{Change, ReadyNotes, ReadyPages};
 use vm_base::{Refusal, RegionName, VMO_PAGES};
-use vm_model::LentBytes;
+use vm_model::{LentBytes, Readiness};
 
 impl ReadyNotes for ReadyMap {
     ghost ready = { λ m. ready_in (rows_of m) };
@@ -39,7 +41,19 @@ impl ReadyPages<CheckerPages> for ReadyMap {
         len: u64,
         room: &'a mut [u8],
     ) -> Result<(u64, LentBytes<'a>), Refusal> {
-        read(pages, maps, self, Place { root, addr }, len, room)
+        let found = match find_readable(pages, maps, root, addr, len) {
+            Ok(found) => found,
+            Err(refusal) => return Err(refusal),
+        };
+        let place = Place { root, addr };
+        let accessed = touch(self, place, found, Readiness::Read);
+        let faults = accessed.faults();
+        let Ok(()) = self.reserve(faults) else {
+            return Err(Refusal::HostMemory);
+        };
+        let out = &mut room[..len as usize];
+        read_touched(pages, self, place, accessed, out);
+        Ok((faults, LentBytes::new(out)))
     }
 
     fn write(
@@ -50,6 +64,17 @@ impl ReadyPages<CheckerPages> for ReadyMap {
         addr: u64,
         bytes: &[u8],
     ) -> Result<u64, Refusal> {
-        write(pages, maps, self, Place { root, addr }, bytes)
+        let found = match find_writable(pages, maps, root, addr, bytes.len() as u64) {
+            Ok(found) => found,
+            Err(refusal) => return Err(refusal),
+        };
+        let place = Place { root, addr };
+        let accessed = touch(self, place, found, Readiness::Write);
+        let faults = accessed.faults();
+        let Ok(()) = make_room(pages, self, faults) else {
+            return Err(Refusal::HostMemory);
+        };
+        write_touched(pages, self, place, accessed, bytes);
+        Ok(faults)
     }
 }

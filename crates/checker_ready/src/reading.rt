@@ -1,6 +1,6 @@
 //! Reading through mappings.
 
-ghost use Rattle.std.specs.Prelude.{◌≡◌, ℕ, ◌+◌, ◌/◌, ◌≤◌, [], ◌∷◌, length, take, drop, Option, None, MatchResult};
+ghost use Rattle.std.specs.Prelude.{◌≡◌, ℕ, ◌+◌, ◌/◌, ◌≤◌, [], ◌∷◌, length, take, drop, None};
 ghost use Rattle.std.specs.List.{range_with_len};
 ghost use Rattle.vm_base.specs.declared.limits.TheConstants.{DATA_BYTES, PAGE};
 ghost use Rattle.vm_model.specs.declared.space.Readiness.TheVariants as Readiness;
@@ -8,62 +8,22 @@ ghost use Rattle.vm_model.specs.Contents.Content.{shown, IsGood};
 ghost use Rattle.vm_model.specs.Contents.Writing.{touched};
 ghost use Rattle.vm_model.specs.Machine.Access.{after_reading};
 ghost use Rattle.vm_model.specs.Machine.Refusals.{read_refusals, first_of};
-ghost use Rattle.mapping_set.specs.Tables.{table_of};
-ghost use Rattle.mapping_set.specs.Backed.{AreBacked};
-ghost use Rattle.ready_pages.specs.Access.{DeniesRead, ReadsReady};
+ghost use Rattle.ready_pages.specs.Access.{ReadsReady};
 ghost use Rattle.ready_pages.specs.Changes.{Entries};
 ghost use Rattle.checker_pages.specs.Eager.{eager_content};
-ghost use Rattle.checker_ready.specs.Notes.{rows_of, ready_in, FitsRows, NotesAreTrue, AreGoodNotes};
+ghost use Rattle.checker_ready.specs.Notes.{rows_of, ready_in, FitsRows, NotesAreTrue};
 ghost use Rattle.checker_ready.specs.inside.Pages.{IsTouched, Touches, faults_in, list_of};
 
-use crate::finding::find_readable;
 use crate::places::{PagePlace, Place};
 use crate::ready_map::ReadyMap;
-use crate::touching::{Touched, TouchedPage, touch};
+use crate::touching::{Touched, TouchedPage};
 use checker_pages::CheckerPages;
-use mapping_set::MappingSet;
-use vm_base::{PAGE, Refusal, in_page, page_of};
-use vm_model::{LentBytes, Readiness};
+use vm_base::{PAGE, in_page, page_of};
+use vm_model::Readiness;
 
-/// Reads `len` bytes, at most `DATA_BYTES`, from a place on into `room`, which has at least `DATA_BYTES` bytes. Returns how many
-/// page faults that took, and the bytes, lent from `room`. Refusals are as for `ReadyPages::read`. A page that was not ready
-/// takes a page fault, and is ready for reading then.
-pub(crate) fn read<'a>(
-    pages: &CheckerPages,
-    maps: &MappingSet,
-    ready: &mut ReadyMap,
-    place: Place,
-    len: u64,
-    room: &'a mut [u8],
-) -> Result<(u64, LentBytes<'a>), Refusal>
-    requires backed { AreBacked (eager_content pages.now) (table_of maps.now) }
-    requires notes { AreGoodNotes (eager_content pages.now) (table_of maps.now) (rows_of ready.old) }
-    requires len { len ≤ DATA_BYTES }
-    requires room { DATA_BYTES ≤ length room.old }
-    ensures outcome { MatchResult result
-        (λ pair. ReadsReady (eager_content pages.now) (table_of maps.now) place.root.0 place.addr len
-        (ready_in (rows_of ready.old)) pair.0 pair.1 (ready_in (rows_of ready.new)))
-        (DeniesRead (eager_content pages.now) (table_of maps.now) place.root.0 place.addr len
-        (ready_in (rows_of ready.old)) (ready_in (rows_of ready.new))) }
-    ensures notes { AreGoodNotes (eager_content pages.now) (table_of maps.now) (rows_of ready.new) }
-{
-    let found = match find_readable(pages, maps, place.root, place.addr, len) {
-        Ok(found) => found,
-        Err(refusal) => return Err(refusal),
-    };
-    let accessed = touch(ready, place, found, Readiness::Read);
-    let faults = accessed.faults();
-    let Ok(()) = ready.reserve(faults) else {
-        return Err(Refusal::HostMemory);
-    };
-    let out = &mut room[..len as usize];
-    read_touched(pages, ready, place, accessed, out);
-    Ok((faults, LentBytes::new(out)))
-}
-
-// Reads bytes of the pages that an access from a place on touches, and which nothing refuses to read. There is room for a note
-// for each page fault.
-fn read_touched(
+/// Reads bytes of the pages that an access from a place on touches, and which nothing refuses to read. There is room for a note
+/// for each page fault. Each page is ready for reading then.
+pub(crate) fn read_touched(
     pages: &CheckerPages,
     ready: &mut ReadyMap,
     place: Place,

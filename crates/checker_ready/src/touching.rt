@@ -1,6 +1,6 @@
 //! The pages that an access touches, and where it takes page faults. Nothing changes.
 
-ghost use Rattle.std.specs.Prelude.{◌≡◌, ℕ, ◌≤◌, [], ◌∷◌};
+ghost use Rattle.std.specs.Prelude.{◌≡◌, ℕ, ◌≤◌};
 ghost use Rattle.vm_model.specs.Contents.Content.{Content};
 ghost use Rattle.ready_pages.specs.Changes.{Entries};
 ghost use Rattle.checker_ready.specs.Notes.{rows_of, ready_in};
@@ -27,16 +27,6 @@ pub(crate) struct TouchedPage {
     pub unready: bool,
 }
 
-impl TouchedPage {
-    /// Returns how many page faults the access takes on the page.
-    pub fn faults(&self) -> u64
-        ensures faults { result ≡ faults_in (self.now ∷ []) }
-        ensures few { result ≤ 1 }
-    {
-        if self.unready { 1 } else { 0 }
-    }
-}
-
 impl Touched<TouchedPage> {
     /// Returns how many page faults the access takes.
     pub fn faults(&self) -> u64
@@ -45,8 +35,8 @@ impl Touched<TouchedPage> {
     {
         match self {
             Touched::No => 0,
-            Touched::One(page) => page.faults(),
-            Touched::Two(first, second) => first.faults() + second.faults(),
+            Touched::One(page) => page.unready as u64,
+            Touched::Two(first, second) => first.unready as u64 + second.unready as u64,
         }
     }
 }

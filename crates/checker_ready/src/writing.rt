@@ -1,6 +1,6 @@
 //! Writing through mappings.
 
-ghost use Rattle.std.specs.Prelude.{◌≡◌, ℕ, ◌+◌, ◌≤◌, [], ◌∷◌, length, Option, None, MatchResult, OnOk, OnErr};
+ghost use Rattle.std.specs.Prelude.{◌≡◌, ℕ, ◌+◌, ◌≤◌, [], ◌∷◌, length, None, OnOk, OnErr};
 ghost use Rattle.vm_base.specs.declared.limits.TheConstants.{DATA_BYTES, PAGE};
 ghost use Rattle.vm_model.specs.declared.space.Readiness.TheVariants as Readiness;
 ghost use Rattle.vm_model.specs.Contents.Content.{IsGood};
@@ -8,59 +8,25 @@ ghost use Rattle.vm_model.specs.Contents.Writing.{WritesPiece, touched};
 ghost use Rattle.vm_model.specs.Machine.Refusals.{write_refusals, first_of};
 ghost use Rattle.vm_model.specs.Space.Readiness.{settled, with_ready};
 ghost use Rattle.pages.specs.Needs.{MayOwn};
-ghost use Rattle.mapping_set.specs.Tables.{table_of};
-ghost use Rattle.mapping_set.specs.Backed.{AreBacked};
-ghost use Rattle.ready_pages.specs.Access.{DeniesWrite, WritesReady};
+ghost use Rattle.ready_pages.specs.Access.{WritesReady};
 ghost use Rattle.ready_pages.specs.Changes.{Entries};
 ghost use Rattle.checker_pages.specs.Eager.{eager_content, eager_spare};
-ghost use Rattle.checker_ready.specs.Notes.{rows_of, ready_in, FitsRows, NotesAreTrue, AreGoodNotes};
+ghost use Rattle.checker_ready.specs.Notes.{rows_of, ready_in, FitsRows, NotesAreTrue};
 ghost use Rattle.checker_ready.specs.inside.Pages.{IsTouched, Touches, MayWrite, MayWritePage, faults_in, list_of};
 
-use crate::finding::find_writable;
 use crate::places::{PagePlace, Place};
 use crate::ready_map::ReadyMap;
-use crate::touching::{Touched, TouchedPage, touch};
+use crate::touching::{Touched, TouchedPage};
 use checker_pages::CheckerPages;
-use mapping_set::MappingSet;
-use vm_base::{HostMemory, PAGE, Refusal, in_page, page_of};
+use vm_base::{HostMemory, PAGE, in_page, page_of};
 use vm_model::Readiness;
 
-/// Writes bytes, at most `DATA_BYTES`, from a place on. Returns how many page faults that took. Refusals are as for
-/// `ReadyPages::write`. Page by page, in the order of the addresses, the page that is shown is owned (copy on write), what
-/// showed it in another frame is ready for nothing, and its bytes are replaced. A page that was not ready for writing takes a
-/// page fault, and is ready for that then. All other pages have their frame still, and are noted already.
-pub(crate) fn write(
+/// Makes room for so many page faults: for owning two pages, if there are any, and for a note for each.
+pub(crate) fn make_room(
     pages: &mut CheckerPages,
-    maps: &MappingSet,
     ready: &mut ReadyMap,
-    place: Place,
-    bytes: &[u8],
-) -> Result<u64, Refusal>
-    requires backed { AreBacked (eager_content pages.old) (table_of maps.now) }
-    requires notes { AreGoodNotes (eager_content pages.old) (table_of maps.now) (rows_of ready.old) }
-    requires len { length bytes.now ≤ DATA_BYTES }
-    ensures outcome { MatchResult result
-        (λ faults. WritesReady (eager_content pages.old) (table_of maps.now) place.root.0 place.addr bytes.now
-        (ready_in (rows_of ready.old)) faults (eager_content pages.new) (ready_in (rows_of ready.new)))
-        (DeniesWrite (eager_content pages.old) (table_of maps.now) place.root.0 place.addr (length bytes.now)
-        (ready_in (rows_of ready.old)) (eager_content pages.new) (ready_in (rows_of ready.new))) }
-    ensures notes { AreGoodNotes (eager_content pages.new) (table_of maps.now) (rows_of ready.new) }
-{
-    let found = match find_writable(pages, maps, place.root, place.addr, bytes.len() as u64) {
-        Ok(found) => found,
-        Err(refusal) => return Err(refusal),
-    };
-    let accessed = touch(ready, place, found, Readiness::Write);
-    let faults = accessed.faults();
-    let Ok(()) = make_room(pages, ready, faults) else {
-        return Err(Refusal::HostMemory);
-    };
-    write_touched(pages, ready, place, accessed, bytes);
-    Ok(faults)
-}
-
-// Makes room for so many page faults: for owning two pages, if there are any, and for a note for each.
-fn make_room(pages: &mut CheckerPages, ready: &mut ReadyMap, faults: u64) -> Result<(), HostMemory>
+    faults: u64,
+) -> Result<(), HostMemory>
     ensures rows { OnOk result (1 ≤ faults → 2 ≤ eager_spare pages.new) }
     ensures notes { OnOk result (faults ≤ ready.new.room) }
     ensures wanted { OnErr result (1 ≤ faults) }
@@ -79,9 +45,10 @@ fn make_room(pages: &mut CheckerPages, ready: &mut ReadyMap, faults: u64) -> Res
     Ok(())
 }
 
-// Writes bytes to the pages that an access from a place on touches, and which nothing refuses to write. There is room for the page
-// faults.
-fn write_touched(
+/// Writes bytes to the pages that an access from a place on touches, and which nothing refuses to write. There is room for the
+/// page faults. Page by page, in the order of the addresses, the page that is shown is owned (copy on write), what showed it
+/// in another frame is ready for nothing, and its bytes are replaced. Each page is ready for writing then.
+pub(crate) fn write_touched(
     pages: &mut CheckerPages,
     ready: &mut ReadyMap,
     place: Place,

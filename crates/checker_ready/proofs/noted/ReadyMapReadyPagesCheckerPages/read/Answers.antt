@@ -9,7 +9,7 @@ use Rattle.checker_ready.specs.Notes.{rows_of, ready_in}
 use Rattle.checker_ready.specs.inside.Pages.{list_of}
 use Rattle.checker_ready.proofs.FaultLaws.{faults_want}
 use Rattle.checker_ready.proofs.ReadLaws.{Reads, reads_same, AreGoodNotes-read}
-use Rattle.checker_ready.proofs.reading.read.Goals as goal
+use Rattle.checker_ready.proofs.noted.ReadyMapReadyPagesCheckerPages.read.Goals as goal
 
 pub returns-in_default-clause-outcome : goal.returns-in_default-clause-outcome
 returns-in_default-clause-outcome c =
@@ -18,7 +18,7 @@ returns-in_default-clause-outcome c =
         why = inr (
           sym c.in-Ok.ensures.0,
           refl,
-          rw touches.pages (faults_want (eager_content c.args.pages.now) (table_of c.args.maps.now) (ready_in (rows_of c.args.ready.now)) c.args.place.root.0 Read (c.args.place.addr / PAGE)
+          rw touches.pages (faults_want (eager_content c.args.pages.now) (table_of c.args.maps.now) (ready_in (rows_of c.args.self.now)) c.args.root.0 Read (c.args.addr / PAGE)
               (list_of c.touch-accessed.result) touches.each (omega (arith, c.in_default.ensures.wanted, c.faults-faults.ensures.faults))),
         );
       },
@@ -28,16 +28,16 @@ returns-in_default-clause-outcome c =
 pub read_touched-requires-clause-fits : goal.read_touched-requires-clause-fits
 read_touched-requires-clause-fits c =
     let same : length (take c.args.len c.args.room.now) ≡ c.args.len = omega (arith, c.requires.len, c.requires.room, length-take c.args.len c.args.room.now) in
-    ap (touched c.args.place.addr) same ∙ (c.touch-accessed.ensures (eager_content c.args.pages.now) (table_of c.args.maps.now) c.args.len c.in-Ok.ensures.1).pages
+    ap (touched c.args.addr) same ∙ (c.touch-accessed.ensures (eager_content c.args.pages.now) (table_of c.args.maps.now) c.args.len c.in-Ok.ensures.1).pages
 
 -- the bytes were read
 reads_in : (c : goal.After-new)
-    → Reads (table_of c.args.maps.now) (eager_content c.args.pages.now) c.args.place.root.0 c.args.place.addr (rows_of c.args.ready.now) c.args.len
+    → Reads (table_of c.args.maps.now) (eager_content c.args.pages.now) c.args.root.0 c.args.addr (rows_of c.args.self.now) c.args.len
     (list_of c.touch-accessed.result) c.read_touched.new.out (rows_of c.read_touched.new.ready)
 reads_in c =
     let same : length (take c.args.len c.args.room.now) ≡ c.args.len = omega (arith, c.requires.len, c.requires.room, length-take c.args.len c.args.room.now) in
-    reads_same (table_of c.args.maps.now) (eager_content c.args.pages.now) c.args.place.root.0 c.args.place.addr (length (take c.args.len c.args.room.now)) c.args.len
-    (rows_of c.reserve.new.self) (rows_of c.args.ready.now) (list_of c.touch-accessed.result) c.read_touched.new.out (rows_of c.read_touched.new.ready) same c.in-Ok-reserve.ensures.same
+    reads_same (table_of c.args.maps.now) (eager_content c.args.pages.now) c.args.root.0 c.args.addr (length (take c.args.len c.args.room.now)) c.args.len
+    (rows_of c.reserve.new.self) (rows_of c.args.self.now) (list_of c.touch-accessed.result) c.read_touched.new.out (rows_of c.read_touched.new.ready) same c.in-Ok-reserve.ensures.same
     (c.read_touched.ensures.reads (table_of c.args.maps.now) c.requires.backed.good) (sym c.in-Ok.ensures.0) c.requires.notes.true_rows
     (c.touch-accessed.ensures (eager_content c.args.pages.now) (table_of c.args.maps.now) c.args.len c.in-Ok.ensures.1)
 
@@ -49,4 +49,4 @@ returns-clause-outcome c =
 pub returns-clause-notes : goal.returns-clause-notes
 returns-clause-notes c =
     let reads = reads_in c in
-    AreGoodNotes-read (eager_content c.args.pages.now) (table_of c.args.maps.now) c.args.place.root.0 c.args.place.addr c.args.len _ (rows_of c.args.ready.now) (rows_of c.read_touched.new.ready) _ c.requires.notes reads.0 reads.1
+    AreGoodNotes-read (eager_content c.args.pages.now) (table_of c.args.maps.now) c.args.root.0 c.args.addr c.args.len _ (rows_of c.args.self.now) (rows_of c.read_touched.new.ready) _ c.requires.notes reads.0 reads.1

@@ -7,7 +7,7 @@ use Rattle.checker_ready.specs.Notes.{rows_of, ready_in}
 use Rattle.checker_ready.specs.inside.Pages.{list_of}
 use Rattle.checker_ready.proofs.FaultLaws.{faults_want}
 use Rattle.checker_ready.proofs.WriteLaws.{MayWrite-found, WritesTo, writes_same, AreGoodNotes-written}
-use Rattle.checker_ready.proofs.writing.write.Goals as goal
+use Rattle.checker_ready.proofs.noted.ReadyMapReadyPagesCheckerPages.write.Goals as goal
 
 pub returns-in_default-clause-outcome : goal.returns-in_default-clause-outcome
 returns-in_default-clause-outcome c =
@@ -16,7 +16,7 @@ returns-in_default-clause-outcome c =
         why = inr (
           sym c.in-Ok.ensures.0,
           refl,
-          rw touches.pages (faults_want (eager_content c.args.pages.now) (table_of c.args.maps.now) (ready_in (rows_of c.args.ready.now)) c.args.place.root.0 Write (c.args.place.addr / PAGE)
+          rw touches.pages (faults_want (eager_content c.args.pages.now) (table_of c.args.maps.now) (ready_in (rows_of c.args.self.now)) c.args.root.0 Write (c.args.addr / PAGE)
               (list_of c.touch-accessed.result) touches.each (omega (arith, c.in_default.ensures.wanted, c.faults-faults.ensures.faults))),
         );
       },
@@ -26,16 +26,16 @@ returns-in_default-clause-outcome c =
 
 pub write_touched-requires-clause-may : goal.write_touched-requires-clause-may
 write_touched-requires-clause-may c =
-    MayWrite-found (eager_content c.args.pages.now) (eager_content c.make_room.new.pages) (table_of c.args.maps.now) (rows_of c.args.ready.now) c.args.place.root.0 c.args.place.addr (length c.args.bytes.now)
+    MayWrite-found (eager_content c.args.pages.now) (eager_content c.make_room.new.pages) (table_of c.args.maps.now) (rows_of c.args.self.now) c.args.root.0 c.args.addr (length c.args.bytes.now)
     (list_of c.touch-accessed.result) c.in-Ok-make_room.ensures.content c.requires.backed.good c.requires.notes c.in-Ok.ensures.0
     (c.touch-accessed.ensures (eager_content c.args.pages.now) (table_of c.args.maps.now) (length c.args.bytes.now) c.in-Ok.ensures.1)
 
 -- the bytes were written
 writes_in : (c : goal.After-write_touched)
-    → WritesTo (table_of c.args.maps.now) (eager_content c.args.pages.now) (rows_of c.args.ready.now) c.args.place.root.0 c.args.place.addr c.args.bytes.now
+    → WritesTo (table_of c.args.maps.now) (eager_content c.args.pages.now) (rows_of c.args.self.now) c.args.root.0 c.args.addr c.args.bytes.now
     (list_of c.touch-accessed.result) (eager_content c.write_touched.new.pages) (rows_of c.write_touched.new.ready)
 writes_in c =
-    writes_same (table_of c.args.maps.now) (eager_content c.make_room.new.pages) (eager_content c.args.pages.now) (rows_of c.make_room.new.ready) (rows_of c.args.ready.now) c.args.place.root.0 c.args.place.addr
+    writes_same (table_of c.args.maps.now) (eager_content c.make_room.new.pages) (eager_content c.args.pages.now) (rows_of c.make_room.new.ready) (rows_of c.args.self.now) c.args.root.0 c.args.addr
     c.args.bytes.now (list_of c.touch-accessed.result) (eager_content c.write_touched.new.pages) (rows_of c.write_touched.new.ready) c.in-Ok-make_room.ensures.content c.in-Ok-make_room.ensures.same
     (c.write_touched.ensures.writes (table_of c.args.maps.now)) (sym c.in-Ok.ensures.0) c.requires.notes.true_rows
     (c.touch-accessed.ensures (eager_content c.args.pages.now) (table_of c.args.maps.now) (length c.args.bytes.now) c.in-Ok.ensures.1)
@@ -46,5 +46,5 @@ returns-clause-outcome c = rw c.faults-faults.ensures.faults (writes_in c).0
 pub returns-clause-notes : goal.returns-clause-notes
 returns-clause-notes c =
     let writes = writes_in c in
-    AreGoodNotes-written (eager_content c.args.pages.now) (eager_content c.write_touched.new.pages) (table_of c.args.maps.now) c.args.place.root.0 c.args.place.addr c.args.bytes.now
-    (rows_of c.args.ready.now) (rows_of c.write_touched.new.ready) _ c.requires.backed.good c.requires.notes writes.0 writes.1
+    AreGoodNotes-written (eager_content c.args.pages.now) (eager_content c.write_touched.new.pages) (table_of c.args.maps.now) c.args.root.0 c.args.addr c.args.bytes.now
+    (rows_of c.args.self.now) (rows_of c.write_touched.new.ready) _ c.requires.backed.good c.requires.notes writes.0 writes.1
