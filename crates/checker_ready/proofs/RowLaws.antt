@@ -28,14 +28,6 @@ use Rattle.checker_ready.proofs.StampLaws.{row_of, changed-here, changed-other, 
 
 -- ---- one stamp changes
 
--- the page of a note that is page p of the VMO v has the stamp of that page
-stamp_at : (stamps : ℕ → ℕ → Option Stamp) (v p : ℕ) (k : Kept) → ((k.koid.0 == v) && (k.page == p)) ≡ true → stamps k.koid.0 k.page ≡ stamps v p
-stamp_at stamps v p k hit =
-    let both = and_parts (k.koid.0 == v) (k.page == p) hit in
-    let koid = eqb_is k.koid.0 v both.0 in
-    let page = eqb_is k.page p both.1 in
-    λ i. stamps (koid i) (page i)
-
 -- what a change of the stamp of page p of the VMO v makes of the rows of its notes, it makes of all rows
 module _ (m : Notes) (v p : ℕ) (o : Option Stamp) (new : ℕ → ℕ → Option Stamp) (values : new ≡ with_pair (values_of m.stamps) v p o) (change : ReadyPage → Option ReadyPage)
     (each : (k : Kept) (r q : ℕ) → values_of m.places r q ≡ Some k → k.koid.0 ≡ v → k.page ≡ p → ready_page k o ≡ option_and_then change (ready_page k (values_of m.stamps v p))) where
@@ -280,15 +272,14 @@ module _ (m : Notes) (root p : ℕ) (k : Kept) (places : PairMap Kept) (stamps :
   rows-dropped = λ i r q. each r q i where
     lower : (r q : ℕ) → (r ≡ root → q ≡ p → ⊥) → (o : Option Kept) → values_of m.places r q ≡ o → noted_under (values_of stamps) o ≡ noted_under (values_of m.stamps) o
     lower r q apart None is = refl
-    lower r q apart (Some j) is = ap (λ (map : ℕ → ℕ → Option Stamp). ready_page j (map j.koid.0 j.page)) less ∙ go ((j.koid.0 == k.koid.0) && (j.page == k.page)) refl where
-      go : (hit : Bool) → ((j.koid.0 == k.koid.0) && (j.page == k.page)) ≡ hit
-          → ready_page j (cond hit (lowered k.made (values_of m.stamps k.koid.0 k.page)) (values_of m.stamps j.koid.0 j.page)) ≡ ready_page j (values_of m.stamps j.koid.0 j.page)
-      go true hit =
-          let both = and_parts (j.koid.0 == k.koid.0) (j.page == k.page) hit in
-          page-lowered j k.made (values_of m.stamps k.koid.0 k.page)
-          (λ s found new one. alone r q j s apart is (eqb_is j.koid.0 k.koid.0 both.0) (eqb_is j.page k.page both.1) found new one)
-          ∙ ap (ready_page j) (sym (stamp_at (values_of m.stamps) k.koid.0 k.page j hit))
-      go false miss = refl
+    lower r q apart (Some j) is = ap (λ (map : ℕ → ℕ → Option Stamp). ready_page j (map j.koid.0 j.page)) less ∙ elim (same_page k.koid.0 k.page j.koid.0 j.page) [
+      | inl here ↦
+          (λ i. ready_page j (with_pair (values_of m.stamps) k.koid.0 k.page (lowered k.made (values_of m.stamps k.koid.0 k.page)) (here.0 i) (here.1 i)))
+          ∙ (ap (ready_page j) (pair-here (values_of m.stamps) k.koid.0 k.page (lowered k.made (values_of m.stamps k.koid.0 k.page)))
+          ∙ (page-lowered j k.made (values_of m.stamps k.koid.0 k.page) (λ s found new one. alone r q j s apart is here.0 here.1 found new one)
+          ∙ λ i. ready_page j (values_of m.stamps (sym here.0 i) (sym here.1 i))))
+      | inr other ↦ ap (ready_page j) (pair-other (values_of m.stamps) k.koid.0 k.page (lowered k.made (values_of m.stamps k.koid.0 k.page)) j.koid.0 j.page other)
+    ]
 
     each : (r q : ℕ) → noted_under (values_of stamps) (values_of places r q) ≡ cond ((r == root) && is_within p (p + 1) q) None (rows_of m r q)
     each r q = ap (λ (map : ℕ → ℕ → Option Kept). noted_under (values_of stamps) (map r q)) gone ∙ elim (same_page root p r q) [
@@ -399,7 +390,7 @@ IsReadySomewhere-stamped m v p s notes found =
           let koid = eqb_is k.koid.0 v both.0 in
           let page = eqb_is k.page p both.1 in
           let new : nat_lt k.made s.since ≡ false = not-true (nat_lt k.made s.since) passed.1 in
-          (r, q, row_of k s, ap (noted_under (values_of m.stamps)) at ∙ (ap (ready_page k) (stamp_at (values_of m.stamps) v p k passed.0 ∙ found) ∙ rw new refl), koid, page)
+          (r, q, row_of k s, ap (noted_under (values_of m.stamps)) at ∙ (ap (ready_page k) ((λ i. values_of m.stamps (koid i) (page i)) ∙ found) ∙ rw new refl), koid, page)
 
 pub IsReadySomewhere-of : (m : Notes) → AreNotes m → (v p : ℕ) → IsSome (values_of m.stamps v p) → IsReadySomewhere (rows_of m) v p
 IsReadySomewhere-of m notes v p some = go (values_of m.stamps v p) refl some where

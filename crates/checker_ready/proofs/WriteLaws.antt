@@ -1,21 +1,20 @@
 -- What writing through one page of an address space, or through two, gives.
-use Rattle.std.proofs.Common.{◌≡◌, ℕ, ◌+◌, ◌-◌, ◌/◌, ◌%◌, ◌≤◌, Bool, true, false, cond, List, [], ◌∷◌, length, map, take, drop, None, Some, refl, sym, ap, subst, ◌∙◌, inl, inr, arith}
+use Rattle.std.proofs.Common.{◌≡◌, ℕ, ◌+◌, ◌-◌, ◌/◌, ◌%◌, ◌≤◌, true, false, List, [], ◌∷◌, length, map, take, drop, None, Some, refl, sym, ap, subst, ◌∙◌, inl, inr, arith}
 use Rattle.std.proofs.lemmas.Bool.{cases_Bool}
 use Rattle.vm_base.specs.declared.limits.TheConstants.{PAGE}
-use Rattle.vm_base.specs.Entries.{passes}
 use Rattle.vm_base.proofs.EntryLaws.{some_same}
 use Rattle.vm_model.specs.declared.space.Entry.{Entry}
 use Rattle.vm_model.specs.declared.space.Readiness.TheVariants.{Write}
 use Rattle.vm_model.specs.Contents.Content.{Content, used, sole, IsGood}
 use Rattle.vm_model.specs.Contents.Owning.{VmoPage, need_each}
 use Rattle.vm_model.specs.Contents.Writing.{touched, part_at, part_bytes, WritesPiece}
-use Rattle.vm_model.specs.Space.Readiness.{Ready, frame_at, keeps_frame, settled, with_ready}
+use Rattle.vm_model.specs.Space.Readiness.{Ready, frame_at, settled, with_ready}
 use Rattle.vm_model.specs.Machine.Access.{page_shown, pages_shown, WritesPage}
 use Rattle.vm_model.specs.Machine.Refusals.{write_refusals, first_of}
 use Rattle.vm_model.proofs.AccessLaws.{frame_at-other, frame_at-sole}
 use Rattle.vm_model.proofs.ContentLaws.{same_page}
 use Rattle.vm_model.proofs.PartLaws.{part_at-first, part_bytes-all, part_bytes-first, part_at-second, part_bytes-second}
-use Rattle.vm_model.proofs.ReadinessLaws.{keeps_frame-from, settled-kept, with_ready-same, with_ready-other}
+use Rattle.vm_model.proofs.ReadinessLaws.{keeps_frame-from, settled-kept, settled-some, with_ready-same, with_ready-other}
 use Rattle.vm_model.proofs.WritingLaws.{Written, Written-from_WritesPiece, WritesPiece-keeps}
 use Rattle.pages.specs.Needs.{MayOwn}
 use Rattle.pages.proofs.NeedLaws.{first-free, second-free}
@@ -23,7 +22,7 @@ use Rattle.ready_pages.specs.Access.{WritesReady}
 use Rattle.ready_pages.specs.Changes.{Entries, ChangesRange, AreReadyAt}
 use Rattle.checker_ready.specs.declared.touching.TouchedPage.{TouchedPage}
 use Rattle.checker_ready.specs.Notes.{ReadyRows, ready_in, FitsRows, NotesAreTrue, AreGoodNotes}
-use Rattle.checker_ready.specs.inside.Pages.{LiesInVmo, IsMappedInside, IsTouched, Touches, MayWritePage, MayWrite, faults_in, is_unready}
+use Rattle.checker_ready.specs.inside.Pages.{IsMappedInside, IsTouched, Touches, MayWritePage, MayWrite, faults_in, is_unready}
 use Rattle.checker_ready.proofs.AskLaws.{each_from, shown_from, fits_one, write_row_free, write_row_fits}
 use Rattle.checker_ready.proofs.FaultLaws.{fault_to_write, ready_to_write}
 use Rattle.checker_ready.proofs.GoodLaws.{AreReadyAt-written}
@@ -59,64 +58,60 @@ module _ (c d : Content) (table : Entries) (rows : ReadyRows) (root p at : ℕ) 
 -- ---- two pages
 
 -- one after another
-module _ (c : Content) (good : IsGood c) (first second : Entry) (below : LiesInVmo c first)
-    (enough : used c + need_each c (page_shown first ∷ page_shown second ∷ []) ≤ c.frames) where
-  pub own_first : MayOwn c first.koid.0 first.page
-  own_first = first-free c first.koid.0 first.page second.koid.0 second.page good below enough
+module _ (c : Content) (addr len : ℕ) (first second : TouchedPage) (may : MayWrite c addr len (first ∷ second ∷ [])) where
+  pub own_first : MayOwn c first.entry.koid.0 first.entry.page
+  own_first = first-free c first.entry.koid.0 first.entry.page second.entry.koid.0 second.entry.page may.good may.touches.each.0.inside may.frames
 
   module _ (at : ℕ) (part : List ℕ) (d : Content) (fits : at + length part ≤ PAGE)
-      (wrote : WritesPiece c (record { koid = first.koid.0; page = first.page; at = at; bytes = part }) d) where
-    written : Written c first.koid.0 first.page d
-    written = Written-from_WritesPiece c (record { koid = first.koid.0; page = first.page; at = at; bytes = part }) d good below fits wrote
+      (wrote : WritesPiece c (record { koid = first.entry.koid.0; page = first.entry.page; at = at; bytes = part }) d) where
+    written : Written c first.entry.koid.0 first.entry.page d
+    written = Written-from_WritesPiece c (record { koid = first.entry.koid.0; page = first.entry.page; at = at; bytes = part }) d may.good may.touches.each.0.inside fits wrote
 
     pub good_between : IsGood d
     good_between = (written).kept.good
 
-    pub own_second : MayOwn d second.koid.0 second.page
-    own_second = second-free c first.koid.0 first.page second.koid.0 second.page good below at part d fits wrote enough
+    pub own_second : MayOwn d second.entry.koid.0 second.entry.page
+    own_second = second-free c first.entry.koid.0 first.entry.page second.entry.koid.0 second.entry.page may.good may.touches.each.0.inside at part d fits wrote may.frames
 
-    -- a page that may be written may still be
-    pub may_between : (page : TouchedPage) → MayWritePage c page → MayWritePage d page
-    may_between page may = record {
-      inside = omega (arith, may.inside, (written).kept.pages page.entry.koid.0);
+    -- the second may still be written
+    pub may_between : MayWritePage d second
+    may_between = record {
+      inside = omega (arith, may.touches.each.1.0.inside, (written).kept.pages second.entry.koid.0);
       alone = λ ready_for.
-          (WritesPiece-keeps c (record { koid = first.koid.0; page = first.page; at = at; bytes = part }) d good below fits wrote (λ v q. true)).alone
-          page.entry.koid.0 page.entry.page refl (may.alone ready_for);
+          (WritesPiece-keeps c (record { koid = first.entry.koid.0; page = first.entry.page; at = at; bytes = part }) d may.good may.touches.each.0.inside fits wrote (λ v q. true)).alone
+          second.entry.koid.0 second.entry.page refl (may.touches.each.1.0.alone ready_for);
     }
 
-    -- a page that is sole keeps its frame
-    frame_between : (entry : Entry) → sole c entry.koid.0 entry.page ≡ true → frame_at d entry.koid.0 entry.page ≡ frame_at c entry.koid.0 entry.page
-    frame_between entry alone = elim (same_page first.koid.0 first.page entry.koid.0 entry.page) [
+    -- and keeps its frame if it is sole
+    frame_between : sole c second.entry.koid.0 second.entry.page ≡ true → frame_at d second.entry.koid.0 second.entry.page ≡ frame_at c second.entry.koid.0 second.entry.page
+    frame_between alone = elim (same_page first.entry.koid.0 first.entry.page second.entry.koid.0 second.entry.page) [
       | inl here ↦
-          frame_at-sole c d (record { koid = first.koid.0; page = first.page; at = at; bytes = part }) wrote written
-          (subst (λ (v : ℕ). sole c v first.page ≡ true) here.0 (subst (λ (q : ℕ). sole c entry.koid.0 q ≡ true) here.1 alone)) entry.koid.0 entry.page
-      | inr apart ↦ frame_at-other c d first.koid.0 first.page written entry.koid.0 entry.page apart
+          frame_at-sole c d (record { koid = first.entry.koid.0; page = first.entry.page; at = at; bytes = part }) wrote written
+          ((λ i. sole c (sym here.0 i) (sym here.1 i)) ∙ alone) second.entry.koid.0 second.entry.page
+      | inr apart ↦ frame_at-other c d first.entry.koid.0 first.entry.page written second.entry.koid.0 second.entry.page apart
     ]
 
-    -- so another page of the address space is ready for writing as it was, where it shows a sole page if it is
-    module _ (table : Entries) (ready later : Ready) (root p q : ℕ) (page : TouchedPage) (apart : q ≡ p → ⊥) (is : IsTouched Write c table ready root q page)
-        (now : later ≡ with_ready (settled c d table ready) root p Write) (may : MayWritePage c page) where
+    -- so its page of the address space is ready for writing as it was
+    module _ (table : Entries) (ready later : Ready) (root p q : ℕ) (apart : q ≡ p → ⊥) (is : IsTouched Write c table ready root q second)
+        (now : later ≡ with_ready (settled c d table ready) root p Write) where
       later_there : later root q ≡ settled c d table ready root q
-      later_there =
-          ap (λ (r : Ready). r root q) now ∙ with_ready-other (settled c d table ready) root p Write root q (λ same. apart)
+      later_there = ap (λ (r : Ready). r root q) now ∙ with_ready-other (settled c d table ready) root p Write root q (λ same. apart)
 
-      settled_there : settled c d table ready root q ≡ cond (passes (keeps_frame c d) (table root q)) (ready root q) None
-      unfolding settled
-      settled_there = refl
-
-      pub touched_between : IsTouched Write d table later root q page
+      pub touched_between : IsTouched Write d table later root q second
       touched_between = record {
-        shows = record { is = is.shows.is; below = (may_between page may).inside };
-        unready = elim (cases_Bool page.unready) [
-          | inl lacking ↦ lacking ∙ (go (passes (keeps_frame c d) (table root q)) (sym is.unready ∙ lacking) ∙ ap (is_unready Write) (sym settled_there ∙ sym later_there))
+        shows = record { is = is.shows.is; below = (may_between).inside };
+        unready = elim (cases_Bool second.unready) [
+          | inl lacking ↦ elim (cases_Bool (is_unready Write (later root q))) [
+            | inl lacks ↦ lacking ∙ sym lacks
+            | inr ready_now ↦
+                let was = settled-some c d table ready root q Write (sym later_there ∙ ready_to_write (later root q) ready_now) in
+                absurd (let had = is.unready ∙ ap (is_unready Write) was.3 in cc)
+          ]
           | inr ready_for ↦
-              let keeps = keeps_frame-from c d page.entry (frame_between page.entry (may.alone ready_for)) (may_between page may).inside in
-              is.unready ∙ ap (is_unready Write) (sym (later_there ∙ settled-kept c d table ready root q page.entry is.shows.is keeps))
+              let keeps = keeps_frame-from c d second.entry (frame_between (may.touches.each.1.0.alone ready_for)) (may_between).inside in
+              is.unready ∙ ap (is_unready Write) (sym (later_there ∙ settled-kept c d table ready root q second.entry is.shows.is keeps))
         ];
-      } where
-        go : (b : Bool) → is_unready Write (ready root q) ≡ true → true ≡ is_unready Write (cond b (ready root q) None)
-        go true e = sym e
-        go false e = refl
+      }
 
 -- ---- all bytes
 
@@ -172,8 +167,7 @@ module _ (table : Entries) (c : Content) (rows : ReadyRows) (root addr : ℕ) (b
   writes_two behind e later few there free touches then_wrote fits then_fits =
       let is = subst (λ (q : ℕ). IsTouched Write c table (ready_in rows) root q first) (sym start) touches.each.0 in
       let was = subst (λ (q : ℕ). IsTouched Write c table (ready_in rows) root (q + 1) second) (sym start) touches.each.1.0 in
-      let then_is = touched_between c may.good first.entry second.entry may.touches.each.0.inside may.frames at front d range wrote table (ready_in rows) (ready_in mid) root p (p + 1) second
-      (λ same. omega (arith, same)) was (fits is).are_ready may.touches.each.1.0 in
+      let then_is = touched_between c addr (length bytes) first second may at front d range wrote table (ready_in rows) (ready_in mid) root p (p + 1) (λ same. omega (arith, same)) was (fits is).are_ready in
       let rest = then_fits (fits is).notes then_is in
       let two : touched addr (length bytes) ≡ p ∷ (p + 1) ∷ [] = touches.pages ∙ ap (λ (q : ℕ). q ∷ (q + 1) ∷ []) (sym start) in (
         record {

@@ -37,27 +37,22 @@ split_at-requires c =
     let may = rw c.in-Two.is at c.requires.may in omega (arith, c.in_page-at.ensures, fits_two c.args.place.addr (length c.args.bytes.now) may.touches.pages)
 
 pub write_page-requires-in-Two-clause-own : goal.write_page-requires-in-Two-clause-own
-write_page-requires-in-Two-clause-own c =
-    let may = rw c.in-Two.is at c.requires.may in
-    own_first (eager_content c.args.pages.now) may.good c.in-Two.first.entry c.in-Two.second.entry may.touches.each.0.inside may.frames
+write_page-requires-in-Two-clause-own c = own_first (eager_content c.args.pages.now) c.args.place.addr (length c.args.bytes.now) c.in-Two.first c.in-Two.second (rw c.in-Two.is at c.requires.may)
 
 pub write_page-requires-in-Two-2-clause-good : goal.write_page-requires-in-Two-2-clause-good
 write_page-requires-in-Two-2-clause-good c =
-    let may = rw c.in-Two.is at c.requires.may in
-    good_between (eager_content c.args.pages.now) may.good c.in-Two.first.entry c.in-Two.second.entry may.touches.each.0.inside may.frames _ _ _
-    (omega (arith, c.in_page-at.ensures, c.split_at.ensures.front_len)) c.write_page-in-Two.ensures.piece
+    good_between (eager_content c.args.pages.now) c.args.place.addr (length c.args.bytes.now) c.in-Two.first c.in-Two.second (rw c.in-Two.is at c.requires.may)
+    _ _ _ (omega (arith, c.in_page-at.ensures, c.split_at.ensures.front_len)) c.write_page-in-Two.ensures.piece
 
 pub write_page-requires-in-Two-2-clause-may : goal.write_page-requires-in-Two-2-clause-may
 write_page-requires-in-Two-2-clause-may c =
-    let may = rw c.in-Two.is at c.requires.may in
-    may_between (eager_content c.args.pages.now) may.good c.in-Two.first.entry c.in-Two.second.entry may.touches.each.0.inside may.frames _ _ _
-    (omega (arith, c.in_page-at.ensures, c.split_at.ensures.front_len)) c.write_page-in-Two.ensures.piece c.in-Two.second may.touches.each.1.0
+    may_between (eager_content c.args.pages.now) c.args.place.addr (length c.args.bytes.now) c.in-Two.first c.in-Two.second (rw c.in-Two.is at c.requires.may)
+    _ _ _ (omega (arith, c.in_page-at.ensures, c.split_at.ensures.front_len)) c.write_page-in-Two.ensures.piece
 
 pub write_page-requires-in-Two-2-clause-own : goal.write_page-requires-in-Two-2-clause-own
 write_page-requires-in-Two-2-clause-own c =
-    let may = rw c.in-Two.is at c.requires.may in
-    own_second (eager_content c.args.pages.now) may.good c.in-Two.first.entry c.in-Two.second.entry may.touches.each.0.inside may.frames _ _ _
-    (omega (arith, c.in_page-at.ensures, c.split_at.ensures.front_len)) c.write_page-in-Two.ensures.piece
+    own_second (eager_content c.args.pages.now) c.args.place.addr (length c.args.bytes.now) c.in-Two.first c.in-Two.second (rw c.in-Two.is at c.requires.may)
+    _ _ _ (omega (arith, c.in_page-at.ensures, c.split_at.ensures.front_len)) c.write_page-in-Two.ensures.piece
 
 pub returns-in-Two : goal.returns-in-Two
 returns-in-Two c = record {
