@@ -6,9 +6,13 @@ use Rattle.vm_base.specs.Entries.{passes}
 use Rattle.vm_model.proofs.ContentLaws.{same_page}
 use Rattle.pair_map.specs.Maps.{with_pair}
 use Rattle.checker_ready.specs.declared.stamps.Kept.{Kept}
-use Rattle.checker_ready.specs.Notes.{counting, without_place, HasCount}
+use Rattle.checker_ready.specs.Notes.{counting, HasCount}
 
 -- ---- a number of places
+
+-- the places without one
+abbrev pub without_place : (ℕ → ℕ → Bool) → (r q : ℕ) → ℕ → ℕ → Bool
+without_place among r q a b = among a b && not ((a == r) && (b == q))
 
 -- the same places are as many
 pub count-same : (old new : ℕ → ℕ → Bool) (n : ℕ) → ((r q : ℕ) → old r q ≡ new r q) → HasCount old n → HasCount new n

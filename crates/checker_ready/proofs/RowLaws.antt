@@ -22,9 +22,13 @@ use Rattle.checker_pages.proofs.LinkLaws.{pair-here, pair-other, pair-same, pair
 use Rattle.checker_ready.specs.declared.ready_map.ReadyPage.{ReadyPage}
 use Rattle.checker_ready.specs.declared.stamps.Kept.{Kept}
 use Rattle.checker_ready.specs.declared.stamps.Stamp.{Stamp}
-use Rattle.checker_ready.specs.Notes.{Notes, ReadyRows, ready_page, noted_under, rows_of, stamp_for, has_frame, is_row_in, changed_rows, row_if_current, row_limited, without_range, HasNoRow, IsReadySomewhere, IsStamp, AreNotes, lowered, counting, without_place, HasCount}
-use Rattle.checker_ready.proofs.CountLaws.{count-same, count-more, count-less, count-none, count-some, without-none, counts, counts-is, counts-apart, counts-old, counts-not, counting-at, counting-dropped, counting-here, counting-other}
+use Rattle.checker_ready.specs.Notes.{Notes, ReadyRows, ready_page, rows_of, stamp_for, has_frame, is_row_in, changed_rows, row_if_current, row_limited, without_range, HasNoRow, IsReadySomewhere, IsStamp, AreNotes, lowered, counting, HasCount}
+use Rattle.checker_ready.proofs.CountLaws.{without_place, count-same, count-more, count-less, count-none, count-some, without-none, counts, counts-is, counts-apart, counts-old, counts-not, counting-at, counting-dropped, counting-here, counting-other}
 use Rattle.checker_ready.proofs.StampLaws.{row_of, changed-here, changed-other, page-stamped, page-noted, page-limited, page-unlimited, page-current, page-settled, page-lowered}
+
+-- what a note says under these stamps
+abbrev noted_under : (ℕ → ℕ → Option Stamp) → Option Kept → Option ReadyPage
+noted_under stamps = option_and_then (λ (kept : Kept). ready_page kept (stamps kept.koid.0 kept.page))
 
 -- ---- one stamp changes
 

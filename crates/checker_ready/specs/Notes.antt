@@ -31,16 +31,13 @@ ready_page kept (Some stamp) =
     if nat_lt kept.made stamp.since then None
     else Some (record { koid = kept.koid; page = kept.page; frame = stamp.frame; readiness = if nat_lt kept.made stamp.shared then Read else kept.readiness })
 
-abbrev pub noted_under : (ℕ → ℕ → Option Stamp) → Option Kept → Option ReadyPage
-noted_under stamps None = None
-noted_under stamps (Some kept) = ready_page kept (stamps kept.koid.0 kept.page)
-
 -- what is noted of each page of each address space that is ready for an access
 abbrev pub ReadyRows : Type 0
 ReadyRows = ℕ → ℕ → Option ReadyPage
 
+-- what the notes say under their stamps
 abbrev pub rows_of : Notes → ReadyRows
-rows_of m root p = noted_under (values_of m.stamps) (values_of m.places root p)
+rows_of m root p = option_and_then (λ kept. ready_page kept (values_of m.stamps kept.koid.0 kept.page)) (values_of m.places root p)
 
 -- the stamp of a page that has this frame, with one note more than the one that it has
 abbrev pub stamp_for : Option Stamp → Option Tag → (time : ℕ) → Stamp
@@ -100,14 +97,10 @@ IsReadySomewhere rows v p = (root : ℕ) × (at : ℕ) × (row : ReadyPage) × (
 abbrev pub counting : (ℕ → ℕ → Option Kept) → (v p since : ℕ) → ℕ → ℕ → Bool
 counting places v p since r q = passes (λ kept. (kept.koid.0 == v) && (kept.page == p) && not (nat_lt kept.made since)) (places r q)
 
--- the places without one
-abbrev pub without_place : (ℕ → ℕ → Bool) → (r q : ℕ) → ℕ → ℕ → Bool
-without_place among r q a b = among a b && not ((a == r) && (b == q))
-
--- there are this many places
+-- there are this many places: none, or one, and without it one less
 abbrev pub HasCount : (ℕ → ℕ → Bool) → ℕ → Type 0
 HasCount among zero = (r q : ℕ) → among r q ≡ false
-HasCount among (suc n) = (r : ℕ) × (q : ℕ) × (among r q ≡ true) × HasCount (without_place among r q) n
+HasCount among (suc n) = (r : ℕ) × (q : ℕ) × (among r q ≡ true) × HasCount (λ a b. among a b && not ((a == r) && (b == q))) n
 
 -- The times of a stamp are none later than this one. It has the number of the notes that count under it, one at least.
 pub record IsStamp (places : ℕ → ℕ → Option Kept) (time v p : ℕ) (stamp : Stamp) : Type 0 where
