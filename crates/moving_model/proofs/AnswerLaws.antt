@@ -12,24 +12,22 @@ use Rattle.vm_base.specs.declared.refusal.Refusal.{Refusal}
 use Rattle.vm_base.specs.declared.refusal.Refusal.TheVariants.{HostMemory}
 use Rattle.vm_base.proofs.EntryLaws.{some_same, none_is}
 use Rattle.vm_model.specs.declared.command.Command.{Command}
-use Rattle.vm_model.specs.declared.command.Command.TheVariants.{VmoCreate, VmoChild, VmoClose, VmoSize, VmoSetSize, VmoRead, VmoWrite, VmoFill, VmoCommit, VmoDecommit, VmoZero, VmoPin, VmoUnpin, VmoInfo, RootCreate, VmarAllocate, VmarMap, VmarUnmap, VmarProtect, VmarDestroy, Maps, MemRead, MemWrite, Stat}
+use Rattle.vm_model.specs.declared.command.Command.TheVariants.{VmoCreate, VmoChild, VmoClose, VmoSetSize, VmoWrite, VmoFill, VmoCommit, VmoDecommit, VmoZero, VmoPin, VmoUnpin, RootCreate, VmarAllocate, VmarMap, VmarUnmap, VmarProtect, VmarDestroy, MemRead, MemWrite}
 use Rattle.vm_model.specs.declared.reply.Reply.{Reply}
-use Rattle.vm_model.specs.declared.reply.Reply.TheVariants.{Done, Number, Bytes, Access, Faults, Info as InfoReply, Runs as RunsReply, Stat as StatReply, Refused}
+use Rattle.vm_model.specs.declared.reply.Reply.TheVariants.{Done, Access, Faults, Refused}
 use Rattle.vm_model.specs.declared.space.Entry.{Entry}
 use Rattle.vm_model.specs.declared.space.Readiness.{Readiness}
 use Rattle.vm_model.specs.declared.space.Readiness.TheVariants.{Read, Write}
 use Rattle.vm_model.specs.Contents.Content.{Page, Content, shown, is_held, pages_of, sole, hold, IsGood}
 use Rattle.vm_model.specs.Contents.Owning.{Owns, OwnsEach, pages_at}
-use Rattle.vm_model.specs.Contents.Writing.{touched, bytes_in, Piece, piece, pieces, WritesPiece, Writes}
+use Rattle.vm_model.specs.Contents.Writing.{touched, Piece, piece, pieces, WritesPiece, Writes}
 use Rattle.vm_model.specs.Contents.Zeroing.{zeroed, resized, Zeroes}
 use Rattle.vm_model.specs.Naming.Pins.{is_pinned}
-use Rattle.vm_model.specs.Space.Regions.{region_of}
 use Rattle.vm_model.specs.Space.Readiness.{is_writable, settled, with_ready}
 use Rattle.vm_model.specs.Space.AddressSpaces.{without_region}
-use Rattle.vm_model.specs.Space.Mappings.{unmapped, runs_of}
-use Rattle.vm_model.specs.Machine.State.{State, target_of, koid_of, size_of, place_of}
+use Rattle.vm_model.specs.Space.Mappings.{unmapped}
+use Rattle.vm_model.specs.Machine.State.{State, koid_of, place_of}
 use Rattle.vm_model.specs.Machine.Leaving.{pruned}
-use Rattle.vm_model.specs.Machine.Attribution.{info_at, stat_of}
 use Rattle.vm_model.specs.Machine.Access.{Memory, bytes_through, read_faults, after_reading, piece_through, write_fault, WritesThrough}
 use Rattle.vm_model.specs.Machine.Refusals.{refusals, first_of}
 use Rattle.vm_model.specs.Machine.Machine.{Machine, memory_of, IsGoodMachine}
@@ -210,14 +208,6 @@ effect_exists old (VmoZero name offset len) good none never =
       record { state = s; ready = ready_after old (VmoZero name offset len) Done s },
       ((refl, refl, zeroes_none s.content v (is_pinned s.pins v) at len (touched at len) (none_passes (is_held s.content v) (touched at len) never)), refl),
     )
-effect_exists old (VmoRead name offset len) good none never =
-    (Bytes (bytes_in old.state.content (koid_of old.state name.0) (place_of old.state name.0 offset) len), record { state = old.state; ready = ready_after old (VmoRead name offset len) Done old.state }, ((refl, refl), refl))
-effect_exists old (VmoSize name) good none never = (Number (size_of old.state name.0), record { state = old.state; ready = ready_after old (VmoSize name) Done old.state }, ((refl, refl), refl))
-effect_exists old (VmoInfo name) good none never = (InfoReply (info_at old.state (target_of old.state name.0)), record { state = old.state; ready = ready_after old (VmoInfo name) Done old.state }, ((refl, refl), refl))
-effect_exists old (Maps region) good none never =
-    let above = region_of old.state.spaces.regions region.0 in
-    (RunsReply (runs_of (old.state.spaces.table above.root.0) above.count above.first), record { state = old.state; ready = ready_after old (Maps region) Done old.state }, ((refl, refl), refl))
-effect_exists old Stat good none never = (StatReply (stat_of old.state.content), record { state = old.state; ready = ready_after old Stat Done old.state }, ((refl, refl), refl))
 effect_exists old (MemRead region addr len) good none never = (
   Access (read_faults (old.ready region.0) (touched addr len)) (bytes_through old.state.content (old.state.spaces.table region.0) addr len),
   record old { ready = after_reading region.0 (touched addr len) old.ready },
@@ -230,6 +220,8 @@ effect_exists old (MemWrite region addr bytes) good none never =
     (none_fails (λ p. is_writable (old.ready region.0 p)) ps never) in
     let made = through_alone s.spaces.table region.0 addr bytes ps (memory_of old) good.state.content (touched-from addr (length bytes)) shows in
     (Faults made.0, record { state = record s { content = made.1.content }; ready = made.1.ready }, (made.0, refl, refl, made.2))
+-- a command that only asks
+effect_exists old command good none never = (_, record { state = old.state; ready = ready_after old command Done old.state }, ((refl, refl), refl))
 
 -- Each command has a reply in a good machine.
 pub has_reply : (old : Machine) (command : Command) → IsGoodMachine old → (reply : Reply) × (new : Machine) × MachineStep old command reply new

@@ -155,72 +155,39 @@ by_word_fine (row ∷ rows) word ws all = let rest = by_word_fine rows word ws a
   go true rest = all.0
   go false rest = rest
 
+-- what is read after one word, and after the others
+infixr 30 ◌&◌
+◌&◌ : {A B : Type 0} → A → B → A × B
+a & b = (a, b)
+
 command_fine : (word : List ℕ) (ws : List (List ℕ)) → Fine (command word ws)
 unfolding command
 command_fine word ws = by_word_fine commands word ws (
-  vmo_create_fine ws,
-  (
-    vmo_create_child_fine ws,
-    (
-      of_vmo_fine VmoClose (λ name. tt) ws,
-      (
-        of_vmo_fine VmoSize (λ name. tt) ws,
-        (
-          vmo_set_size_fine ws,
-          (
-            of_vmo_range_fine VmoRead (λ name offset len. tt) ws,
-            (
-              vmo_write_fine ws,
-              (
-                vmo_fill_fine ws,
-                (
-                  of_vmo_range_fine VmoCommit (λ name offset len. tt) ws,
-                  (
-                    of_vmo_range_fine VmoDecommit (λ name offset len. tt) ws,
-                    (
-                      of_vmo_range_fine VmoZero (λ name offset len. tt) ws,
-                      (
-                        vmo_pin_fine ws,
-                        (
-                          vmo_unpin_fine ws,
-                          (
-                            of_vmo_fine VmoInfo (λ name. tt) ws,
-                            (
-                              of_region_fine RootCreate (λ name h. h) ws,
-                              (
-                                vmar_allocate_fine ws,
-                                (
-                                  vmar_map_fine ws,
-                                  (
-                                    of_region_range_fine VmarUnmap (λ name addr len. tt) ws,
-                                    (
-                                      vmar_protect_fine ws,
-                                      (
-                                        of_region_fine VmarDestroy (λ name h. tt) ws,
-                                        (
-                                          of_region_fine Maps (λ name h. tt) ws,
-                                          (of_region_range_fine MemRead (λ name addr len. tt) ws, (mem_write_fine ws, (stat_fine ws, tt))),
-                                        ),
-                                      ),
-                                    ),
-                                  ),
-                                ),
-                              ),
-                            ),
-                          ),
-                        ),
-                      ),
-                    ),
-                  ),
-                ),
-              ),
-            ),
-          ),
-        ),
-      ),
-    ),
-  ),
-)
+    vmo_create_fine ws
+    & vmo_create_child_fine ws
+    & of_vmo_fine VmoClose (λ name. tt) ws
+    & of_vmo_fine VmoSize (λ name. tt) ws
+    & vmo_set_size_fine ws
+    & of_vmo_range_fine VmoRead (λ name offset len. tt) ws
+    & vmo_write_fine ws
+    & vmo_fill_fine ws
+    & of_vmo_range_fine VmoCommit (λ name offset len. tt) ws
+    & of_vmo_range_fine VmoDecommit (λ name offset len. tt) ws
+    & of_vmo_range_fine VmoZero (λ name offset len. tt) ws
+    & vmo_pin_fine ws
+    & vmo_unpin_fine ws
+    & of_vmo_fine VmoInfo (λ name. tt) ws
+    & of_region_fine RootCreate (λ name h. h) ws
+    & vmar_allocate_fine ws
+    & vmar_map_fine ws
+    & of_region_range_fine VmarUnmap (λ name addr len. tt) ws
+    & vmar_protect_fine ws
+    & of_region_fine VmarDestroy (λ name h. tt) ws
+    & of_region_fine Maps (λ name h. tt) ws
+    & of_region_range_fine MemRead (λ name addr len. tt) ws
+    & mem_write_fine ws
+    & stat_fine ws
+    & tt)
 
 order_same : {c d : Command} → Order c ≡ Order d → c ≡ d
 order_same e = cc
