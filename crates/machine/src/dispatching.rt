@@ -6,15 +6,17 @@ ghost use Rattle.mapping_set.specs.Tables.{table_of};
 ghost use Rattle.vm_base.specs.declared.limits.TheConstants.{DATA_BYTES, KOIDS, PIN_PAGES};
 ghost use Rattle.vm_model.specs.Machine.Lent.{command_of, reply_for};
 ghost use Rattle.vm_model.specs.Machine.Given.{GivesName};
+ghost use Rattle.vm_model.specs.Machine.State.{State};
+ghost use Rattle.vm_model.specs.Machine.Step.{Step};
 ghost use Rattle.vm_model.specs.Machine.MachineStep.{MachineStep};
 ghost use Rattle.mapping_set.specs.Backed.{AreBacked};
 ghost use Rattle.ready_pages.specs.declared.change.Change.{Change};
-ghost use Rattle.machine.specs.inside.Fields.{IsCounted, parts_of};
+ghost use Rattle.machine.specs.inside.Changes.{change_after};
+ghost use Rattle.machine.specs.inside.Fields.{parts_of};
 ghost use Rattle.machine.specs.inside.Steps.{Handles, IsSoundState, Misses};
 ghost use Rattle.machine.specs.Machine.{machine_of_parts, IsAtPlace};
 ghost use Rattle.machine.specs.Groups.{group_of};
 ghost use Rattle.machine.specs.declared.groups.Group.{Group};
-ghost use Rattle.machine.specs.declared.tables.Tables.{Tables};
 
 use crate::accessing::{mem_read, mem_write};
 use crate::asking::{vmo_info, vmo_read, vmo_size};
@@ -37,7 +39,7 @@ use vmo_ops::{ChildShape, NameRange};
 /// may have changed of the pages that are ready. If an address is told, a place that the command leaves open is there. `None`,
 /// with nothing changed, if nothing refuses the command, but it can't be there.
 #[inline(always)]
-pub(crate) fn perform<'a, P: Pages>(
+pub(crate) fn on_tables<'a, P: Pages>(
     pages: &mut P,
     tables: &mut Tables,
     call: &Call<'_>,
@@ -227,8 +229,10 @@ pub(crate) fn on_region<P: Pages>(
 /// Answers a question about the whole machine.
 pub(crate) fn on_machine<P: Pages>(pages: &P, call: &Call<'_>) -> Answer<'static>
     requires { group_of call.now ≡ Group.Machine }
-    ensures { (t : Tables) → IsCounted t → Handles (P.content pages.now) t (command_of call.now) (reply_for result) Change.None
-        (P.content pages.now) t }
+    ensures step { (s : State) → Step (record s { content = P.content pages.now }) (command_of call.now) (reply_for result)
+        (record s { content = P.content pages.now }) }
+    ensures change { (s : State) → Change.None ≡ change_after s (command_of call.now) (reply_for result) }
+    ensures name { GivesName (command_of call.now) }
 {
     match call {
         Call::Stat => Answer::Stat(stat(pages)),

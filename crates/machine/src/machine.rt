@@ -1,14 +1,16 @@
 //! The machine, and its answers.
 
-ghost use Rattle.std.specs.Prelude.{◌≡◌, ◌+◌, ◌<◌, ◌≤◌, length, ⊤, MatchOption};
+ghost use Rattle.std.specs.Prelude.{◌≡◌, ◌≢◌, ◌+◌, ◌<◌, ◌≤◌, length, ⊤, MatchOption};
 ghost use Rattle.vm_base.specs.declared.limits.TheConstants.{DATA_BYTES, KOIDS, PIN_PAGES};
 ghost use Rattle.vm_model.specs.Machine.Lent.{command_of, reply_for};
 ghost use Rattle.vm_model.specs.Machine.MachineStep.{MachineStep};
 ghost use Rattle.mapping_set.specs.Tables.{places_of};
 ghost use Rattle.region_tree.specs.Tree.{regions_of, AreNoted};
 ghost use Rattle.machine.specs.Machine.{machine_of_parts, IsAtPlace, IsSoundMachine, LacksPlace};
+ghost use Rattle.machine.specs.Groups.{group_of};
+ghost use Rattle.machine.specs.declared.groups.Group.{Group};
 
-use crate::dispatching::{on_machine, on_memory, perform};
+use crate::dispatching::{on_machine, on_memory, on_tables};
 use crate::groups::{Group, group_of};
 use crate::tables::Tables;
 use mapping_set::MappingSet;
@@ -130,8 +132,7 @@ impl<R: ReadyNotes> Machine<R> {
     }
 
     /// Does one command as `answer` does. If an address is told, a region or a mapping for which the command leaves the place
-    /// open is put there. `None`, with nothing changed, if nothing refuses the command, but it can't be there. What a command
-    /// made untrue of what is ready is taken back once it is done.
+    /// open is put there. `None`, with nothing changed, if nothing refuses the command, but it can't be there.
     #[inline(always)]
     pub fn answer_told<'a, P: Pages>(
         &mut self,
@@ -160,13 +161,45 @@ impl<R: ReadyNotes> Machine<R> {
         match group_of(call) {
             Group::Memory => Some(on_memory(pages, &self.tables, &mut self.ready, call, bytes)),
             Group::Machine => Some(on_machine(pages, call)),
-            _ => match perform(pages, &mut self.tables, call, told, bytes, numbers) {
-                Some((answer, change)) => {
-                    self.ready.apply(pages, &self.tables.pins, change);
-                    Some(answer)
-                }
-                None => None,
-            },
+            _ => self.perform(pages, call, told, bytes, numbers),
+        }
+    }
+
+    // Does a command that is no access and no question about the whole machine, and takes back what it made untrue of what is
+    // ready.
+    #[inline(always)]
+    fn perform<'a, P: Pages>(
+        &mut self,
+        pages: &mut P,
+        call: &Call<'_>,
+        told: Option<u64>,
+        bytes: &'a mut [u8],
+        numbers: &'a mut [u64],
+    ) -> Option<Answer<'a>>
+    where
+        R: ReadyPages<P>,
+        requires memory { group_of call.now ≢ Group.Memory }
+        requires machine { group_of call.now ≢ Group.Machine }
+        requires sound { IsSoundMachine R.ready R.AreTrue (P.content pages.old) self.old }
+        requires next { (P.content pages.old).next < KOIDS }
+        requires bytes { DATA_BYTES ≤ length bytes.old }
+        requires numbers { PIN_PAGES ≤ length numbers.old }
+        ensures step { MatchOption result
+            (LacksPlace (machine_of_parts R.ready (P.content pages.old) self.old) (command_of call.now) told
+            (machine_of_parts R.ready (P.content pages.new) self.new))
+            (λ answer. MachineStep (machine_of_parts R.ready (P.content pages.old) self.old) (command_of call.now) (reply_for answer)
+            (machine_of_parts R.ready (P.content pages.new) self.new)) }
+        ensures place { MatchOption result ⊤ (λ answer. IsAtPlace (command_of call.now) told (reply_for answer)) }
+        ensures sound { IsSoundMachine R.ready R.AreTrue (P.content pages.new) self.new }
+        ensures next { (P.content pages.new).next ≤ (P.content pages.old).next + 1 }
+        ensures frames { (P.content pages.new).frames ≡ (P.content pages.old).frames }
+    {
+        match on_tables(pages, &mut self.tables, call, told, bytes, numbers) {
+            Some((answer, change)) => {
+                self.ready.apply(pages, &self.tables.pins, change);
+                Some(answer)
+            }
+            None => None,
         }
     }
 }

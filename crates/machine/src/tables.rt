@@ -15,6 +15,6 @@ pub(crate) struct Tables {
     /// The pins. Each is counted in `vmos` as a keeper of its VMO.
     pub(crate) pins: PinTable,
     pub(crate) regions: Regions,
-    /// What each page shows. The live children of each region are noted here.
+    /// The mappings, beside which the live children of each region are noted.
     pub(crate) maps: MappingSet,
 }
