@@ -15,11 +15,11 @@ pub use Rattle.std.specs.List.{All, AllByRecursion, cons_option, Contains, filte
 unfoldable pub use Rattle.std.specs.List.{IsDistinct}
 pub use Rattle.std.specs.Option.{option_map, option_or}
 pub use Rattle.std.specs.Prelude.{eqb, filter, IsOk, MatchOption, nat_le, nat_lt, unwrap_or}
-pub use Rattle.vm_base.proofs.EntryLaws.{first_key, entry_count_hit, none_is, some_is, some_same, with_key-cases, with_key-here, with_key-other}
-pub use Rattle.vm_base.proofs.EntryLaws.{with_key-same, without_key-other, without_key-same, without_key-some}
-pub use Rattle.vm_base.proofs.SearchLaws.{first-below, first-past, any_below_at, any_below_found, bit-false, bit-true, bit_le, count_below_change, count_below_hit}
-pub use Rattle.vm_base.proofs.SearchLaws.{count_below_le, count_below_less, count_below_none, count_below_one_more, count_below_same}
-pub use Rattle.vm_base.proofs.SearchLaws.{eqb_apart, eqb_is, eqb_same}
+pub use Rattle.vm_base.proofs.EntryLaws.{entry_count_hit, first_key, none_is, some_is, some_same, with_key-cases, with_key-here}
+pub use Rattle.vm_base.proofs.EntryLaws.{with_key-other, with_key-same, without_key-other, without_key-same, without_key-some}
+pub use Rattle.vm_base.proofs.SearchLaws.{any_below_at, any_below_found, bit-false, bit_le, bit-true, count_below_change}
+pub use Rattle.vm_base.proofs.SearchLaws.{count_below_hit, count_below_le, count_below_less, count_below_none, count_below_one_more}
+pub use Rattle.vm_base.proofs.SearchLaws.{count_below_same, eqb_apart, eqb_is, eqb_same, first-below, first-past}
 unfoldable pub use Rattle.vm_base.specs.Entries.{with_key, without_key}
 pub use Rattle.vm_base.specs.Search.{count_below, HasNone, IsFirst, IsFirstOrNone}
 pub use Rattle.vm_base.specs.declared.names.Koid.{Koid}
@@ -36,7 +36,7 @@ unfoldable pub use Rattle.vm_model.specs.Contents.Sharing.{only, page_seen, snap
 unfoldable pub use Rattle.vm_model.specs.Contents.Zeroing.{resized, zeroed}
 pub use Rattle.slab.proofs.SlabLemmas.{Contains-cons_cases}
 pub use Rattle.balanced_tree.proofs.PairLaws.{value-found, value-past, value-seen, values-none}
-pub use Rattle.balanced_tree.specs.Pairs.{IsNext, pair_rank}
+pub use Rattle.balanced_tree.specs.Pairs.{pair_rank}
 unfoldable pub use Rattle.balanced_tree.specs.Pairs.{value_at}
 pub use Rattle.balanced_tree.specs.Rows.{IsRising, RisesWithin, row_at, Rows}
 pub use Rattle.page_list.proofs.SlotLaws.{row_pairs}

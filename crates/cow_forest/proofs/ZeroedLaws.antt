@@ -85,7 +85,8 @@ module _ (f : Forest) (s : IsStore f) (v : ℕ) (at : NodeId) (is : node_in f.no
     content-ranged zero = same_content _ _ z.frames refl (λ w. refl) (λ w q. elim (cases_zeroed v first end w q) [
       | inl inside ↦
           ap (λ u. (forest_content (with_rows f rows pool)).page u q) inside.0
-          ∙ (page-of (with_rows f rows pool) store-ranged v at.0 q (node-kept f rows pool v at.0 h) ∙ ap (page_showing pool) (none_is (frame_shown (tree_of f.arena rows) at.0 q) (zero q inside.1 inside.2)))
+          ∙ (page-of (with_rows f rows pool) store-ranged v at.0 q (node-kept f rows pool v at.0 h)
+          ∙ ap (page_showing pool) (none_is (frame_shown (tree_of f.arena rows) at.0 q) (zero q inside.1 inside.2)))
           ∙ sym (page-zeroed_in (forest_content f) v first end w q inside.0 inside.1 inside.2)
       | inr out ↦ outside w q out ∙ sym (page-zeroed_out (forest_content f) v first end w q out)
     ])

@@ -5,9 +5,9 @@ pub use Rattle.std.proofs.lemmas.Bool.{and_from, and_parts, both_ways, cases_Boo
 pub use Rattle.std.proofs.lemmas.Bool.{false_from_ne_true, le-leb, leb-true, lt-ltb, ltb-true, not-false, not-true}
 pub use Rattle.std.specs.Option.{option_map}
 pub use Rattle.std.specs.Prelude.{◌&&◌, ◌==◌, IsSomeAnd, nat_le, nat_lt, not, ◌||◌}
-pub use Rattle.vm_base.proofs.EntryLaws.{first_key, none_is, some_is, some_same, with_key-cases, with_key-here, with_key-other, with_key-same}
-pub use Rattle.vm_base.proofs.EntryLaws.{without_key-other, without_key-same}
-pub use Rattle.vm_base.proofs.SearchLaws.{first-below, first-past, bit-false, bit-true, count_below_change, eqb_apart, eqb_same}
+pub use Rattle.vm_base.proofs.EntryLaws.{first_key, none_is, some_is, some_same, with_key-cases, with_key-here, with_key-other}
+pub use Rattle.vm_base.proofs.EntryLaws.{with_key-same, without_key-other, without_key-same}
+pub use Rattle.vm_base.proofs.SearchLaws.{bit-false, bit-true, count_below_change, eqb_apart, eqb_same, first-below, first-past}
 pub use Rattle.vm_base.specs.Entries.{with_key, without_key}
 pub use Rattle.vm_base.specs.Search.{HasNone}
 pub use Rattle.vm_base.specs.declared.names.Koid.{Koid}

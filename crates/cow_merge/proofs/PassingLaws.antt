@@ -2,7 +2,8 @@
 -- another.
 use Rattle.cow_merge.proofs.Words.{◌≡◌, ◌≢◌, ◌⊎◌, ℕ, ◌+◌, ◌-◌, ◌<◌, ◌≤◌, min, zero, suc, Bool, true, false, Option, None, Some, inl, inr}
 use Rattle.cow_merge.proofs.Words.{IsSome, IsSomeAnd, refl, sym, ap, subst, ◌∙◌, arith, ◌&&◌, ◌||◌, ◌==◌, nat_le, nat_lt, is_some, IfSome}
-use Rattle.cow_merge.proofs.Words.{IfNone, cases_Bool, cases_eq, cases_lt, and_from, le-leb, lt-ltb, Rows, HasNone, IsFirst, IsFirstOrNone, has_row, none_is, Tag, some_same, eqb_same}
+use Rattle.cow_merge.proofs.Words.{IfNone, cases_Bool, cases_eq, cases_lt, and_from, le-leb, lt-ltb, Rows, Tag, none_is, some_same, eqb_same}
+use Rattle.cow_merge.proofs.Words.{HasNone, IsFirst, IsFirstOrNone, has_row}
 use Rattle.cow_merge.proofs.Words.{Row, Slot, slots_of, Pool, is_taken, Node, NodeId, Side, Arena, Nodes, nodes_of, IsVisible, link_to}
 use Rattle.cow_merge.proofs.Words.{Slots, Tree, tree_with, Found, walk, frame_in, frame_found, frame_shown, from_side, IsForest, Climbs}
 use Rattle.cow_merge.proofs.Words.{Arrives, IsPartOf, tree_of, nodes_up, IsPage, Sees, IsExact, IsOnlyOf, all_in_sight, Pages}

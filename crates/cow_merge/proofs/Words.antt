@@ -6,9 +6,9 @@ pub use Rattle.std.proofs.lemmas.Bool.{cond-true, eq-eqb, eqb-true, false_from_n
 pub use Rattle.std.proofs.lemmas.Bool.{or_left, or_parts, or_right}
 pub use Rattle.std.specs.Option.{option_map}
 pub use Rattle.std.specs.Prelude.{cond, IfNone, IfSome, is_none, is_some, nat_le, nat_lt, ◌||◌}
-pub use Rattle.vm_base.proofs.EntryLaws.{first_key, none_is, some_is, some_same, with_key-cases, with_key-here, with_key-other, with_key-same}
-pub use Rattle.vm_base.proofs.EntryLaws.{without_key-other, without_key-same, without_key-some}
-pub use Rattle.vm_base.proofs.SearchLaws.{first-below, first-past, eqb_apart, eqb_is, eqb_same}
+pub use Rattle.vm_base.proofs.EntryLaws.{first_key, none_is, some_is, some_same, with_key-cases, with_key-here, with_key-other}
+pub use Rattle.vm_base.proofs.EntryLaws.{with_key-same, without_key-other, without_key-same, without_key-some}
+pub use Rattle.vm_base.proofs.SearchLaws.{eqb_apart, eqb_is, eqb_same, first-below, first-past}
 pub use Rattle.vm_base.specs.Entries.{with_key, without_key}
 unfoldable pub use Rattle.vm_base.specs.Entries.{passes}
 pub use Rattle.vm_base.specs.Search.{HasNone, IsFirst, IsFirstOrNone}
