@@ -51,13 +51,11 @@ module _ (m : Notes) (v p : ℕ) (o : Option Stamp) (new : ℕ → ℕ → Optio
     ]
 
 module _ (m : Notes) (v p : ℕ) (stamps : PairMap Stamp) where
-  -- the stamp goes, or there was none
-  pub rows-settled : values_of stamps ≡ with_pair (values_of m.stamps) v p None → (c : Content) → ((s : Stamp) → values_of m.stamps v p ≡ Some s → has_frame c v p s.frame ≡ false)
+  -- the stamp goes, since it has another frame
+  pub rows-settled : (c : Content) (s : Stamp) → values_of m.stamps v p ≡ Some s → has_frame c v p s.frame ≡ false → values_of stamps ≡ with_pair (values_of m.stamps) v p None
       → rows_of (record m { stamps = stamps }) ≡ changed_rows (row_if_current c) v p (p + 1) (rows_of m)
-  rows-settled values c other = λ i r q. row-changed m v p None (values_of stamps) values (row_if_current c) (λ k r q e koid page. go k koid page (values_of m.stamps v p) other) r q i where
-    go : (k : Kept) → k.koid.0 ≡ v → k.page ≡ p → (o : Option Stamp) → ((s : Stamp) → o ≡ Some s → has_frame c v p s.frame ≡ false) → None ≡ option_and_then (row_if_current c) (ready_page k o)
-    go k koid page None gone = refl
-    go k koid page (Some s) gone = page-settled c k s ((λ i. has_frame c (koid i) (page i) s.frame) ∙ gone s refl)
+  rows-settled c s found other values = λ i r q. row-changed m v p None (values_of stamps) values (row_if_current c)
+      (λ k r q e koid page. rw found (page-settled c k s ((λ i. has_frame c (koid i) (page i) s.frame) ∙ other))) r q i
 
   -- the page is for reading alone from now on
   pub rows-limited : AreNotes m → (s : Stamp) → values_of m.stamps v p ≡ Some s → values_of stamps ≡ with_pair (values_of m.stamps) v p (Some (record s { shared = m.time }))
@@ -70,12 +68,10 @@ module _ (m : Notes) (v p : ℕ) where
   same-stamps : values_of m.stamps ≡ with_pair (values_of m.stamps) v p (values_of m.stamps v p)
   same-stamps = pair-same (values_of m.stamps) v p (values_of m.stamps v p) refl
 
-  -- the page stays, or there is no stamp
-  pub rows-unlimited : (stays : Bool) → (values_of m.stamps v p ≡ None) ⊎ (stays ≡ true) → rows_of m ≡ changed_rows (row_limited (λ q. stays)) v p (p + 1) (rows_of m)
-  rows-unlimited stays none = λ i r q. row-changed m v p (values_of m.stamps v p) (values_of m.stamps) same-stamps (row_limited (λ q. stays)) (λ k r q e koid page. elim none [
-    | inl bare ↦ rw bare refl
-    | inr is ↦ rw is (page-unlimited k (values_of m.stamps v p))
-  ]) r q i
+  -- the page stays
+  pub rows-unlimited : (stays : Bool) → stays ≡ true → rows_of m ≡ changed_rows (row_limited (λ q. stays)) v p (p + 1) (rows_of m)
+  rows-unlimited stays is = λ i r q. row-changed m v p (values_of m.stamps v p) (values_of m.stamps) same-stamps (row_limited (λ q. stays))
+      (λ k r q e koid page. rw is (page-unlimited k (values_of m.stamps v p))) r q i
 
   -- the stamp has the frame
   pub rows-current : (c : Content) (s : Stamp) → values_of m.stamps v p ≡ Some s → has_frame c v p s.frame ≡ true → rows_of m ≡ changed_rows (row_if_current c) v p (p + 1) (rows_of m)

@@ -118,6 +118,7 @@ pub record AreNotes (m : Notes) : Type 0 where
   pub stamps_room : m.room ≤ m.stamps.spare
   pub times : m.time + m.room < 2 ^ 64
 
+-- the notes that the fields are
 abbrev pub notes_of : Inside → Notes
 notes_of a = record { places = a.places; stamps = a.stamps; time = a.time; room = a.room }
 

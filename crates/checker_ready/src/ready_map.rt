@@ -142,9 +142,9 @@ impl ReadyMap {
         ensures spare { self.new.room ≡ self.old.room }
     {
         let mut from = first;
-        while let Some(page) = self.next_before(koid, from, end) {
-            self.restrict_page(koid, page, pins.pinned(koid, page, 1));
-            from = page + 1;
+        while let Some(next) = self.next_before(koid, from, end) {
+            self.restrict_page(koid, next.0, next.1, pins.pinned(koid, next.0, 1));
+            from = next.0 + 1;
         }
     }
 
@@ -157,9 +157,9 @@ impl ReadyMap {
         ensures spare { self.new.room ≡ self.old.room }
     {
         let mut from = first;
-        while let Some(page) = self.next_before(koid, from, end) {
-            self.settle_page(pages, koid, page);
-            from = page + 1;
+        while let Some(next) = self.next_before(koid, from, end) {
+            self.settle_page(pages, koid, next.0, next.1);
+            from = next.0 + 1;
         }
     }
 
@@ -216,42 +216,38 @@ impl ReadyMap {
         self.room -= 1;
     }
 
-    // The first page of a VMO that has a stamp, from page `from` to below `end`.
-    fn next_before(&self, koid: Koid, from: PageNo, end: PageNo) -> Option<PageNo>
-        ensures some { IfSome result (λ page. (from ≤ page) × (page < end) × HasNoRow (rows_of self.now) koid.0 from page) }
-        ensures stamp { IfSome result (λ page. IsSome (values_of self.now.stamps koid.0 page)) }
+    // The first page of a VMO that has a stamp, from page `from` to below `end`, and the stamp.
+    fn next_before(&self, koid: Koid, from: PageNo, end: PageNo) -> Option<(PageNo, Stamp)>
+        ensures some { IfSome result (λ next. (from ≤ next.0) × (next.0 < end) × HasNoRow (rows_of self.now) koid.0 from next.0) }
+        ensures stamp { IfSome result (λ next. values_of self.now.stamps koid.0 next.0 ≡ Some next.1) }
         ensures none { IfNone result (HasNoRow (rows_of self.now) koid.0 from end) }
     {
         match self.stamps.next(koid.0, from) {
-            Some((page, _)) if page < end => Some(page),
+            Some(next) if next.0 < end => Some(next),
             _ => None,
         }
     }
 
     // Makes what shows a page of a VMO ready for nothing, if the page does not lie in the VMO or has another frame now than
     // was noted.
-    fn settle_page(&mut self, pages: &CheckerPages, koid: Koid, page: PageNo)
-        requires { IsSome ((eager_content pages.now).count koid.0) }
+    fn settle_page(&mut self, pages: &CheckerPages, koid: Koid, page: PageNo, stamp: Stamp)
+        requires vmo { IsSome ((eager_content pages.now).count koid.0) }
+        requires stamp { values_of self.old.stamps koid.0 page ≡ Some stamp }
         ensures rows { rows_of self.new
             ≡ changed_rows (row_if_current (eager_content pages.now)) koid.0 page (page + 1) (rows_of self.old) }
         ensures spare { self.new.room ≡ self.old.room }
     {
-        let Some(stamp) = self.stamps.find(koid.0, page) else {
-            return;
-        };
         if !has_frame(pages, koid, page, stamp.frame) {
             self.stamps.remove(koid.0, page);
         }
     }
 
     // Makes what shows a page of a VMO ready for reading at most, unless it stays.
-    fn restrict_page(&mut self, koid: Koid, page: PageNo, stays: bool)
+    fn restrict_page(&mut self, koid: Koid, page: PageNo, stamp: Stamp, stays: bool)
+        requires { values_of self.old.stamps koid.0 page ≡ Some stamp }
         ensures rows { rows_of self.new ≡ changed_rows (row_limited (λ q. stays)) koid.0 page (page + 1) (rows_of self.old) }
         ensures spare { self.new.room ≡ self.old.room }
     {
-        let Some(stamp) = self.stamps.find(koid.0, page) else {
-            return;
-        };
         if !stays {
             let shared = self.time;
             self.stamps.replace(koid.0, page, Stamp { shared, ..stamp });
