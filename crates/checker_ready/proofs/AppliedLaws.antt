@@ -8,8 +8,8 @@ use Rattle.vm_model.specs.Contents.Zeroing.{is_within}
 use Rattle.vm_model.specs.Naming.Pins.{Pin, is_pinned}
 use Rattle.vm_model.specs.Space.Readiness.{Ready, keeps_frame, settled, unready, read_only_but}
 use Rattle.ready_pages.specs.declared.change.Change.{Change}
-use Rattle.ready_pages.specs.Changes.{Entries, ChangesRange, Covers, left_ready}
-use Rattle.checker_ready.specs.Notes.{ReadyRows, ready_in, changed_rows, row_if_current, row_limited, without_range, FitsRows, NotesAreTrue}
+use Rattle.ready_pages.specs.Changes.{Entries, ChangesRange, AreReadyAt, Covers, left_ready}
+use Rattle.checker_ready.specs.Notes.{ReadyRows, ready_in, changed_rows, row_if_current, row_limited, without_range, FitsRows, NotesAreTrue, AreGoodNotes}
 use Rattle.checker_ready.proofs.SettledLaws.{rows_stay, rows_settled, rows_limited, row_outside, ready-dropped}
 
 -- it is the same whether pages of an address space are ready for nothing before or after what shows another frame is
@@ -56,7 +56,11 @@ module _ (c d : Content) (before after : Entries) (rows : ReadyRows) (are : Note
         notes = still.notes;
       }
 
-  -- what is left of the notes fits what the change leaves
-  pub rows_applied : (change : Change) → Covers change c d before after → (left : ReadyRows) → left ≡ rows_after d pins change rows
-      → FitsRows d after (left_ready change pins before (settled c d after (ready_in rows))) left
-  rows_applied change covers left is = rw is (rows_fit change covers)
+-- so it is where this is left of the rows
+module _ (d : Content) (pins : ℕ → Option Pin) (change : Change) (rows left : ReadyRows) (is : left ≡ rows_after d pins change rows) (c : Content) (before after : Entries)
+    (good : AreGoodNotes c before rows) (covers : Covers change c d before after) where
+  pub applied_ready : ready_in left ≡ left_ready change pins before (settled c d after (ready_in rows))
+  applied_ready = ap ready_in is ∙ (rows_fit c d before after rows good.true_rows pins change covers).are_ready
+
+  pub applied_notes : AreReadyAt d after (ready_in left) → AreGoodNotes d after left
+  applied_notes ready = record { true_rows = subst (NotesAreTrue d after) (sym is) (rows_fit c d before after rows good.true_rows pins change covers).notes; ready = ready }

@@ -24,7 +24,7 @@ use Rattle.checker_ready.specs.declared.stamps.Kept.{Kept}
 use Rattle.checker_ready.specs.declared.stamps.Stamp.{Stamp}
 use Rattle.checker_ready.specs.Notes.{Notes, ReadyRows, ready_page, rows_of, stamp_for, has_frame, is_row_in, changed_rows, row_if_current, row_limited, without_range, HasNoRow, IsReadySomewhere, IsStamp, AreNotes, lowered, counting, HasCount}
 use Rattle.checker_ready.proofs.CountLaws.{without_place, count-same, count-more, count-less, count-none, count-some, without-none, counts, counts-is, counts-apart, counts-old, counts-not, counting-at, counting-dropped, counting-here, counting-other}
-use Rattle.checker_ready.proofs.StampLaws.{row_of, changed-here, changed-other, page-stamped, page-noted, page-limited, page-unlimited, page-current, page-settled, page-lowered}
+use Rattle.checker_ready.proofs.StampLaws.{row_of, changed-here, changed-other, page-stamped, page-noted, page-limited, page-unlimited, page-settled, page-lowered}
 
 -- what a note says under these stamps
 abbrev noted_under : (ℕ → ℕ → Option Stamp) → Option Kept → Option ReadyPage
@@ -55,7 +55,7 @@ module _ (m : Notes) (v p : ℕ) (stamps : PairMap Stamp) where
   pub rows-settled : (c : Content) (s : Stamp) → values_of m.stamps v p ≡ Some s → has_frame c v p s.frame ≡ false → values_of stamps ≡ with_pair (values_of m.stamps) v p None
       → rows_of (record m { stamps = stamps }) ≡ changed_rows (row_if_current c) v p (p + 1) (rows_of m)
   rows-settled c s found other values = λ i r q. row-changed m v p None (values_of stamps) values (row_if_current c)
-      (λ k r q e koid page. rw found (page-settled c k s ((λ i. has_frame c (koid i) (page i) s.frame) ∙ other))) r q i
+      (λ k r q e koid page. rw found (page-settled c k s false ((λ i. has_frame c (koid i) (page i) s.frame) ∙ other))) r q i
 
   -- the page is for reading alone from now on
   pub rows-limited : AreNotes m → (s : Stamp) → values_of m.stamps v p ≡ Some s → values_of stamps ≡ with_pair (values_of m.stamps) v p (Some (record s { shared = m.time }))
@@ -76,7 +76,7 @@ module _ (m : Notes) (v p : ℕ) where
   -- the stamp has the frame
   pub rows-current : (c : Content) (s : Stamp) → values_of m.stamps v p ≡ Some s → has_frame c v p s.frame ≡ true → rows_of m ≡ changed_rows (row_if_current c) v p (p + 1) (rows_of m)
   rows-current c s found same = λ i r q. row-changed m v p (values_of m.stamps v p) (values_of m.stamps) same-stamps (row_if_current c)
-      (λ k r q e koid page. rw found (page-current c k s ((λ i. has_frame c (koid i) (page i) s.frame) ∙ same))) r q i
+      (λ k r q e koid page. rw found (page-settled c k s true ((λ i. has_frame c (koid i) (page i) s.frame) ∙ same))) r q i
 
 -- ---- the notes stay so
 

@@ -62,18 +62,14 @@ module _ (change : ReadyPage → Option ReadyPage) (v p : ℕ) (k : Kept) where
 
 -- ---- what a change of the stamp makes of the row of a note
 
--- the stamp has the frame that the page has now, or another
-pub page-current : (c : Content) (k : Kept) (s : Stamp) → has_frame c k.koid.0 k.page s.frame ≡ true → ready_page k (Some s) ≡ option_and_then (row_if_current c) (ready_page k (Some s))
-page-current c k s same = go (nat_lt k.made s.since) where
-  go : (past : Bool) → cond past None (Some (row_of k s)) ≡ option_and_then (row_if_current c) (cond past None (Some (row_of k s)))
-  go true = refl
-  go false = rw same refl
-
-pub page-settled : (c : Content) (k : Kept) (s : Stamp) → has_frame c k.koid.0 k.page s.frame ≡ false → None ≡ option_and_then (row_if_current c) (ready_page k (Some s))
-page-settled c k s other = go (nat_lt k.made s.since) where
-  go : (past : Bool) → None ≡ option_and_then (row_if_current c) (cond past None (Some (row_of k s)))
-  go true = refl
-  go false = rw other refl
+-- the stamp has the frame that the page has now, or it has not
+pub page-settled : (c : Content) (k : Kept) (s : Stamp) (b : Bool) → has_frame c k.koid.0 k.page s.frame ≡ b → cond b (ready_page k (Some s)) None ≡ option_and_then (row_if_current c) (ready_page k (Some s))
+page-settled c k s b has = go b (nat_lt k.made s.since) has where
+  go : (b past : Bool) → has_frame c k.koid.0 k.page s.frame ≡ b → cond b (cond past None (Some (row_of k s))) None ≡ option_and_then (row_if_current c) (cond past None (Some (row_of k s)))
+  go true true e = refl
+  go true false e = rw e refl
+  go false true e = refl
+  go false false e = rw e refl
 
 -- where the page has this frame, it has another one if the two are the same
 pub has_frame-alike : (c : Content) (v p : ℕ) (frame other : Option Tag) → has_frame c v p frame ≡ true → has_frame c v p other ≡ is_same_frame (frame_number other) (frame_number frame)
@@ -88,8 +84,8 @@ page-stamped c k frame time None before has = rw (lt-ltb k.made time before) ref
 page-stamped c k frame time (Some s) before has = go (is_same_frame (frame_number s.frame) (frame_number frame)) (has_frame-alike c k.koid.0 k.page frame s.frame has) where
   go : (alike : Bool) → has_frame c k.koid.0 k.page s.frame ≡ alike
       → ready_page k (Some (cond alike (record s { notes = s.notes + 1 }) (record { frame = frame; since = time; shared = time; notes = 1 }))) ≡ option_and_then (row_if_current c) (ready_page k (Some s))
-  go true same = page-current c k s same
-  go false other = rw (lt-ltb k.made time before) (page-settled c k s other)
+  go true same = page-settled c k s true same
+  go false other = rw (lt-ltb k.made time before) (page-settled c k s false other)
 
 -- the page is for reading alone from this time on, and the note is from before
 pub page-limited : (k : Kept) (time : ℕ) (s : Stamp) → k.made < time
