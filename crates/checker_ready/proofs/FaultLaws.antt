@@ -9,12 +9,12 @@ use Rattle.vm_model.specs.Space.Readiness.{Ready, is_writable}
 use Rattle.vm_model.specs.Machine.Access.{read_faults, write_fault}
 use Rattle.ready_pages.specs.Changes.{Entries}
 use Rattle.checker_ready.specs.declared.touching.TouchedPage.{TouchedPage}
-use Rattle.checker_ready.specs.inside.Pages.{AreFrom, IsTouched, is_unready, faults_in}
+use Rattle.checker_ready.specs.inside.Pages.{AreFrom, IsTouchedPage, is_unready, faults_in}
 use Rattle.checker_ready.proofs.AskLaws.{any_first, any_rest}
 
 module _ (c : Content) (table : Entries) (ready : Ready) (root : ℕ) where
   -- where an access takes a page fault, some page that it touches is not ready for it
-  pub faults_want : (wanted : Readiness) (p : ℕ) (pages : List TouchedPage) → AreFrom (IsTouched wanted c table ready root) p pages → 1 ≤ faults_in pages
+  pub faults_want : (wanted : Readiness) (p : ℕ) (pages : List TouchedPage) → AreFrom (IsTouchedPage wanted c table ready root) p pages → 1 ≤ faults_in pages
       → list_any (λ q. is_unready wanted (ready root q)) (range_with_len p (length pages)) ≡ true
   faults_want wanted p [] are some = absurd (omega (arith, some))
   faults_want wanted p (page ∷ pages) are some = go page.unready refl some (faults_want wanted (p + 1) pages are.1) where
@@ -26,7 +26,7 @@ module _ (c : Content) (table : Entries) (ready : Ready) (root : ℕ) where
         sym (any_rest (λ (q : ℕ). is_unready wanted (ready root q)) p (range_with_len (p + 1) (length pages)) (sym are.0.unready ∙ e)) ∙ rest (omega (arith, h))
 
   -- a read takes so many page faults
-  pub faults_to_read : (p : ℕ) (pages : List TouchedPage) → AreFrom (IsTouched Read c table ready root) p pages
+  pub faults_to_read : (p : ℕ) (pages : List TouchedPage) → AreFrom (IsTouchedPage Read c table ready root) p pages
       → faults_in pages ≡ read_faults (ready root) (range_with_len p (length pages))
   unfolding read_faults
   faults_to_read p [] are = refl

@@ -14,7 +14,7 @@ use Rattle.pair_map.specs.Maps.{with_pair}
 use Rattle.ready_pages.specs.Changes.{Entries, ChangesRange}
 use Rattle.checker_ready.specs.declared.touching.TouchedPage.{TouchedPage}
 use Rattle.checker_ready.specs.Notes.{ReadyRows, ready_in, has_frame, changed_rows, row_if_current, without_range, FitsRows, NotesAreTrue}
-use Rattle.checker_ready.specs.inside.Pages.{IsMappedInside, IsTouched}
+use Rattle.checker_ready.specs.inside.Pages.{IsMappedInside, IsTouchedPage}
 use Rattle.checker_ready.proofs.RowLaws.{row-cleared}
 use Rattle.checker_ready.proofs.SettledLaws.{note_of, rows_noted, rows_still}
 
@@ -37,7 +37,7 @@ rows_replaced c d table root p entry frame readiness old cleared new is gone mad
 -- ---- a page that was read
 
 module _ (c : Content) (table : Entries) (root p : ℕ) (page : TouchedPage) (old new : ReadyRows) (are : NotesAreTrue c table old)
-    (is : IsTouched Read c table (ready_in old) root p page) where
+    (is : IsTouchedPage Read c table (ready_in old) root p page) where
   -- nothing changes
   pub no_change : ChangesRange c c page.entry.koid.0 page.entry.page (page.entry.page + 1)
   no_change = record { frame = λ w q apart. refl; below = λ w q apart low. low }

@@ -14,7 +14,7 @@ use Rattle.ready_pages.specs.Access.{ReadsReady}
 use Rattle.ready_pages.specs.Changes.{Entries, AreReadyAt}
 use Rattle.checker_ready.specs.declared.touching.TouchedPage.{TouchedPage}
 use Rattle.checker_ready.specs.Notes.{ReadyRows, ready_in, FitsRows, NotesAreTrue, AreGoodNotes}
-use Rattle.checker_ready.specs.inside.Pages.{IsTouched, Touches, faults_in, is_unready}
+use Rattle.checker_ready.specs.inside.Pages.{IsTouchedPage, Touches, faults_in, is_unready}
 use Rattle.checker_ready.proofs.AskLaws.{read_row, fits_none, fits_one}
 use Rattle.checker_ready.proofs.FaultLaws.{faults_to_read}
 use Rattle.checker_ready.proofs.GoodLaws.{AreReadyAt-read}
@@ -22,7 +22,7 @@ use Rattle.checker_ready.proofs.NoteLaws.{after_reading-other}
 
 -- the bytes of a page, from a place in it on
 bytes_here : (c : Content) (table : Entries) (ready : Ready) (root addr n p at : ℕ) (page : TouchedPage) → IsGood c → p ≡ addr / PAGE → at ≡ addr % PAGE → at + n ≤ PAGE
-    → IsTouched Read c table ready root p page → take n (drop at (shown c page.entry.koid.0 page.entry.page)) ≡ bytes_through c (table root) addr n
+    → IsTouchedPage Read c table ready root p page → take n (drop at (shown c page.entry.koid.0 page.entry.page)) ≡ bytes_through c (table root) addr n
 bytes_here c table ready root addr n p at page good start place fits is =
     ap (λ (k : ℕ). take n (drop k (shown c page.entry.koid.0 page.entry.page))) place
     ∙ sym (bytes_through-page c (table root) addr n page.entry (ap (table root) (sym start) ∙ is.shows.is)
@@ -34,7 +34,7 @@ module _ (table : Entries) (c : Content) (root addr : ℕ) (old : ReadyRows) whe
   Reads len xs bytes new = ReadsReady c table root addr len (ready_in old) (faults_in xs) bytes (ready_in new) × NotesAreTrue c table new
 
   module _ (len : ℕ) (xs : List TouchedPage) (free : first_of (read_refusals c (table root) (touched addr len)) ≡ None)
-      (touches : Touches (IsTouched Read c table (ready_in old) root) addr len xs) where
+      (touches : Touches (IsTouchedPage Read c table (ready_in old) root) addr len xs) where
     reads : (bytes : List ℕ) (new : ReadyRows) → bytes ≡ bytes_through c (table root) addr len
         → FitsRows c table (after_reading root (range_with_len (addr / PAGE) (length xs)) (ready_in old)) new → Reads len xs bytes new
     reads bytes new is fits = (
@@ -51,17 +51,17 @@ module _ (table : Entries) (c : Content) (root addr : ℕ) (old : ReadyRows) whe
 
   -- no page
   pub reads_none : (bytes : List ℕ) → first_of (read_refusals c (table root) (touched addr (length bytes))) ≡ None → NotesAreTrue c table old
-      → Touches (IsTouched Read c table (ready_in old) root) addr (length bytes) [] → Reads (length bytes) [] bytes old
+      → Touches (IsTouchedPage Read c table (ready_in old) root) addr (length bytes) [] → Reads (length bytes) [] bytes old
   unfolding bytes_through after_reading
   reads_none [] free are touches = reads 0 [] free touches [] old refl (record { are_ready = refl; notes = are })
   reads_none (b ∷ bytes) free are touches = absurd (let none = fits_none addr (length (b ∷ bytes)) touches.pages in omega arith)
 
   -- one page
   pub reads_one : IsGood c → (p at n : ℕ) (page : TouchedPage) (bytes : List ℕ) (new : ReadyRows) → p ≡ addr / PAGE → at ≡ addr % PAGE → first_of (read_refusals c (table root) (touched addr n)) ≡ None
-      → Touches (IsTouched Read c table (ready_in old) root) addr n (page ∷ []) → bytes ≡ take n (drop at (shown c page.entry.koid.0 page.entry.page))
-      → (IsTouched Read c table (ready_in old) root p page → FitsRows c table (after_reading root (p ∷ []) (ready_in old)) new) → Reads n (page ∷ []) bytes new
+      → Touches (IsTouchedPage Read c table (ready_in old) root) addr n (page ∷ []) → bytes ≡ take n (drop at (shown c page.entry.koid.0 page.entry.page))
+      → (IsTouchedPage Read c table (ready_in old) root p page → FitsRows c table (after_reading root (p ∷ []) (ready_in old)) new) → Reads n (page ∷ []) bytes new
   reads_one good p at n page bytes new start place free touches read rows =
-      let is = subst (λ (q : ℕ). IsTouched Read c table (ready_in old) root q page) (sym start) touches.each.0 in
+      let is = subst (λ (q : ℕ). IsTouchedPage Read c table (ready_in old) root q page) (sym start) touches.each.0 in
       reads n (page ∷ []) free touches bytes new
       (read ∙ bytes_here c table (ready_in old) root addr n p at page good start place (rw place (fits_one addr n touches.pages)) is)
       (subst (λ (q : ℕ). FitsRows c table (after_reading root (q ∷ []) (ready_in old)) new) start (rows is))
@@ -69,17 +69,17 @@ module _ (table : Entries) (c : Content) (root addr : ℕ) (old : ReadyRows) whe
   -- two pages
   module _ (good : IsGood c) (p at n m len : ℕ) (first second : TouchedPage) (front behind : List ℕ) (mid new : ReadyRows) (start : p ≡ addr / PAGE) (place : at ≡ addr % PAGE)
       (whole : at + n ≡ PAGE) (short : m ≤ PAGE) (both : n + m ≡ len) where
-    pub reads_two : first_of (read_refusals c (table root) (touched addr len)) ≡ None → Touches (IsTouched Read c table (ready_in old) root) addr len (first ∷ second ∷ [])
+    pub reads_two : first_of (read_refusals c (table root) (touched addr len)) ≡ None → Touches (IsTouchedPage Read c table (ready_in old) root) addr len (first ∷ second ∷ [])
         → front ≡ take n (drop at (shown c first.entry.koid.0 first.entry.page)) → behind ≡ take m (drop 0 (shown c second.entry.koid.0 second.entry.page))
-        → (IsTouched Read c table (ready_in old) root p first → FitsRows c table (after_reading root (p ∷ []) (ready_in old)) mid)
-        → (NotesAreTrue c table mid → IsTouched Read c table (ready_in mid) root (p + 1) second → FitsRows c table (after_reading root ((p + 1) ∷ []) (ready_in mid)) new)
+        → (IsTouchedPage Read c table (ready_in old) root p first → FitsRows c table (after_reading root (p ∷ []) (ready_in old)) mid)
+        → (NotesAreTrue c table mid → IsTouchedPage Read c table (ready_in mid) root (p + 1) second → FitsRows c table (after_reading root ((p + 1) ∷ []) (ready_in mid)) new)
         → Reads len (first ∷ second ∷ []) (front ++ behind) new
     unfolding after_reading
     reads_two free touches read then_read rows then_rows =
-        let is = subst (λ (q : ℕ). IsTouched Read c table (ready_in old) root q first) (sym start) touches.each.0 in
-        let was = subst (λ (q : ℕ). IsTouched Read c table (ready_in old) root (q + 1) second) (sym start) touches.each.1.0 in
+        let is = subst (λ (q : ℕ). IsTouchedPage Read c table (ready_in old) root q first) (sym start) touches.each.0 in
+        let was = subst (λ (q : ℕ). IsTouchedPage Read c table (ready_in old) root (q + 1) second) (sym start) touches.each.1.0 in
         let fits = rows is in
-        let then_is : IsTouched Read c table (ready_in mid) root (p + 1) second = record {
+        let then_is : IsTouchedPage Read c table (ready_in mid) root (p + 1) second = record {
           shows = was.shows;
           unready = was.unready ∙ ap (is_unready Read) (sym (ap (λ (ready : Ready). ready root (p + 1)) fits.are_ready ∙ after_reading-other root p (p + 1) (ready_in old) (λ same. omega (arith, same))));
         } in
@@ -97,9 +97,9 @@ module _ (table : Entries) (c : Content) (root addr : ℕ) (old : ReadyRows) whe
 
 -- the same of other rows and of another number that are the same
 pub reads_same : (table : Entries) (c : Content) (root addr n len : ℕ) (rows old : ReadyRows) (xs : List TouchedPage) (bytes : List ℕ) (new : ReadyRows) → n ≡ len → rows ≡ old
-    → (first_of (read_refusals c (table root) (touched addr n)) ≡ None → NotesAreTrue c table rows → Touches (IsTouched Read c table (ready_in rows) root) addr n xs
+    → (first_of (read_refusals c (table root) (touched addr n)) ≡ None → NotesAreTrue c table rows → Touches (IsTouchedPage Read c table (ready_in rows) root) addr n xs
     → Reads table c root addr rows n xs bytes new)
-    → first_of (read_refusals c (table root) (touched addr len)) ≡ None → NotesAreTrue c table old → Touches (IsTouched Read c table (ready_in old) root) addr len xs
+    → first_of (read_refusals c (table root) (touched addr len)) ≡ None → NotesAreTrue c table old → Touches (IsTouchedPage Read c table (ready_in old) root) addr len xs
     → Reads table c root addr old len xs bytes new
 reads_same table c root addr n len rows old xs bytes new same kept law free are touches = rw (← same, ← kept) (law (rw same free) (rw kept are) (rw (same, kept) touches))
 

@@ -22,7 +22,7 @@ use Rattle.ready_pages.specs.Access.{WritesReady}
 use Rattle.ready_pages.specs.Changes.{Entries, ChangesRange, AreReadyAt}
 use Rattle.checker_ready.specs.declared.touching.TouchedPage.{TouchedPage}
 use Rattle.checker_ready.specs.Notes.{ReadyRows, ready_in, FitsRows, NotesAreTrue, AreGoodNotes}
-use Rattle.checker_ready.specs.inside.Pages.{IsMappedInside, IsTouched, Touches, MayWritePage, MayWrite, faults_in, is_unready}
+use Rattle.checker_ready.specs.inside.Pages.{IsMappedInside, IsTouchedPage, Touches, MayWritePage, MayWrite, faults_in, is_unready}
 use Rattle.checker_ready.proofs.AskLaws.{each_from, shown_from, fits_one, write_row_free, write_row_fits}
 use Rattle.checker_ready.proofs.FaultLaws.{fault_to_write, ready_to_write}
 use Rattle.checker_ready.proofs.GoodLaws.{AreReadyAt-written}
@@ -31,7 +31,7 @@ use Rattle.checker_ready.proofs.SettledLaws.{rows_still}
 -- ---- one page
 
 module _ (c d : Content) (table : Entries) (rows : ReadyRows) (root p at : ℕ) (part : List ℕ) (page : TouchedPage) (good : IsGood c) (are : NotesAreTrue c table rows)
-    (is : IsTouched Write c table (ready_in rows) root p page) (fits : at + length part ≤ PAGE)
+    (is : IsTouchedPage Write c table (ready_in rows) root p page) (fits : at + length part ≤ PAGE)
     (writes : WritesPiece c (record { koid = page.entry.koid.0; page = page.entry.page; at = at; bytes = part }) d) where
   page_written : Written c page.entry.koid.0 page.entry.page d
   page_written = Written-from_WritesPiece c (record { koid = page.entry.koid.0; page = page.entry.page; at = at; bytes = part }) d good is.shows.below fits writes
@@ -92,12 +92,12 @@ module _ (c : Content) (addr len : ℕ) (first second : TouchedPage) (may : MayW
     ]
 
     -- so its page of the address space is ready for writing as it was
-    module _ (table : Entries) (ready later : Ready) (root p q : ℕ) (apart : q ≡ p → ⊥) (is : IsTouched Write c table ready root q second)
+    module _ (table : Entries) (ready later : Ready) (root p q : ℕ) (apart : q ≡ p → ⊥) (is : IsTouchedPage Write c table ready root q second)
         (now : later ≡ with_ready (settled c d table ready) root p Write) where
       later_there : later root q ≡ settled c d table ready root q
       later_there = ap (λ (r : Ready). r root q) now ∙ with_ready-other (settled c d table ready) root p Write root q (λ same. apart)
 
-      pub touched_between : IsTouched Write d table later root q second
+      pub touched_between : IsTouchedPage Write d table later root q second
       touched_between = record {
         shows = record { is = is.shows.is; below = (may_between).inside };
         unready = elim (cases_Bool second.unready) [
@@ -122,11 +122,11 @@ module _ (table : Entries) (c : Content) (rows : ReadyRows) (root addr : ℕ) (b
 
   -- no page
   pub writes_none : first_of (write_refusals c (table root) (touched addr (length bytes))) ≡ None → NotesAreTrue c table rows
-      → Touches (IsTouched Write c table (ready_in rows) root) addr (length bytes) [] → WritesTo [] c rows
+      → Touches (IsTouchedPage Write c table (ready_in rows) root) addr (length bytes) [] → WritesTo [] c rows
   writes_none free are touches = (record { free = free; writes = rw touches.pages (refl, refl) }, are)
 
   -- the part of the write that falls into a page
-  part_written : (d : Content) (mid : ReadyRows) (p at : ℕ) (part : List ℕ) (page : TouchedPage) → IsTouched Write c table (ready_in rows) root p page
+  part_written : (d : Content) (mid : ReadyRows) (p at : ℕ) (part : List ℕ) (page : TouchedPage) → IsTouchedPage Write c table (ready_in rows) root p page
       → WritesPiece c (record { koid = page.entry.koid.0; page = page.entry.page; at = at; bytes = part }) d → ready_in mid ≡ with_ready (settled c d table (ready_in rows)) root p Write
       → at ≡ part_at addr p → part ≡ part_bytes addr bytes p
       → WritesPage table root addr bytes p (record { content = c; ready = ready_in rows }) (record { content = d; ready = ready_in mid })
@@ -134,11 +134,11 @@ module _ (table : Entries) (c : Content) (rows : ReadyRows) (root addr : ℕ) (b
 
   -- one page
   pub writes_one : (d : Content) (mid : ReadyRows) (p at : ℕ) (page : TouchedPage) → p ≡ addr / PAGE → at ≡ addr % PAGE
-      → first_of (write_refusals c (table root) (touched addr (length bytes))) ≡ None → Touches (IsTouched Write c table (ready_in rows) root) addr (length bytes) (page ∷ [])
+      → first_of (write_refusals c (table root) (touched addr (length bytes))) ≡ None → Touches (IsTouchedPage Write c table (ready_in rows) root) addr (length bytes) (page ∷ [])
       → WritesPiece c (record { koid = page.entry.koid.0; page = page.entry.page; at = at; bytes = bytes }) d
-      → (IsTouched Write c table (ready_in rows) root p page → FitsRows d table (with_ready (settled c d table (ready_in rows)) root p Write) mid) → WritesTo (page ∷ []) d mid
+      → (IsTouchedPage Write c table (ready_in rows) root p page → FitsRows d table (with_ready (settled c d table (ready_in rows)) root p Write) mid) → WritesTo (page ∷ []) d mid
   writes_one d mid p at page start place free touches wrote fits =
-      let is = subst (λ (q : ℕ). IsTouched Write c table (ready_in rows) root q page) (sym start) touches.each.0 in
+      let is = subst (λ (q : ℕ). IsTouchedPage Write c table (ready_in rows) root q page) (sym start) touches.each.0 in
       let one : touched addr (length bytes) ≡ p ∷ [] = touches.pages ∙ ap (λ (q : ℕ). q ∷ []) (sym start) in
       let all : bytes ≡ part_bytes addr bytes p = rw start (part_bytes-all addr bytes (fits_one addr (length bytes) touches.pages)) in (
         record {
@@ -159,14 +159,14 @@ module _ (table : Entries) (c : Content) (rows : ReadyRows) (root addr : ℕ) (b
     (may : MayWrite c addr (length bytes) (first ∷ second ∷ [])) (start : p ≡ addr / PAGE) (place : at ≡ addr % PAGE) (here : front ≡ take (PAGE - at) bytes) (range : at + length front ≤ PAGE)
     (wrote : WritesPiece c (record { koid = first.entry.koid.0; page = first.entry.page; at = at; bytes = front }) d) where
   pub writes_two : (behind : List ℕ) (e : Content) (later : ReadyRows) → length bytes ≤ PAGE → behind ≡ drop (PAGE - at) bytes
-      → first_of (write_refusals c (table root) (touched addr (length bytes))) ≡ None → Touches (IsTouched Write c table (ready_in rows) root) addr (length bytes) (first ∷ second ∷ [])
+      → first_of (write_refusals c (table root) (touched addr (length bytes))) ≡ None → Touches (IsTouchedPage Write c table (ready_in rows) root) addr (length bytes) (first ∷ second ∷ [])
       → WritesPiece d (record { koid = second.entry.koid.0; page = second.entry.page; at = 0; bytes = behind }) e
-      → (IsTouched Write c table (ready_in rows) root p first → FitsRows d table (with_ready (settled c d table (ready_in rows)) root p Write) mid)
-      → (NotesAreTrue d table mid → IsTouched Write d table (ready_in mid) root (p + 1) second → FitsRows e table (with_ready (settled d e table (ready_in mid)) root (p + 1) Write) later)
+      → (IsTouchedPage Write c table (ready_in rows) root p first → FitsRows d table (with_ready (settled c d table (ready_in rows)) root p Write) mid)
+      → (NotesAreTrue d table mid → IsTouchedPage Write d table (ready_in mid) root (p + 1) second → FitsRows e table (with_ready (settled d e table (ready_in mid)) root (p + 1) Write) later)
       → WritesTo table c rows root addr bytes (first ∷ second ∷ []) e later
   writes_two behind e later few there free touches then_wrote fits then_fits =
-      let is = subst (λ (q : ℕ). IsTouched Write c table (ready_in rows) root q first) (sym start) touches.each.0 in
-      let was = subst (λ (q : ℕ). IsTouched Write c table (ready_in rows) root (q + 1) second) (sym start) touches.each.1.0 in
+      let is = subst (λ (q : ℕ). IsTouchedPage Write c table (ready_in rows) root q first) (sym start) touches.each.0 in
+      let was = subst (λ (q : ℕ). IsTouchedPage Write c table (ready_in rows) root (q + 1) second) (sym start) touches.each.1.0 in
       let then_is = touched_between c addr (length bytes) first second may at front d range wrote table (ready_in rows) (ready_in mid) root p (p + 1) (λ same. omega (arith, same)) was (fits is).are_ready in
       let rest = then_fits (fits is).notes then_is in
       let two : touched addr (length bytes) ≡ p ∷ (p + 1) ∷ [] = touches.pages ∙ ap (λ (q : ℕ). q ∷ (q + 1) ∷ []) (sym start) in (
@@ -191,16 +191,16 @@ module _ (table : Entries) (c : Content) (rows : ReadyRows) (root addr : ℕ) (b
 
 -- the same of a content and of rows that are the same
 pub writes_same : (table : Entries) (now c : Content) (rows old : ReadyRows) (root addr : ℕ) (bytes : List ℕ) (xs : List TouchedPage) (d : Content) (later : ReadyRows) → now ≡ c → rows ≡ old
-    → (first_of (write_refusals now (table root) (touched addr (length bytes))) ≡ None → NotesAreTrue now table rows → Touches (IsTouched Write now table (ready_in rows) root) addr (length bytes) xs
+    → (first_of (write_refusals now (table root) (touched addr (length bytes))) ≡ None → NotesAreTrue now table rows → Touches (IsTouchedPage Write now table (ready_in rows) root) addr (length bytes) xs
     → WritesTo table now rows root addr bytes xs d later)
-    → first_of (write_refusals c (table root) (touched addr (length bytes))) ≡ None → NotesAreTrue c table old → Touches (IsTouched Write c table (ready_in old) root) addr (length bytes) xs
+    → first_of (write_refusals c (table root) (touched addr (length bytes))) ≡ None → NotesAreTrue c table old → Touches (IsTouchedPage Write c table (ready_in old) root) addr (length bytes) xs
     → WritesTo table c old root addr bytes xs d later
 writes_same table now c rows old root addr bytes xs d later same kept law free are touches = rw (← same, ← kept) (law (rw same free) (rw (same, kept) are) (rw (same, kept) touches))
 
 -- ---- a write that nothing refuses
 
 -- a page that is ready for writing shows a sole page
-may_there : (c : Content) (table : Entries) (ready : Ready) (root p : ℕ) (page : TouchedPage) → AreReadyAt c table ready → IsTouched Write c table ready root p page → MayWritePage c page
+may_there : (c : Content) (table : Entries) (ready : Ready) (root p : ℕ) (page : TouchedPage) → AreReadyAt c table ready → IsTouchedPage Write c table ready root p page → MayWritePage c page
 may_there c table ready root p page are is = record {
   inside = is.shows.below;
   alone = λ ready_for.
@@ -211,17 +211,17 @@ may_there c table ready root p page are is = record {
 
 -- what is found may be written
 pub MayWrite-found : (c d : Content) (table : Entries) (rows : ReadyRows) (root addr len : ℕ) (pages : List TouchedPage) → d ≡ c → IsGood c → AreGoodNotes c table rows
-    → None ≡ first_of (write_refusals c (table root) (touched addr len)) → Touches (IsTouched Write c table (ready_in rows) root) addr len pages → MayWrite d addr len pages
+    → None ≡ first_of (write_refusals c (table root) (touched addr len)) → Touches (IsTouchedPage Write c table (ready_in rows) root) addr len pages → MayWrite d addr len pages
 MayWrite-found c d table rows root addr len pages same good notes free touches = rw same (record {
   good = good;
   touches = record {
     pages = touches.pages;
-    each = each_from (IsTouched Write c table (ready_in rows) root) (λ p. MayWritePage c) (λ p q page is. may_there c table (ready_in rows) root p page notes.ready is) (addr / PAGE) (addr / PAGE) pages touches.each;
+    each = each_from (IsTouchedPage Write c table (ready_in rows) root) (λ p. MayWritePage c) (λ p q page is. may_there c table (ready_in rows) root p page notes.ready is) (addr / PAGE) (addr / PAGE) pages touches.each;
   };
   frames =
       let shown : pages_shown (table root) (touched addr len) ≡ map (λ page. page_shown page.entry) pages =
       ap (pages_shown (table root)) touches.pages
-      ∙ shown_from (IsTouched Write c table (ready_in rows) root) (table root) (λ page. page.entry) (λ p page is. is.shows.is) (addr / PAGE) pages touches.each in
+      ∙ shown_from (IsTouchedPage Write c table (ready_in rows) root) (table root) (λ page. page.entry) (λ p page is. is.shows.is) (addr / PAGE) pages touches.each in
       subst (λ (ws : List VmoPage). used c + need_each c ws ≤ c.frames) shown (write_row_fits c (table root) (touched addr len) free);
 })
 

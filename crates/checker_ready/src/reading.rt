@@ -12,7 +12,7 @@ ghost use Rattle.ready_pages.specs.Access.{ReadsReady};
 ghost use Rattle.ready_pages.specs.Changes.{Entries};
 ghost use Rattle.checker_pages.specs.Eager.{eager_content};
 ghost use Rattle.checker_ready.specs.Notes.{rows_of, ready_in, FitsRows, NotesAreTrue};
-ghost use Rattle.checker_ready.specs.inside.Pages.{IsTouched, Touches, faults_in, list_of};
+ghost use Rattle.checker_ready.specs.inside.Pages.{IsTouchedPage, Touches, faults_in, list_of};
 
 use crate::places::{PagePlace, Place};
 use crate::ready_map::ReadyMap;
@@ -36,7 +36,7 @@ pub(crate) fn read_touched(
     ensures reads { (table : Entries) → IsGood (eager_content pages.now)
         → first_of (read_refusals (eager_content pages.now) (table place.root.0) (touched place.addr (length out.old))) ≡ None
         → NotesAreTrue (eager_content pages.now) table (rows_of ready.old)
-        → Touches (IsTouched Readiness.Read (eager_content pages.now) table (ready_in (rows_of ready.old)) place.root.0)
+        → Touches (IsTouchedPage Readiness.Read (eager_content pages.now) table (ready_in (rows_of ready.old)) place.root.0)
         place.addr (length out.old) (list_of accessed)
         → ReadsReady (eager_content pages.now) table place.root.0 place.addr (length out.old)
         (ready_in (rows_of ready.old)) (faults_in (list_of accessed)) out.new (ready_in (rows_of ready.new))
@@ -76,7 +76,7 @@ fn read_page(
     ensures bytes { out.new
         ≡ take (length out.old) (drop place.at (shown (eager_content pages.now) page.entry.koid.0 page.entry.page)) }
     ensures rows { (table : Entries) → NotesAreTrue (eager_content pages.now) table (rows_of ready.old)
-        → IsTouched Readiness.Read (eager_content pages.now) table (ready_in (rows_of ready.old)) place.root.0 place.page page
+        → IsTouchedPage Readiness.Read (eager_content pages.now) table (ready_in (rows_of ready.old)) place.root.0 place.page page
         → FitsRows (eager_content pages.now) table
         (after_reading place.root.0 (place.page ∷ []) (ready_in (rows_of ready.old))) (rows_of ready.new) }
     ensures room { ready.old.room ≤ ready.new.room + faults_in (page ∷ []) }

@@ -4,7 +4,7 @@ ghost use Rattle.std.specs.Prelude.{◌≡◌, ℕ, ◌≤◌};
 ghost use Rattle.vm_model.specs.Contents.Content.{Content};
 ghost use Rattle.ready_pages.specs.Changes.{Entries};
 ghost use Rattle.checker_ready.specs.Notes.{rows_of, ready_in};
-ghost use Rattle.checker_ready.specs.inside.Pages.{IsMappedInside, IsTouched, Touches, faults_in, is_unready, list_of};
+ghost use Rattle.checker_ready.specs.inside.Pages.{IsMappedInside, IsTouchedPage, Touches, faults_in, is_unready, list_of};
 
 use crate::places::Place;
 use crate::ready_map::ReadyMap;
@@ -51,7 +51,7 @@ pub(crate) fn touch(
 ) -> Touched<TouchedPage>
     ensures { (c : Content) (table : Entries) (len : ℕ)
         → Touches (IsMappedInside c table place.root.0) place.addr len (list_of found)
-        → Touches (IsTouched wanted c table (ready_in (rows_of ready.now)) place.root.0) place.addr len (list_of result) }
+        → Touches (IsTouchedPage wanted c table (ready_in (rows_of ready.now)) place.root.0) place.addr len (list_of result) }
 {
     let root = place.root;
     let page = page_of(place.addr);

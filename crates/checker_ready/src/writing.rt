@@ -12,7 +12,7 @@ ghost use Rattle.ready_pages.specs.Access.{WritesReady};
 ghost use Rattle.ready_pages.specs.Changes.{Entries};
 ghost use Rattle.checker_pages.specs.Eager.{eager_content, eager_spare};
 ghost use Rattle.checker_ready.specs.Notes.{rows_of, ready_in, FitsRows, NotesAreTrue};
-ghost use Rattle.checker_ready.specs.inside.Pages.{IsTouched, Touches, MayWrite, MayWritePage, faults_in, list_of};
+ghost use Rattle.checker_ready.specs.inside.Pages.{IsTouchedPage, Touches, MayWrite, MayWritePage, faults_in, list_of};
 
 use crate::places::{PagePlace, Place};
 use crate::ready_map::ReadyMap;
@@ -62,7 +62,7 @@ pub(crate) fn write_touched(
     ensures writes { (table : Entries)
         → first_of (write_refusals (eager_content pages.old) (table place.root.0) (touched place.addr (length bytes.now))) ≡ None
         → NotesAreTrue (eager_content pages.old) table (rows_of ready.old)
-        → Touches (IsTouched Readiness.Write (eager_content pages.old) table (ready_in (rows_of ready.old)) place.root.0)
+        → Touches (IsTouchedPage Readiness.Write (eager_content pages.old) table (ready_in (rows_of ready.old)) place.root.0)
         place.addr (length bytes.now) (list_of accessed)
         → WritesReady (eager_content pages.old) table place.root.0 place.addr bytes.now
         (ready_in (rows_of ready.old)) (faults_in (list_of accessed)) (eager_content pages.new) (ready_in (rows_of ready.new))
@@ -106,7 +106,7 @@ fn write_page(
     ensures piece { WritesPiece (eager_content pages.old)
         (record { koid = page.entry.koid.0; page = page.entry.page; at = place.at; bytes = bytes.now }) (eager_content pages.new) }
     ensures rows { (table : Entries) → NotesAreTrue (eager_content pages.old) table (rows_of ready.old)
-        → IsTouched Readiness.Write (eager_content pages.old) table (ready_in (rows_of ready.old)) place.root.0 place.page page
+        → IsTouchedPage Readiness.Write (eager_content pages.old) table (ready_in (rows_of ready.old)) place.root.0 place.page page
         → FitsRows (eager_content pages.new) table
         (with_ready (settled (eager_content pages.old) (eager_content pages.new) table (ready_in (rows_of ready.old)))
         place.root.0 place.page Readiness.Write) (rows_of ready.new) }

@@ -57,7 +57,7 @@ is_unready Read readiness = not (is_some readiness)
 is_unready Write readiness = not (is_writable readiness)
 
 -- page p of an address space has the entry of this one, which says whether the page is not ready for this
-pub record IsTouched (wanted : Readiness) (c : Content) (table : Entries) (ready : Ready) (root p : ℕ) (page : TouchedPage) : Type 0 where
+pub record IsTouchedPage (wanted : Readiness) (c : Content) (table : Entries) (ready : Ready) (root p : ℕ) (page : TouchedPage) : Type 0 where
   pub shows : IsMappedInside c table root p page.entry
   pub unready : page.unready ≡ is_unready wanted (ready root p)
 
