@@ -46,8 +46,14 @@ use Rattle.checker_machine.specs.inside.Wanting.{may_lack, may_want}
 pub lack_refused : (s : State) (command : Command) {refusal : Refusal} → Some refusal ≡ first_of (refusals s command) → false ≡ may_lack s command
 lack_refused s command e = ap (λ (o : Option Refusal). not (is_some o) && may_lack_memory s command) e
 
-pub lack_free : (s : State) (command : Command) {result : Bool} → None ≡ first_of (refusals s command) → result ≡ may_lack_memory s command → result ≡ may_lack s command
-lack_free s command e is = is ∙ ap (λ (o : Option Refusal). not (is_some o) && may_lack_memory s command) e
+-- an access that is refused wants none
+pub want_refused : (m : Machine) (command : Command) {refusal : Refusal} → Some refusal ≡ first_of (refusals m.state command) → false ≡ may_want m command
+want_refused m command e = ap (λ (o : Option Refusal). not (is_some o) && may_want_memory m command) e
+
+-- one that nothing refuses wants it if it may
+pub lack_free : (s : State) (command : Command) {may result : Bool} → None ≡ first_of (refusals s command) → result ≡ may
+    → result ≡ (not (is_some (first_of (refusals s command))) && may)
+lack_free s command {may} e is = is ∙ ap (λ (o : Option Refusal). not (is_some o) && may) e
 
 -- what always wants memory wants it if nothing refuses it
 pub lack_asked : (s : State) (command : Command) {A : Type 0} (asked : Result A Refusal) {result : Bool} → result ≡ is_ok asked → may_lack_memory s command ≡ true
@@ -70,13 +76,6 @@ lack_wants m call group e other is =
 pub none_lacks : (s : State) (call : Call) → group_of call ≡ Group.Machine → false ≡ may_lack s (command_of call)
 none_lacks s Call.Stat e = refl
 none_lacks s _ e = absurd cc
-
--- an access that is refused wants none
-pub want_refused : (m : Machine) (command : Command) {refusal : Refusal} → Some refusal ≡ first_of (refusals m.state command) → false ≡ may_want m command
-want_refused m command e = ap (λ (o : Option Refusal). not (is_some o) && may_want_memory m command) e
-
-pub want_free : (m : Machine) (command : Command) {result : Bool} → None ≡ first_of (refusals m.state command) → result ≡ may_want_memory m command → result ≡ may_want m command
-want_free m command e is = is ∙ ap (λ (o : Option Refusal). not (is_some o) && may_want_memory m command) e
 
 -- a read that nothing refuses is of few bytes
 pub read_few : (s : State) (region : RegionName) (addr len : ℕ) → None ≡ first_of (refusals s (MemRead region addr len)) → len ≤ DATA_BYTES

@@ -34,11 +34,11 @@ impl Model for CheckerMachine {
 
     ghost Value = { CheckerParts };
 
-    ghost use Rattle.checker_machine.specs.inside.Fields.{checker_parts_of, AreSoundFields};
+    ghost use Rattle.checker_machine.specs.inside.Fields.{checker_parts_of, AreSound};
 
     ghost view = { checker_parts_of };
 
-    ghost invariant = { AreSoundFields };
+    ghost invariant = { λ m. AreSound (checker_parts_of m) };
 }
 
 impl CheckerMachine {

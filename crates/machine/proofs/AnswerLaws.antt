@@ -1,13 +1,11 @@
 -- The machine's answer to a call, put together from what the handlers of commands and what keeps the ready pages promise.
 use Rattle.std.proofs.Common.{◌≡◌, ℕ, Option, None, Some, refl, sym, ap, subst, ◌∙◌, inl, inr}
 use Rattle.vm_base.specs.declared.refusal.Refusal.{Refusal}
-use Rattle.vm_model.specs.declared.call.Call.{Call}
 use Rattle.vm_model.specs.declared.command.Command.{Command}
 use Rattle.vm_model.specs.declared.reply.Reply.{Reply}
 use Rattle.vm_model.specs.declared.space.Readiness.{Readiness}
 use Rattle.vm_model.specs.Contents.Content.{Content}
 use Rattle.vm_model.specs.Space.Readiness.{Ready, settled}
-use Rattle.vm_model.specs.Machine.Lent.{command_of}
 use Rattle.vm_model.specs.Machine.State.{State, IsGoodState}
 use Rattle.vm_model.specs.Machine.Given.{GivesName}
 use Rattle.vm_model.specs.Machine.Refusals.{refusals, first_of}
@@ -20,19 +18,11 @@ use Rattle.mapping_set.specs.Tables.{table_of}
 use Rattle.ready_pages.specs.declared.change.Change.{Change}
 use Rattle.ready_pages.specs.Changes.{Entries, Covers, AreReadyAt, IsBounded, left_ready}
 use Rattle.ready_pages.proofs.SettledLaws.{settled-none, settled-stays}
-use Rattle.machine.specs.Groups.{group_of}
-use Rattle.machine.specs.declared.groups.Group.{Group}
 use Rattle.machine.specs.Machine.{MachineParts, state_of, machine_of_parts, IsSoundMachine}
-use Rattle.machine.specs.inside.Changes.{change_after, IsNoAccess}
+use Rattle.machine.specs.inside.Changes.{change_after}
 use Rattle.machine.proofs.BoundLaws.{done_bounded}
 use Rattle.machine.proofs.StaysLaws.{EntryStays-same}
 use Rattle.machine.proofs.EffectLaws.{effect_settles, covers_same}
-
--- a call of another group is no access
-pub no_access : (call : Call) → (group_of call ≡ Group.Memory → ⊥) → IsNoAccess (command_of call)
-no_access (Call.MemRead region addr len) other = absurd (other refl)
-no_access (Call.MemWrite region addr bytes) other = absurd (other refl)
-no_access _ other = tt
 
 -- what is ready stays where no content and no entry changes
 settled_same : (m : Machine) → IsGoodMachine m → settled m.state.content m.state.content m.state.spaces.table m.ready ≡ m.ready
@@ -44,7 +34,7 @@ settled_same m good = λ i root p. at root p (m.ready root p) refl i where
       settled-stays m.state.content m.state.content m.state.spaces.table m.ready root p is.entry
       (EntryStays-same m.state.content m.state.content m.state.spaces.table root p is.entry is.is is.below refl refl)
 
-module _ (old : Machine) (command : Command) (reply : Reply) (new : State) (good : IsGoodMachine old) (access : IsNoAccess command) (step : Step old.state command reply new) where
+module _ (old : Machine) (command : Command) (reply : Reply) (new : State) (good : IsGoodMachine old) (step : Step old.state command reply new) where
   abbrev made : Change
   made = change_after old.state command reply
 
@@ -62,7 +52,7 @@ module _ (old : Machine) (command : Command) (reply : Reply) (new : State) (good
         → Covers made old.state.content new.content old.state.spaces.table new.spaces.table
     go (Some refusal) e refused = covers_refused refusal refused
     go None e (inr lacked) = covers_refused _ lacked.0
-    go None e (inl effect) = (effect_settles old.state good.state command reply new access e effect).covers
+    go None e (inl effect) = (effect_settles old.state good.state command reply new e effect).covers
 
   -- what the change leaves is what the step leaves
   pub step_leaves : (ready : Ready) → ready ≡ left_ready made new.pins old.state.spaces.table (settled old.state.content new.content new.spaces.table old.ready)
@@ -70,7 +60,7 @@ module _ (old : Machine) (command : Command) (reply : Reply) (new : State) (good
   step_leaves ready is = machine_step old command reply (record { state = new; ready = ready }) step
       (λ refusal e same. is ∙ (ap (λ (r : Reply). left_ready (change_after old.state command r) new.pins old.state.spaces.table (settled old.state.content new.content new.spaces.table old.ready)) e
       ∙ (ap (λ (s : State). settled old.state.content s.content s.spaces.table old.ready) same ∙ settled_same old good)))
-      (λ none effect. is ∙ sym ((effect_settles old.state good.state command reply new access none effect).leaves old.ready))
+      (λ none effect. is ∙ sym ((effect_settles old.state good.state command reply new none effect).leaves old.ready))
 
 -- what it may have changed lies within bounds
 pub change_bounded : (old : State) (command : Command) (reply : Reply) (new : State) (change : Change) → IsGoodState old → Step old command reply new → change ≡ change_after old command reply
@@ -99,25 +89,25 @@ module _ {R : Type 0} (ready : R → Ready) (AreTrue : Content → Entries → R
       record { step = step; sound = record { good = keeps.good; notes = notes }; keeps = keeps }
 
   -- by a step of the state, with what it may have changed taken back
-  pub command_answered : (change : Change) → IsNoAccess command → Step (state_of c old) command reply (state_of d new) → change ≡ change_after (state_of c old) command reply
+  pub command_answered : (change : Change) → Step (state_of c old) command reply (state_of d new) → change ≡ change_after (state_of c old) command reply
       → ((a : Content) (before after : Entries) → AreTrue a before old.ready → Covers change a d before after
       → ready new.ready ≡ left_ready change (pins_of new.pins) before (settled a d after (ready old.ready)))
       → ((a : Content) (before after : Entries) → AreTrue a before old.ready → Covers change a d before after → AreReadyAt d after (ready new.ready) → AreTrue d after new.ready)
       → Answers ready AreTrue c old command reply d new
-  command_answered change access step is left notes =
+  command_answered change step is left notes =
       let m = machine_of_parts ready c old in
-      let covers = subst (λ (ch : Change). Covers ch c d (table_of old.maps) (table_of new.maps)) (sym is) (step_covers m command reply (state_of d new) sound.good access step) in
+      let covers = subst (λ (ch : Change). Covers ch c d (table_of old.maps) (table_of new.maps)) (sym is) (step_covers m command reply (state_of d new) sound.good step) in
       let leaves = left c (table_of old.maps) (table_of new.maps) sound.notes covers in
-      let whole = step_leaves m command reply (state_of d new) sound.good access step (ready new.ready)
+      let whole = step_leaves m command reply (state_of d new) sound.good step (ready new.ready)
       (leaves ∙ ap (λ (ch : Change). left_ready ch (pins_of new.pins) (table_of old.maps) (settled c d (table_of new.maps) (ready old.ready))) is) in
       let keeps = MachineStep-keeps m command reply (machine_of_parts ready d new) sound.good gives whole in
       answered whole (notes c (table_of old.maps) (table_of new.maps) sound.notes covers (ready_at (machine_of_parts ready d new) keeps.good))
 
 -- by one that leaves the pages and the tables as they are
 pub same_answered : {R : Type 0} (ready : R → Ready) (AreTrue : Content → Entries → R → Type 0) (c : Content) (m : MachineParts R) (command : Command) (reply : Reply)
-    → IsSoundMachine ready AreTrue c m → GivesName command → IsNoAccess command → Step (state_of c m) command reply (state_of c m) → Change.None ≡ change_after (state_of c m) command reply
+    → IsSoundMachine ready AreTrue c m → GivesName command → Step (state_of c m) command reply (state_of c m) → Change.None ≡ change_after (state_of c m) command reply
     → Answers ready AreTrue c m command reply c m
-same_answered ready AreTrue c m command reply sound gives access step none =
+same_answered ready AreTrue c m command reply sound gives step none =
     let old = machine_of_parts ready c m in
     let stays = ap (λ (ch : Change). left_ready ch old.state.pins old.state.spaces.table (settled c c old.state.spaces.table old.ready)) (sym none) ∙ settled_same old sound.good in
-    answered ready AreTrue c m command reply c m sound gives (step_leaves old command reply old.state sound.good access step old.ready (sym stays)) sound.notes
+    answered ready AreTrue c m command reply c m sound gives (step_leaves old command reply old.state sound.good step old.ready (sym stays)) sound.notes

@@ -35,7 +35,7 @@ use Rattle.vmo_ops.proofs.OutsideLaws.{LeavesOthers-owns, ChangesWithin, Changes
 use Rattle.region_ops.proofs.CountLaws.{entry_bounds}
 use Rattle.ready_pages.specs.declared.change.Change.{Change}
 use Rattle.ready_pages.specs.Changes.{Covers, left_ready}
-use Rattle.machine.specs.inside.Changes.{change_after, IsNoAccess}
+use Rattle.machine.specs.inside.Changes.{change_after}
 use Rattle.machine.proofs.StaysLaws.{EntryStays-same, EntryStays-created, EntryStays-copied, EntryStays-pruned, Covers-none, Covers-frames, Covers-resized}
 use Rattle.machine.proofs.SpacesLaws.{Covers-mapped, Covers-unmapped, unready-unmapped, Covers-destroyed, unready-destroyed, Covers-protected}
 
@@ -149,11 +149,11 @@ module _ (old : State) (good : IsGoodState old) where
   -- ---- each command
 
   -- what changes, and what is left, after each command
-  pub effect_settles : (command : Command) (reply : Reply) (new : State) → IsNoAccess command → first_of (refusals old command) ≡ None → Effect old command reply new
+  pub effect_settles : (command : Command) (reply : Reply) (new : State) → first_of (refusals old command) ≡ None → Effect old command reply new
       → Settles old command reply new (change_after old command reply)
-  effect_settles (VmoCreate name size resizable) reply new access none effect =
+  effect_settles (VmoCreate name size resizable) reply new none effect =
       told (VmoCreate name size resizable) effect.0 effect.1 (record { covers = covers_created name.0 (rounded size / PAGE) resizable; leaves = λ ready. refl })
-  effect_settles (VmoChild name parent Snapshot offset size resizable no_write) reply new access none effect =
+  effect_settles (VmoChild name parent Snapshot offset size resizable no_write) reply new none effect =
       told (VmoChild name parent Snapshot offset size resizable no_write) effect.0 refl (record {
         covers = covers_snapshot name.0 (target_of old parent.0) (offset / PAGE) (rounded size / PAGE) resizable no_write new
             (pinned_copies old (target_of old parent.0) (offset / PAGE) (rounded size / PAGE)) _ _ _ effect.1 effect.2;
@@ -161,22 +161,22 @@ module _ (old : State) (good : IsGoodState old) where
             ap (λ (pins : ℕ → Option Pin). left_ready (change_after old (VmoChild name parent Snapshot offset size resizable no_write) Done) pins old.spaces.table
             (settled old.content new.content new.spaces.table ready)) (sym (pins_snapshot name.0 (target_of old parent.0) (offset / PAGE) (rounded size / PAGE) resizable no_write new effect.1));
       })
-  effect_settles (VmoChild name parent Slice offset size resizable no_write) reply new access none effect =
+  effect_settles (VmoChild name parent Slice offset size resizable no_write) reply new none effect =
       told (VmoChild name parent Slice offset size resizable no_write) effect.0 effect.1 (record { covers = covers_alias name.0 _; leaves = λ ready. refl })
-  effect_settles (VmoChild name parent Reference offset size resizable no_write) reply new access none effect =
+  effect_settles (VmoChild name parent Reference offset size resizable no_write) reply new none effect =
       told (VmoChild name parent Reference offset size resizable no_write) effect.0 effect.1 (record { covers = covers_alias name.0 _; leaves = λ ready. refl })
-  effect_settles (VmoClose name) reply new access none effect = told (VmoClose name) effect.0 effect.1 (record { covers = covers_pruned _ refl refl; leaves = λ ready. refl })
-  effect_settles (VmoWrite name offset bytes) reply new access none effect =
+  effect_settles (VmoClose name) reply new none effect = told (VmoClose name) effect.0 effect.1 (record { covers = covers_pruned _ refl refl; leaves = λ ready. refl })
+  effect_settles (VmoWrite name offset bytes) reply new none effect =
       told (VmoWrite name offset bytes) effect.0 refl (settles_changed (VmoWrite name offset bytes) _ new _ _ _ (ap (λ (s : State). s.spaces) effect.1)
       (ChangesWithin-writes (koid_of old name.0) (place_of old name.0 offset) bytes old.content new.content effect.2) (λ ready. refl))
-  effect_settles (VmoFill name offset len byte) reply new access none effect =
+  effect_settles (VmoFill name offset len byte) reply new none effect =
       told (VmoFill name offset len byte) effect.0 refl (settles_changed (VmoFill name offset len byte) _ new _ _ _ (ap (λ (s : State). s.spaces) effect.1)
       (subst (λ (n : ℕ). ChangesWithin (koid_of old name.0) (place_of old name.0 offset / PAGE) (place_of old name.0 offset / PAGE + length (touched (place_of old name.0 offset) n)) old.content new.content)
       (length-replicate len byte) (ChangesWithin-writes (koid_of old name.0) (place_of old name.0 offset) (replicate len byte) old.content new.content effect.2)) (λ ready. refl))
-  effect_settles (VmoCommit name offset len) reply new access none effect =
+  effect_settles (VmoCommit name offset len) reply new none effect =
       told (VmoCommit name offset len) effect.0 refl (settles_changed (VmoCommit name offset len) _ new _ _ _ (ap (λ (s : State). s.spaces) effect.1)
       (ChangesWithin-owns (koid_of old name.0) (place_of old name.0 offset) len old.content new.content effect.2) (λ ready. refl))
-  effect_settles (VmoDecommit name offset len) reply new access none effect =
+  effect_settles (VmoDecommit name offset len) reply new none effect =
       let v = koid_of old name.0 in
       let place = place_of old name.0 offset in
       let end = place_of old name.0 (offset + len) / PAGE in
@@ -184,20 +184,20 @@ module _ (old : State) (good : IsGoodState old) where
       (settles_changed (VmoDecommit name offset len) _ (record old { content = zeroed old.content v (place / PAGE) end }) _ _ _ refl
       (ChangesWithin-wider v (place / PAGE) (place / PAGE + length (touched place len)) (place / PAGE) end old.content (zeroed old.content v (place / PAGE) end) (omega arith)
       (omega (arith, touched_reaches place len)) (ChangesWithin-zeroed v (place / PAGE) end old.content)) (λ ready. refl))
-  effect_settles (VmoZero name offset len) reply new access none effect =
+  effect_settles (VmoZero name offset len) reply new none effect =
       told (VmoZero name offset len) effect.0 refl (settles_changed (VmoZero name offset len) _ new _ _ _ (ap (λ (s : State). s.spaces) effect.1)
       (ChangesWithin-zeroes (koid_of old name.0) (is_pinned old.pins (koid_of old name.0)) (place_of old name.0 offset) len old.content new.content effect.2) (λ ready. refl))
-  effect_settles (VmoSetSize name size) reply new access none effect =
+  effect_settles (VmoSetSize name size) reply new none effect =
       told (VmoSetSize name size) effect.0 effect.1
       (record { covers = Covers-resized old.content old.spaces.table (target_of old name.0).koid (rounded size / PAGE) good.content; leaves = λ ready. refl })
-  effect_settles (VmoPin pin name offset len) reply new access none effect =
+  effect_settles (VmoPin pin name offset len) reply new none effect =
       told (VmoPin pin name offset len) effect.0 refl (settles_changed (VmoPin pin name offset len) _ new _ _ _ (ap (λ (s : State). s.spaces) effect.1)
       (ChangesWithin-owns (koid_of old name.0) (place_of old name.0 offset) len old.content new.content effect.2) (λ ready. refl))
-  effect_settles (VmoUnpin pin) reply new access none effect = told (VmoUnpin pin) effect.0 effect.1 (record { covers = covers_pruned _ refl refl; leaves = λ ready. refl })
-  effect_settles (RootCreate region) reply new access none effect = told (RootCreate region) effect.0 effect.1 (record { covers = covers_same; leaves = λ ready. refl })
-  effect_settles (VmarAllocate region parent offset len flags caps) reply new access none effect =
+  effect_settles (VmoUnpin pin) reply new none effect = told (VmoUnpin pin) effect.0 effect.1 (record { covers = covers_pruned _ refl refl; leaves = λ ready. refl })
+  effect_settles (RootCreate region) reply new none effect = told (RootCreate region) effect.0 effect.1 (record { covers = covers_same; leaves = λ ready. refl })
+  effect_settles (VmarAllocate region parent offset len flags caps) reply new none effect =
       told (VmarAllocate region parent offset len flags caps) effect.1 effect.3 (record { covers = covers_same; leaves = λ ready. refl })
-  effect_settles (VmarMap region offset name vmo_offset len perm flags) reply new access none effect =
+  effect_settles (VmarMap region offset name vmo_offset len perm flags) reply new none effect =
       let above = region_of old.spaces.regions region.0 in
       let first = effect.0 in
       let place : first ≡ first * PAGE / PAGE = omega arith in
@@ -205,22 +205,22 @@ module _ (old : State) (good : IsGoodState old) where
         covers = covers_mapped above first (first * PAGE / PAGE) (rounded len / PAGE) (entry_of above region.0 (target_of old name.0) (vmo_offset / PAGE) perm) place;
         leaves = λ ready. refl;
       })
-  effect_settles (VmarUnmap region addr len) reply new access none effect =
+  effect_settles (VmarUnmap region addr len) reply new none effect =
       told (VmarUnmap region addr len) effect.0 effect.1 (record {
         covers = covers_unmapped region.0 (addr / PAGE) (addr / PAGE + rounded len / PAGE);
         leaves = leaves_unmapped region.0 (addr / PAGE) (addr / PAGE + rounded len / PAGE);
       })
-  effect_settles (VmarProtect region addr len perm) reply new access none effect =
+  effect_settles (VmarProtect region addr len perm) reply new none effect =
       told (VmarProtect region addr len perm) effect.0 effect.1
       (record { covers = Covers-protected old good (region_of old.spaces.regions region.0).root (addr / PAGE) (addr / PAGE + rounded len / PAGE) perm; leaves = λ ready. refl })
-  effect_settles (VmarDestroy region) reply new access none effect =
+  effect_settles (VmarDestroy region) reply new none effect =
       let off = AllOff-from_none (refusals old (VmarDestroy region)) none in
       let there = some_is (old.spaces.regions region.0) (not-false (is_given old region.0) off.0) in
       let given : old.spaces.regions region.0 ≡ Some (region_of old.spaces.regions region.0) =
       there.1 ∙ ap (λ (r : Region). Some r) (sym (region_of-at old.spaces.regions region.0 there.0 there.1)) in
       let live = not-false (region_of old.spaces.regions region.0).live off.1.0 in
       told (VmarDestroy region) effect.0 effect.1 (record { covers = covers_destroyed region.0 given live; leaves = leaves_destroyed region.0 given live })
-  effect_settles (MemRead region addr len) reply new access none effect = absurd access
-  effect_settles (MemWrite region addr bytes) reply new access none effect = absurd access
+  effect_settles (MemRead region addr len) reply new none effect = absurd effect
+  effect_settles (MemWrite region addr bytes) reply new none effect = absurd effect
   -- a command that only asks
-  effect_settles command reply new access none effect = told command effect.0 effect.1 (record { covers = covers_same; leaves = λ ready. refl })
+  effect_settles command reply new none effect = told command effect.0 effect.1 (record { covers = covers_same; leaves = λ ready. refl })

@@ -11,6 +11,3 @@ checker_parts_of a = record { pages = a.pages; machine = a.machine }
 -- The parts stand for a good machine, and the notes of ready pages are true.
 abbrev pub AreSound : CheckerParts → Type 0
 AreSound m = IsSoundMachine ready_by (λ c table notes. AreGoodNotes c table (rows_of notes)) (eager_content m.pages) m.machine
-
-abbrev pub AreSoundFields : Inside → Type 0
-AreSoundFields a = AreSound (checker_parts_of a)

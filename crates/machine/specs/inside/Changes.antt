@@ -3,7 +3,7 @@ use Rattle.std.specs.Prelude.{ℕ, ◌+◌, ◌*◌, ◌/◌, length}
 use Rattle.vm_base.specs.Pages.{rounded}
 use Rattle.vm_base.specs.declared.limits.TheConstants.{PAGE}
 use Rattle.vm_model.specs.declared.command.Command.{Command}
-use Rattle.vm_model.specs.declared.command.Command.TheVariants.{VmoChild, VmoSetSize, VmoWrite, VmoFill, VmoCommit, VmoDecommit, VmoZero, VmoPin, VmarMap, VmarUnmap, VmarProtect, VmarDestroy, MemRead, MemWrite}
+use Rattle.vm_model.specs.declared.command.Command.TheVariants.{VmoChild, VmoSetSize, VmoWrite, VmoFill, VmoCommit, VmoDecommit, VmoZero, VmoPin, VmarMap, VmarUnmap, VmarProtect, VmarDestroy}
 use Rattle.vm_model.specs.declared.command.ChildKind.{ChildKind}
 use Rattle.vm_model.specs.declared.command.ChildKind.TheVariants.{Snapshot}
 use Rattle.vm_model.specs.declared.names.Target.{Target}
@@ -56,9 +56,3 @@ change_made s command reply = Change.None
 abbrev pub change_after : State → Command → Reply → Change
 change_after s command (Refused refusal) = Change.None
 change_after s command reply = change_made s command reply
-
--- the command is no access through mappings
-abbrev pub IsNoAccess : Command → Type 0
-IsNoAccess (MemRead region addr len) = ⊥
-IsNoAccess (MemWrite region addr bytes) = ⊥
-IsNoAccess command = Unit {0}

@@ -6,7 +6,7 @@ use Rattle.region_tree.specs.Tree.{RegionRows, regions_of, spaces_of}
 use Rattle.checker_pages.specs.Eager.{Eager, eager_content}
 use Rattle.checker_ready.specs.Notes.{Notes}
 use Rattle.checker_machine.specs.Machine.{ready_by}
-use Rattle.checker_machine.proofs.WantLaws.{read_few, want_free, want_refused}
+use Rattle.checker_machine.proofs.WantLaws.{lack_free, read_few, want_refused}
 use Rattle.checker_machine.proofs.wanting.memory_wants.Goals as goal
 
 -- the machine that is asked for memory
@@ -23,7 +23,7 @@ returns-in-Some c = rw c.in-MemRead.is (λ s.
 
 pub returns-in-None : goal.returns-in-None
 returns-in-None c = rw c.in-MemRead.is (λ s.
-    want_free (asked c.args.pages.now c.args.regions.now c.args.maps.now c.args.ready.now s) (MemRead c.in-MemRead.region c.in-MemRead.addr c.in-MemRead.len) (c.in-None.ensures s)
+    lack_free (asked c.args.pages.now c.args.regions.now c.args.maps.now c.args.ready.now s).state (MemRead c.in-MemRead.region c.in-MemRead.addr c.in-MemRead.len) (c.in-None.ensures s)
     (c.wants_memory_to_read.ensures s))
 
 pub returns-in-Some-refusal_to_write : goal.returns-in-Some-refusal_to_write
@@ -32,5 +32,5 @@ returns-in-Some-refusal_to_write c = rw c.in-MemWrite.is (rw (← c.as_slice-wri
 
 pub returns-in-None-refusal_to_write : goal.returns-in-None-refusal_to_write
 returns-in-None-refusal_to_write c = rw c.in-MemWrite.is (rw (← c.as_slice-written.ensures.value) (λ s.
-    want_free (asked c.args.pages.now c.args.regions.now c.args.maps.now c.args.ready.now s) (MemWrite c.in-MemWrite.region c.in-MemWrite.addr _) (c.in-None-refusal_to_write.ensures s)
+    lack_free (asked c.args.pages.now c.args.regions.now c.args.maps.now c.args.ready.now s).state (MemWrite c.in-MemWrite.region c.in-MemWrite.addr _) (c.in-None-refusal_to_write.ensures s)
     (c.wants_memory_to_write.ensures s)))

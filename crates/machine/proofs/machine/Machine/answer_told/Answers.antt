@@ -1,8 +1,7 @@
-use Rattle.std.proofs.Common.{sym, ◌∙◌}
 use Rattle.vm_model.specs.Machine.Lent.{command_of, reply_for}
 use Rattle.machine.specs.Machine.{state_of}
 use Rattle.machine.specs.inside.Fields.{parts_of}
-use Rattle.machine.proofs.AnswerLaws.{Answers, answered, no_access, same_answered}
+use Rattle.machine.proofs.AnswerLaws.{Answers, answered, same_answered}
 use Rattle.machine.proofs.machine.Machine.answer_told.Given as given
 use Rattle.machine.proofs.machine.Machine.answer_told.Goals as goal
 
@@ -34,7 +33,7 @@ asked : (g : given.Over) (c : goal.After-on_machine g)
 asked g c =
     let s = state_of (g.P.Pages.content c.args.pages.now) c.args.self.now in
     same_answered g.R.ReadyNotes.ready g.R.ReadyNotes.AreTrue (g.P.Pages.content c.args.pages.now) c.args.self.now (command_of c.args.call.now) (reply_for c.on_machine.result)
-    c.requires.sound c.on_machine.ensures.name (no_access c.args.call.now (λ e. let is = sym c.in-Machine.is ∙ (c.group_of.ensures ∙ e) in absurd cc)) (c.on_machine.ensures.step s) (c.on_machine.ensures.change s)
+    c.requires.sound c.on_machine.ensures.name (c.on_machine.ensures.step s) (c.on_machine.ensures.change s)
 
 pub returns-in-Machine-clause-step : goal.returns-in-Machine-clause-step
 returns-in-Machine-clause-step g c = (asked g c).step

@@ -1,6 +1,6 @@
 use Rattle.vm_model.specs.Machine.Lent.{command_of, reply_for}
 use Rattle.machine.specs.inside.Fields.{state_in, parts_of}
-use Rattle.machine.proofs.AnswerLaws.{Answers, change_bounded, command_answered, no_access}
+use Rattle.machine.proofs.AnswerLaws.{Answers, change_bounded, command_answered}
 use Rattle.machine.proofs.machine.Machine.perform.Given as given
 use Rattle.machine.proofs.machine.Machine.perform.Goals as goal
 
@@ -22,8 +22,7 @@ performed g c =
     let sound = rw (← c.self.view_is) at c.requires.sound in
     let does = c.in-Some.ensures.does in
     command_answered g.R.ReadyNotes.ready g.R.ReadyNotes.AreTrue (g.P.Pages.content c.args.pages.now) (parts_of c.self.inside.tables c.self.inside.ready) (command_of c.args.call.now) (reply_for c.in-Some.answer)
-    (g.P.Pages.content c.on_tables.new.pages) (parts_of c.on_tables.new.tables c.apply.new.self) sound does.name c.in-Some.change
-    (no_access c.args.call.now c.requires.memory) does.step does.changes c.apply.ensures.left c.apply.ensures.notes
+    (g.P.Pages.content c.on_tables.new.pages) (parts_of c.on_tables.new.tables c.apply.new.self) sound does.name c.in-Some.change does.step does.changes c.apply.ensures.left c.apply.ensures.notes
 
 pub returns-in-Some-clause-step : goal.returns-in-Some-clause-step
 returns-in-Some-clause-step g c = rw (← c.self.view_is) (performed g c).step
