@@ -12,7 +12,7 @@ use Rattle.vm_model.proofs.ContentLaws.{pages_of-at, same_page, sole_held, sole_
 use Rattle.vm_model.proofs.OwningLaws.{Owned, Owned-from_Owns}
 use Rattle.vm_model.proofs.SharingLaws.{koid_held, page-snapshotted_old, page-snapshotted_cases, count-snapshotted_new, IsGood-snapshotted}
 use Rattle.vm_model.proofs.SoleLaws.{sole-snapshotted_kept}
-use Rattle.vm_model.proofs.WritingLaws.{IsKept, KeepsPages, KeepsPages-handed_on, IsHandedOn}
+use Rattle.vm_model.proofs.WritingLaws.{IsKept, KeepsPages, KeepsPages-handed_on}
 
 -- each page
 abbrev every : ℕ → ℕ → Bool

@@ -9,7 +9,7 @@ use Rattle.vm_base.specs.declared.flags.Perm.{Perm}
 use Rattle.vm_base.specs.declared.limits.TheConstants.{PAGE, VMO_PAGES}
 use Rattle.vm_base.proofs.EntryLaws.{some_same, passes-some}
 use Rattle.vm_model.specs.declared.command.Command.{Command}
-use Rattle.vm_model.specs.declared.command.Command.TheVariants.{VmoCreate, VmoChild, VmoClose, VmoSetSize, VmoRead, VmoWrite, VmoFill, VmoCommit, VmoDecommit, VmoZero, VmoPin, VmoUnpin, RootCreate, VmarAllocate, VmarMap, VmarUnmap, VmarProtect, VmarDestroy, Maps, MemRead, MemWrite, Stat, VmoSize, VmoInfo}
+use Rattle.vm_model.specs.declared.command.Command.TheVariants.{VmoCreate, VmoChild, VmoClose, VmoSetSize, VmoWrite, VmoFill, VmoCommit, VmoDecommit, VmoZero, VmoPin, VmoUnpin, RootCreate, VmarAllocate, VmarMap, VmarUnmap, VmarProtect, VmarDestroy, MemRead, MemWrite}
 use Rattle.vm_model.specs.declared.command.ChildKind.TheVariants.{Snapshot as SnapshotChild, Slice as SliceChild, Reference as ReferenceChild}
 use Rattle.vm_model.specs.declared.reply.Reply.{Reply}
 use Rattle.vm_model.specs.declared.reply.Reply.TheVariants.{Address}
@@ -290,7 +290,6 @@ ready_keeps old (VmoChild name parent ReferenceChild offset size resizable no_wr
 ready_keeps old (VmoClose name) reply new good h none effect =
     let less = record old.state { names = without_key old.state.names name.0 } in
     shown_good old new good (subst (KeepsShown old.state) (sym effect.1) (KeepsShown-pruned old.state less good.state.content refl (λ r q entry there. there)))
-ready_keeps old (VmoRead name offset len) reply new good h none effect = shown_good old new good (KeepsShown-same old.state new effect.1)
 ready_keeps old (VmoWrite name offset bytes) reply new good h none effect =
     let s = old.state in
     let inside = change_inside s name.0 offset (length bytes) (touched (place_of s name.0 offset) (length bytes)) good.state none in
@@ -330,8 +329,6 @@ ready_keeps old (VmoPin pin name offset len) reply new good h none effect =
 ready_keeps old (VmoUnpin pin) reply new good h none effect =
     let less = record old.state { pins = without_key old.state.pins pin.0 } in
     shown_good old new good (subst (KeepsShown old.state) (sym effect.1) (KeepsShown-pruned old.state less good.state.content refl (λ r q entry there. there)))
-ready_keeps old (VmoSize name) reply new good h none effect = shown_good old new good (KeepsShown-same old.state new effect.1)
-ready_keeps old (VmoInfo name) reply new good h none effect = shown_good old new good (KeepsShown-same old.state new effect.1)
 ready_keeps old (RootCreate region) reply new good h none effect =
     shown_good old new good (subst (KeepsShown old.state) (sym effect.1) (record { alone = λ w q alone same. alone; entries = λ r q entry there. there }))
 ready_keeps old (VmarAllocate region parent offset len flags caps) reply new good h none effect =
@@ -349,7 +346,6 @@ ready_keeps old (VmarProtect region addr len perm) reply new good h none effect 
     (protect_good old (region_of old.state.spaces.regions region.0).root.0 (addr / PAGE) (addr / PAGE + rounded len / PAGE) perm good)
 ready_keeps old (VmarDestroy region) reply new good h none effect =
     shown_good old new good (subst (KeepsShown old.state) (sym effect.1) (KeepsShown-destroyed old.state region.0 good.state.content))
-ready_keeps old (Maps region) reply new good h none effect = shown_good old new good (KeepsShown-same old.state new effect.1)
 ready_keeps old (MemRead region addr len) reply new good h none effect = absurd effect
 ready_keeps old (MemWrite region addr bytes) reply new good h none effect = absurd effect
-ready_keeps old Stat reply new good h none effect = shown_good old new good (KeepsShown-same old.state new effect.1)
+ready_keeps old command reply new good h none effect = shown_good old new good (KeepsShown-same old.state new effect.1)

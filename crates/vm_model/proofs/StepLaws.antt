@@ -8,7 +8,7 @@ use Rattle.vm_base.specs.Pages.{rounded}
 use Rattle.vm_base.specs.declared.limits.TheConstants.{PAGE, VMO_PAGES, PIN_PAGES}
 use Rattle.vm_base.specs.declared.refusal.Refusal.{Refusal}
 use Rattle.vm_model.specs.declared.command.Command.{Command}
-use Rattle.vm_model.specs.declared.command.Command.TheVariants.{VmoCreate, VmoChild, VmoClose, VmoSetSize, VmoRead, VmoWrite, VmoFill, VmoCommit, VmoDecommit, VmoZero, VmoPin, VmoUnpin, RootCreate, VmarAllocate, VmarMap, VmarUnmap, VmarProtect, VmarDestroy, Maps, MemRead, MemWrite, Stat, VmoSize, VmoInfo}
+use Rattle.vm_model.specs.declared.command.Command.TheVariants.{VmoCreate, VmoChild, VmoClose, VmoSetSize, VmoWrite, VmoFill, VmoCommit, VmoDecommit, VmoZero, VmoPin, VmoUnpin, RootCreate, VmarAllocate, VmarMap, VmarUnmap, VmarProtect, VmarDestroy, MemRead, MemWrite}
 use Rattle.vm_model.specs.declared.command.ChildKind.TheVariants.{Snapshot as SnapshotChild, Slice as SliceChild, Reference as ReferenceChild}
 use Rattle.vm_model.specs.declared.reply.Reply.{Reply}
 use Rattle.vm_model.specs.Contents.Content.{nothing, pages_of}
@@ -165,7 +165,6 @@ effect_keeps old (VmoChild name parent ReferenceChild offset size resizable no_w
 effect_keeps old (VmoClose name) reply new good h none effect =
     let off = AllOff-from_none (refusals old (VmoClose name)) none in
     subst (Keeps old) (sym effect.1) (close_keeps old name.0 good (not-false (is_open old name.0) off.0))
-effect_keeps old (VmoRead name offset len) reply new good h none effect = Keeps-same old new good effect.1
 effect_keeps old (VmoWrite name offset bytes) reply new good h none effect =
     let owned = touched (place_of old name.0 offset) (length bytes) in
     write_keeps old new (koid_of old name.0) (place_of old name.0 offset) bytes good (change_inside old name.0 offset (length bytes) owned good none) effect.1 effect.2
@@ -236,15 +235,12 @@ effect_keeps old (VmarProtect region addr len perm) reply new good h none effect
     let end = first + rounded len / PAGE in
     subst (Keeps old) (sym effect.1) (spaces_keeps old (protected old.spaces root first end perm) good
     (AreGoodSpaces-protected old.content old.spaces good.spaces root first end perm off.1.1.1.1.1.0) (is_mapped-protected old.spaces root first end perm))
-effect_keeps old (Maps region) reply new good h none effect = Keeps-same old new good effect.1
 effect_keeps old (VmarDestroy region) reply new good h none effect =
     subst (Keeps old) (sym effect.1) (loose_keeps old (record old { spaces = without_region old.spaces region.0 }) good
     (Loosens-spaces old (without_region old.spaces region.0) (AreGoodSpaces-without old.content old.spaces good.spaces region.0)))
-effect_keeps old (VmoSize name) reply new good h none effect = Keeps-same old new good effect.1
-effect_keeps old (VmoInfo name) reply new good h none effect = Keeps-same old new good effect.1
-effect_keeps old Stat reply new good h none effect = Keeps-same old new good effect.1
 effect_keeps old (MemRead region addr len) reply new good h none effect = absurd effect
 effect_keeps old (MemWrite region addr bytes) reply new good h none effect = absurd effect
+effect_keeps old command reply new good h none effect = Keeps-same old new good effect.1
 
 -- ---- the beginning
 
