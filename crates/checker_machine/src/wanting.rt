@@ -388,8 +388,9 @@ pub(crate) fn memory_wants(
     requires group { group_of call.now ≡ Group.Memory }
     requires backed { AreBacked (eager_content pages.now) (table_of maps.now) }
     ensures { (s : State) → result ≡ may_want (record {
-        state = record s { content = eager_content pages.now; spaces = spaces_of (regions_of regions.now) (table_of maps.now) };
-        ready = ready_by ready.now }) (command_of call.now) }
+      state = record s { content = eager_content pages.now; spaces = spaces_of (regions_of regions.now) (table_of maps.now) };
+      ready = ready_by ready.now;
+    }) (command_of call.now) }
 {
     match call {
         Call::MemRead { region, addr, len } => {
