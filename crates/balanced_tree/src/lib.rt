@@ -19,7 +19,6 @@ mod pairs;
 mod removal;
 mod rotation;
 mod row_slab;
-mod sending;
 mod spans;
 mod steps;
 mod tree_row;

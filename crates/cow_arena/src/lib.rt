@@ -10,7 +10,6 @@
 
 mod arena;
 mod node;
-mod sending;
 
 pub use arena::{CowArena, window_first};
 pub use node::{Node, NodeId, Pair, Side};

@@ -12,7 +12,6 @@ mod looking;
 mod node_table;
 mod owning;
 mod ranges;
-mod sending;
 mod tables;
 mod viewing;
 

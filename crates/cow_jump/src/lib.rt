@@ -9,7 +9,6 @@
 
 mod jumping;
 mod jumps;
-mod sending;
 
 pub use jumping::{
     above_by_jumps, above_with, holder_by_jumps, holder_by_jumps_counted, note_pair, renew_jump,

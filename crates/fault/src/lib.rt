@@ -22,7 +22,6 @@ mod needing;
 mod page_map;
 mod reading;
 mod ready;
-mod sending;
 mod translation;
 mod translations;
 mod writable;

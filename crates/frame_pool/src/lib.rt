@@ -6,6 +6,5 @@
 #![tactic(auto)]
 
 mod frame_pool;
-mod sending;
 
 pub use frame_pool::{Backlink, FramePool};

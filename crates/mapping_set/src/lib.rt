@@ -13,7 +13,6 @@
 
 mod mapping_set;
 mod piece;
-mod sending;
 mod taken;
 
 pub use mapping_set::MappingSet;

@@ -9,7 +9,6 @@
 mod filter;
 mod page_lists;
 mod row;
-mod sending;
 
 pub use balanced_tree::Steps;
 pub use page_lists::PageLists;

@@ -286,10 +286,3 @@ impl<P: PageStore> PageStore for RefusingStore<P> {
         self.inner.next_koid()
     }
 }
-
-fn may_cross<T: Send>() {}
-
-/// Shows that the store may go to another thread if the inner one may.
-fn refusing_store_may_cross<P: PageStore + Send>() {
-    may_cross::<RefusingStore<P>>();
-}

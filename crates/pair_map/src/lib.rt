@@ -11,7 +11,6 @@
 mod extent_map;
 mod pair_map;
 mod pair_row;
-mod sending;
 mod stretch_row;
 
 pub use extent_map::ExtentMap;

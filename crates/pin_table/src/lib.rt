@@ -7,6 +7,5 @@
 
 mod pages;
 mod pin_table;
-mod sending;
 
 pub use pin_table::PinTable;

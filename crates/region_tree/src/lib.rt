@@ -11,7 +11,6 @@
 #![tactic(auto)]
 
 mod fields;
-mod sending;
 mod tree;
 
 pub use tree::{Destroyed, Regions};

@@ -25,7 +25,6 @@ mod reading;
 mod room;
 mod running;
 mod scripts;
-mod sending;
 mod task;
 mod task_list;
 mod writing;

@@ -6,7 +6,6 @@
 //! store.
 #![tactic(auto)]
 
-mod sending;
 mod vm;
 
 pub use vm::Vm;

@@ -9,7 +9,6 @@
 #![tactic(auto)]
 
 mod child_rows;
-mod sending;
 mod vmo_table;
 mod vmos;
 
