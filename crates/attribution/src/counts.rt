@@ -20,7 +20,7 @@ pub(crate) struct Counts {
     pub charged: u64,
 }
 
-/// Counts the held pages of a VMO, from one to the next. Pages that are zero cost nothing.
+/// Counts the held pages of a VMO, from one to the next.
 pub(crate) fn count_held<P: Pages>(store: &P, koid: Koid) -> Counts
     requires good { IsGood (P.content store.now) }
     requires vmo { IsSome ((P.content store.now).count koid.0) }

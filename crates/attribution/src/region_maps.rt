@@ -18,8 +18,8 @@ use vm_model::{Run, Runs};
 
 /// Returns the runs of what is mapped on the pages of a live region (`ZX_INFO_PROCESS_MAPS`), by it or by regions below
 /// it, in address order. A run is the longest row of neighbouring pages that show rising pages of one VMO with one
-/// permission and are mapped by one region. The call costs the pieces of mappings on these pages. `HostMemory` if the
-/// host has too little memory, and only if some page of the region is mapped.
+/// permission and are mapped by one region. `HostMemory` if the host has too little memory, and only if some page of
+/// the region is mapped.
 #[tactic(auto,
 // the region of a name
 unfolding(vm_model::specs::Space::Regions::region_of, vm_base::specs::Entries::passes))]

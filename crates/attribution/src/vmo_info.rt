@@ -12,8 +12,7 @@ use vmo_table::{Target, VmoTable};
 
 /// Returns what a VMO holds (`ZX_INFO_VMO`), told for a name of the table that stands for it. This is the koid, the size
 /// of the name in bytes, the pages that are held, sole, shared with another VMO, and charged to the VMO, and its
-/// children. A VMO is charged for a frame if no VMO with a lesser koid shows the frame. The call costs the held pages of
-/// the VMO, and for each what the store takes to find the least koid that shows its frame.
+/// children. A VMO is charged for a frame if no VMO with a lesser koid shows the frame.
 pub fn info<P: Pages>(store: &P, vmos: &VmoTable, t: &Target) -> Info
     requires parts { AreParts (P.content store.now) vmos.now }
     requires named { IsNamed (names_of vmos.now) t.now }

@@ -118,7 +118,7 @@ fn child_wants(
     }
 }
 
-/// Returns whether a command on pages of a VMO may want memory. The call costs the pages of a range that are owned.
+/// Returns whether a command on pages of a VMO may want memory.
 pub(crate) fn pages_want(
     pages: &CheckerPages,
     vmos: &VmoTable,

@@ -102,8 +102,7 @@ impl CheckerPages {
 
     /// Makes a snapshot of a VMO under the next koid (`ZX_VMO_CHILD_SNAPSHOT`), and answers the koid. The snapshot has
     /// `count` pages. The first `seen` of them are the pages of `of` from `first` on: they show the same frames, so no
-    /// frame is taken. The others are zero. The call costs the pages that are held in the range. `HostMemory` if the host
-    /// has too little memory.
+    /// frame is taken. The others are zero. `HostMemory` if the host has too little memory.
     pub fn snapshot(
         &mut self,
         of: Koid,
@@ -167,8 +166,7 @@ impl CheckerPages {
         }
     }
 
-    /// Returns whether a page is held, and a VMO other than its own and another one, `w`, shows its frame. The call costs
-    /// the look-ups of three VMOs, however many show the frame.
+    /// Returns whether a page is held, and a VMO other than its own and another one, `w`, shows its frame.
     pub fn is_seen_by_third(&self, v: Koid, page: PageNo, w: Koid) -> bool
         requires { w.0 < (eager_content self.now).next }
         ensures some { result ≡ true → IsSeenByThird (eager_content self.now) v.0 page w.0 }
@@ -254,7 +252,7 @@ impl CheckerPages {
     }
 
     /// Changes the page count of a VMO to `count` (`zx_vmo_set_size`). Pages past the new end are dropped, and their frames
-    /// are free then, unless another VMO shows them. New pages are zero. The call costs the held pages that go.
+    /// are free then, unless another VMO shows them. New pages are zero.
     pub fn set_count(&mut self, v: Koid, count: PageNo)
         requires vmo { IsSome ((eager_content self.old).count v.0) }
         requires count { count ≤ VMO_PAGES }
@@ -267,7 +265,7 @@ impl CheckerPages {
         self.vmos.replace(0, v.0, count);
     }
 
-    /// Drops a VMO with its pages. The frames that no other VMO shows are free then. The call costs the held pages.
+    /// Drops a VMO with its pages. The frames that no other VMO shows are free then.
     pub fn drop_vmo(&mut self, v: Koid)
         requires { IsSome ((eager_content self.old).count v.0) }
         ensures content { eager_content self.new ≡ without (eager_content self.old) v.0 }

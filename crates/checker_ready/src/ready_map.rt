@@ -135,7 +135,7 @@ impl ReadyMap {
     }
 
     /// Makes what shows a page of a VMO from `first` to below `end` ready for reading at most, unless a pin covers the page:
-    /// a snapshot shares the other pages. The call costs the pages of the range that have notes.
+    /// a snapshot shares the other pages.
     pub(crate) fn restrict(&mut self, koid: Koid, first: PageNo, end: PageNo, pins: &PinTable)
         ensures rows { rows_of self.new
             ≡ changed_rows (row_limited (is_pinned (pins_of pins.now) koid.0)) koid.0 first end (rows_of self.old) }
@@ -149,7 +149,7 @@ impl ReadyMap {
     }
 
     /// Makes what shows a page of a VMO from `first` to below `end` ready for nothing, if the page does not lie in the VMO or
-    /// has another frame now than was noted. The call costs the pages of the range that have notes.
+    /// has another frame now than was noted.
     pub(crate) fn settle(&mut self, pages: &CheckerPages, koid: Koid, first: PageNo, end: PageNo)
         requires { IsSome ((eager_content pages.now).count koid.0) }
         ensures rows { rows_of self.new
@@ -163,8 +163,7 @@ impl ReadyMap {
         }
     }
 
-    /// Makes pages of an address space from `first` to below `end` ready for nothing. The call costs the notes of these
-    /// pages.
+    /// Makes pages of an address space from `first` to below `end` ready for nothing.
     pub(crate) fn drop_range(&mut self, root: RegionName, first: PageNo, end: PageNo)
         ensures rows { rows_of self.new ≡ without_range (rows_of self.old) root.0 first end }
         ensures spare { self.new.room ≡ self.old.room }

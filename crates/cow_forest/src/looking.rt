@@ -23,8 +23,7 @@ use page_store::Look;
 use std::sync::ledger::Ledger;
 use vm_base::{PageNo, Tag};
 
-/// Returns what a page of a VMO's node is. One with a row of its own, or outside the node's window, costs one look-up
-/// in the lists.
+/// Returns what a page of a VMO's node is.
 #[inline(always)]
 pub(crate) fn look_at(
     arena: &CowArena,
@@ -44,8 +43,7 @@ pub(crate) fn look_at(
     look_upwards(arena, lists, jumps, leaf, page)
 }
 
-/// Returns the frame that a page of a VMO's node shows. No other viewer is searched for. A page with a row of its own, or
-/// outside the node's window, costs one look-up in the lists, and any other one walk upwards.
+/// Returns the frame that a page of a VMO's node shows. No other viewer is searched for.
 #[inline(always)]
 pub(crate) fn shown_frame(
     arena: &CowArena,
@@ -65,7 +63,7 @@ pub(crate) fn shown_frame(
     frame_upwards(arena, lists, jumps, leaf, page)
 }
 
-/// Returns whether a page of a VMO's node, if there is one, shows this frame. The call costs what `shown_frame` does.
+/// Returns whether a page of a VMO's node, if there is one, shows this frame.
 pub(crate) fn shows(
     arena: &CowArena,
     lists: &PageLists,
@@ -196,8 +194,8 @@ fn look_found(
     }
 }
 
-/// Returns the first page from `from` on of a VMO's node that shows a frame. If it is `from` itself, the call costs one walk
-/// upwards by jumps, so that each page of a range that is held is found so. Otherwise it costs the search for the next row.
+/// Returns the first page from `from` on of a VMO's node that shows a frame. Page `from` itself is looked at first, by a
+/// walk with jumps.
 pub(crate) fn next_shown(
     arena: &CowArena,
     lists: &PageLists,
@@ -249,8 +247,8 @@ fn next_shown_by_rows(
     None
 }
 
-/// Returns the first page from `from` to below `end` of a VMO's node that shows a frame, or `end` if none does. The first costs
-/// a look, and if there are two, so does the second. Behind the first of more than two the call searches, up to the root.
+/// Returns the first page from `from` to below `end` of a VMO's node that shows a frame, or `end` if none does. The first page
+/// is looked at, and of two pages the second. Behind the first of more than two the call searches.
 pub(crate) fn next_shown_below(
     arena: &CowArena,
     lists: &PageLists,
@@ -283,7 +281,7 @@ pub(crate) fn next_shown_below(
 }
 
 /// Returns the first page from `from` on of a VMO's node that comes to a row, of the node or of one above it. No page
-/// before it shows a frame. The call costs one look-up for each node on the way upwards.
+/// before it shows a frame.
 fn next_row(arena: &CowArena, lists: &PageLists, leaf: NodeId, from: PageNo) -> Option<PageNo>
     requires exact { (in_use : ℕ → Bool) × IsExact (tree_of arena.now lists.now) all_in_sight in_use }
     requires leaf { IsSomeAnd (nodes_of arena.now leaf.0) (λ node. IsSome node.koid) }

@@ -61,8 +61,7 @@ impl NodeTable {
         Ok(())
     }
 
-    /// Returns the node of a number, which has an entry. If the entry stands in the array, this costs one load and a
-    /// comparison. Otherwise it costs a look-up in the map.
+    /// Returns the node of a number, which has an entry. The entry stands in the array or in the map.
     #[inline(always)]
     pub(crate) fn get(&self, number: u64) -> NodeId
         requires { IsSome (node_in self.now number) }
@@ -188,7 +187,7 @@ fn change(displaced: &mut HashMap<u64, NodeId>, number: u64, node: NodeId)
     let _entered = displaced.insert(number, node);
 }
 
-/// Takes a number out of the displaced ones. It costs one load if there are none.
+/// Takes a number out of the displaced ones.
 #[inline(always)]
 fn forget(displaced: &mut HashMap<u64, NodeId>, number: u64)
     ensures { displaced_in displaced.new.entries ≡ without_key (displaced_in displaced.old.entries) number }

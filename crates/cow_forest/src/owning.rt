@@ -26,7 +26,7 @@ use vm_base::{PageNo, Tag};
 
 /// Gives a page of a VMO's node a frame that no other VMO shows, and answers this frame. A frame that the VMO shows
 /// alone is kept. If there is room for a row, the page has a row of its own afterwards. Otherwise a page that is sole
-/// stays where it stands. A page with a frame in a row of its own costs one look-up in the lists.
+/// stays where it stands.
 #[inline(always)]
 pub(crate) fn own_page(
     arena: &CowArena,

@@ -75,8 +75,8 @@ pub(crate) struct PageRun {
     pub in_row: bool,
 }
 
-/// Makes pages of a VMO's node zero, one after another. Held pages in a row cost no look and no search: behind any other page
-/// the call goes on at the next one that is held.
+/// Makes pages of a VMO's node zero, one after another. Behind a page that was not held the call goes on at the next one that
+/// is.
 pub(crate) fn zero_in_turn(
     arena: &CowArena,
     lists: &mut PageLists,

@@ -1,9 +1,10 @@
 //! Giving a page of a VMO a frame of its own in the clone tree, and making one zero.
 //!
-//! It stands on `cow_split`, by which a page is cut off from the row that it sees, on `cow_jump`, by which a row further up is
-//! found in O(log n) steps over n nodes, and on `frame_pool`. A frame is copied only if another VMO shows it. Otherwise it moves to the page (`fork`), or is given back (`mark_zero`). Of the
-//! contracts, the layer above uses that the tree stays exact over the frames that are taken, that only the leaf's page
-//! changes what it shows (`HasOwned`, `HasZeroed`), and what becomes of the frames.
+//! It stands on `cow_split`, by which a page is cut off from the row that it sees, on `cow_jump`, by whose jumps a row
+//! further up is found, and on `frame_pool`. A frame is copied only if another VMO shows it. Otherwise it moves to the page
+//! (`fork`), or is given back (`mark_zero`). Of the contracts, the layer above uses that the tree stays exact over the
+//! frames that are taken, that only the leaf's page changes what it shows (`HasOwned`, `HasZeroed`), and what becomes of the
+//! frames.
 #![tactic(auto)]
 
 mod forking;

@@ -272,8 +272,7 @@ fn note_jump(
 }
 
 /// Returns the way from a node as far as its jump or step and the jump or step from there lead, where these two lead over as
-/// many nodes. The jump of a child of the node leads as far. So from a node with n nodes above it, a walk comes to its root
-/// by O(log n) jumps and steps.
+/// many nodes. The jump of a child of the node leads as far.
 fn far_jump(arena: &CowArena, lists: &PageLists, jumps: &JumpTable, at: NodeId) -> Option<Jump>
     requires forest { IsForest (nodes_of arena.now) arena.now.lists }
     requires node { IsSome (nodes_of arena.now at.0) }

@@ -1,4 +1,4 @@
-//! Jumps: ways upwards in the clone tree over many nodes at once, so that a walk to the row of a page costs O(log n) nodes of n.
+//! Jumps: ways upwards in the clone tree over many nodes at once, for walks to the row of a page.
 //!
 //! It stands on `cow_split`, whose walk upwards (`holder`) it shortens. `JumpTable` has a jump for some nodes; a snapshot gives
 //! its two nodes theirs (`note_pair`). A close retires those to nodes that go (`retire_pair`), and the node that takes the place of

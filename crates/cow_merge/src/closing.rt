@@ -24,23 +24,8 @@ use page_list::PageLists;
 /// sibling sees the parent from page 0 on and has fewer rows than the parent, the sibling takes over the parent's list
 /// instead, and its rows move into this list.
 ///
-/// The call takes no memory. It costs:
-///
-/// - the node's own rows;
-/// - the rows on a way down from the sibling to a VMO's node, which shows what this node shows above the parent
-///   (`leave_out_beside`);
-/// - the rows above the parent that are reached by pages outside the windows of this way, which is all pages if the way
-///   is longer than 64 nodes;
-/// - for each row on this way, a walk up to the row that its page sees, past the nodes between or by jumps;
-/// - at each row above the parent, a search for another VMO that sees there what the page sees;
-/// - the rows of the parent, and for each that moves into a hidden sibling, a search on each side of the sibling;
-/// - if the list is taken over, in place of all rows of the parent: the sibling's rows, and the rows of the parent
-///   outside one of the two windows. If the sibling is hidden, also the rows on a way down from each of its two
-///   children to a VMO's node. The rows of the parent under these and outside the windows of the two ways come to that,
-///   or all of them if one of the ways is longer than 64 nodes (`share_rows`);
-/// - the rows of the smaller of the two lists, to decide which list stays.
-///
-/// The tree is exact over the frames that are taken, before and after. Every other VMO shows what it showed.
+/// The call takes no memory. The tree is exact over the frames that are taken, before and after. Every other VMO shows
+/// what it showed.
 pub fn close(arena: &mut CowArena, lists: &mut PageLists, frames: &mut FramePool, leaf: NodeId)
     requires exact { IsExact (tree_of arena.old lists.old) all_in_sight (is_taken frames.old) }
     requires leaf { IsSomeAnd (nodes_of arena.old leaf.0) (λ node. IsSome node.koid) }

@@ -33,8 +33,7 @@ pub(crate) fn goes_over(arena: &CowArena, lists: &PageLists, hidden: NodeId, chi
     node.seen > 0 && has_fewer(lists, node.list, arena.node(hidden).list)
 }
 
-/// Reports whether a list has fewer rows than another. The function goes through both side by side, so it costs the
-/// rows of the smaller.
+/// Reports whether a list has fewer rows than another. The function goes through both side by side.
 fn has_fewer(lists: &PageLists, list: ListId, other: ListId) -> bool {
     let mut at = 0;
     let mut beside = 0;

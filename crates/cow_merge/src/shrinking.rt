@@ -22,13 +22,7 @@ use page_list::PageLists;
 use vm_base::PageNo;
 
 /// Changes the page count of a VMO's node to `count`, which is not more than it had. The frames that only pages past
-/// the new end showed are given back. The call takes no memory. It costs:
-///
-/// - the rows that the pages past the new end reach in the node's list and in its parent's;
-/// - the rows that hide these pages on a way down from the sibling to a VMO's node, which shows what they show further
-///   up (`leave_out_beside`);
-/// - the rows above the parent that are reached by pages outside the windows of this way, which is all pages if the way
-///   is longer than 64 nodes.
+/// the new end showed are given back. The call takes no memory.
 ///
 /// The tree is exact over the frames that are taken, before and after. Every page that is left shows what it showed.
 pub fn shrink(

@@ -46,7 +46,7 @@ pub(crate) struct Way {
 /// The call goes down from the sibling to a VMO's node, the witness. At each node it takes the child with the widest
 /// window over the pages that go on above the parent. A page of the witness that comes to a page of the parent sees
 /// above the parent what the leaf sees there, so no row changes. Pages under rows on the way down are cut off one by
-/// one. The call costs these rows, and some tests for each of at most `MOST_NODES` nodes.
+/// one. It gives up after `MOST_NODES` nodes.
 pub(crate) fn leave_out_beside(
     arena: &CowArena,
     lists: &mut PageLists,

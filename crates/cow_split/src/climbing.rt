@@ -13,7 +13,7 @@ use page_list::PageLists;
 use vm_base::PageNo;
 
 /// Returns the first row on the walk from a page of a node upwards, within the windows. `Nothing` if and only if there
-/// is none. This function is inlined and the walk upwards is not, so a page with a row of its own costs one look-up.
+/// is none. This function is inlined and the walk upwards is not.
 #[inline(always)]
 pub fn holder(arena: &CowArena, lists: &PageLists, leaf: NodeId, page: PageNo) -> Holder
     requires forest { IsForest (nodes_of arena.now) arena.now.lists }

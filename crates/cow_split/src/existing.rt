@@ -16,8 +16,7 @@ use page_list::PageLists;
 use vm_base::PageNo;
 
 /// Returns whether a page of a node is reached from a visible node on this side, other than `except`, through the
-/// windows and past no row. The search takes no memory. It costs one look-up in the lists for each node that it asks:
-/// at most all nodes on this side.
+/// windows and past no row. The search takes no memory.
 pub fn reached_from(
     arena: &CowArena,
     lists: &PageLists,

@@ -20,9 +20,7 @@ use vm_base::{Koid, PageNo, RegionName, Tag};
 
 impl Translations {
     /// Forgets those translations of `count` pages of a VMO, from page `first` on, that hold another frame than the
-    /// page has now. It costs a look-up, one look at the store for each of these pages that has translations, and a
-    /// step for each translation that is forgotten. The translations of a page that kept its frame cost nothing,
-    /// however many they are.
+    /// page has now.
     pub fn forget_changed<P: PageStore>(&mut self, store: &P, v: Koid, first: PageNo, count: u64)
         requires vmo { IsSome ((P.content store.now).count v.0) }
         requires range { first + count ≤ pages_of (P.content store.now) v.0 }
@@ -40,7 +38,7 @@ impl Translations {
     }
 
     /// Forgets the translations of a page of a VMO that hold another frame than `frame`. Answers the first link of the
-    /// list of those that stay, if there are some. It costs a look-up, and a step for each translation that is forgotten.
+    /// list of those that stay, if there are some.
     pub(crate) fn forget_others(
         &mut self,
         v: Koid,
@@ -108,8 +106,7 @@ impl Translations {
         }
     }
 
-    /// Leaves the translations of `count` pages of a VMO from the page `first` on for reading alone. It costs a step for
-    /// each of them, and one that may not be written costs no change.
+    /// Leaves the translations of `count` pages of a VMO from the page `first` on for reading alone.
     pub fn make_readonly(&mut self, v: Koid, first: PageNo, count: u64)
         requires range { first + count ≤ PAGES_END }
         ensures at { translations_of self.new ≡ with_read_only v.0 first (first + count) (translations_of self.old) }

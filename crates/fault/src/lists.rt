@@ -77,8 +77,7 @@ pub(crate) fn leave(
     lead_on(lists, gone);
 }
 
-/// Forgets the translations of a page of a VMO, whose list begins with the link `first`, and removes the list. It costs a
-/// step for each of them.
+/// Forgets the translations of a page of a VMO, whose list begins with the link `first`, and removes the list.
 pub(crate) fn drop_list(
     places: &mut PageMap,
     lists: &mut PageMap,
@@ -128,8 +127,7 @@ pub(crate) fn may_hold(link: &Link, frame: Option<Tag>) -> bool
     }
 }
 
-/// Leaves the translations of a list, which begins with the link `first`, for reading alone. It costs a step for each of
-/// them, and no look-up.
+/// Leaves the translations of a list, which begins with the link `first`, for reading alone.
 pub(crate) fn restrict_list(links: &mut Slab<Link>, first: usize)
     requires { BeginsList links.old first }
     ensures links { get links.new ≡ restricted_beside (get links.old) first }

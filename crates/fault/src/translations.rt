@@ -123,8 +123,7 @@ impl Translations {
     }
 
     /// Gives a page this translation. The page is not translated with this frame. Forgets the translations of the page
-    /// of the VMO that hold another frame. There is room. The call costs a look-up of the list of that page, an
-    /// insertion, another one if the page has no list, and a step for each translation that is forgotten.
+    /// of the VMO that hold another frame. There is room.
     pub(crate) fn translate(&mut self, root: RegionName, page: PageNo, translation: Translation)
         requires same { IsOfEntry (translations_of self.old) root.0 page translation.entry }
         requires other { HoldsOther (translated_frame translation) (translations_of self.old root.0 page) }
@@ -285,8 +284,7 @@ impl Translations {
         }
     }
 
-    /// Returns the first page of a VMO from `from` to below `end` that has translations, and their list. If that is one page,
-    /// the call costs one look-up.
+    /// Returns the first page of a VMO from `from` to below `end` that has translations, and their list.
     #[inline(always)]
     pub(crate) fn list_below(
         &self,

@@ -43,8 +43,7 @@ impl WritablePage {
 }
 
 impl Translations {
-    /// Tests whether a write may touch a page, and answers what it finds. It is refused as `check` refuses it, and costs
-    /// what `check` costs.
+    /// Tests whether a write may touch a page, and answers what it finds. It is refused as `check` refuses it.
     #[inline(always)]
     pub(crate) fn check_write<P: PageStore>(
         &self,

@@ -27,8 +27,7 @@ impl Translations {
     /// Writes bytes, at most `DATA_BYTES`, from an address of the address space of a root region on. Answers how many
     /// page faults that took. Each page that is not translated for writing takes a page fault: the page of the VMO is
     /// owned (copy on write), its other translations are forgotten if its frame changed, and the page is translated for
-    /// writing. Beside some look-ups this costs a step for each translation that is forgotten, and nothing for those
-    /// that stay. The first page that is refused decides the refusal: `NotFound` if nothing is mapped there,
+    /// writing. The first page that is refused decides the refusal: `NotFound` if nothing is mapped there,
     /// `AccessDenied` if the mapping may not be written, `OutOfRange` if the page that it shows lies past the end of
     /// the VMO. Behind these comes `NoMemory` if too few frames are free. `HostMemory` if the host has too little
     /// memory, and only if a page was not translated for writing. A refusal writes nothing.

@@ -126,7 +126,6 @@ impl MappingSet {
 
     /// Returns the entries from the first one at or past the page `from` to the end of its piece. `None` if and only if
     /// there is none. If each call begins where the last answer ended, there are as many calls as pieces from there on.
-    /// A call costs one look-up.
     pub fn next_piece(&self, root: RegionName, from: PageNo) -> Option<Piece>
         ensures piece { MatchOption result (IsBareFrom (table_of self.now root.0) from)
             (IsNextPiece (table_of self.now root.0) from) }
@@ -195,8 +194,7 @@ impl MappingSet {
 
     /// Returns the lowest page from `from` on such that it and the next ones, `count` in all, are clear and end at the
     /// limit or before. A page is clear if it has no entry that belongs to the region, and is in no place that was
-    /// noted in the region. `None` if and only if there is no such page. It costs one search by gaps, whatever the
-    /// region holds.
+    /// noted in the region. `None` if and only if there is no such page.
     pub fn first_clear(
         &self,
         root: RegionName,
@@ -215,7 +213,7 @@ impl MappingSet {
     }
 
     /// Returns whether none of `count` pages from `first` on has an entry that belongs to the region, or is in a place
-    /// that was noted in the region. It costs one look-up.
+    /// that was noted in the region.
     pub fn is_clear(&self, root: RegionName, region: RegionName, first: PageNo, count: u64) -> bool
         ensures { IsTrue result ↔
             IsClear (places_of self.now (list_number region.0 root.0)) (table_of self.now) root.0 region.0 first count }
@@ -225,8 +223,7 @@ impl MappingSet {
 
     /// Takes out the first entries of a range of `count` pages from `first` on: the first entry of the range, and all
     /// others of its piece that lie in the range. Answers them. `None` if and only if the range has no entry. What is
-    /// left of the piece, before the range or behind it, stays. `first + count` may pass 2^64. The call costs a fixed
-    /// number of look-ups and changes, however many pages the piece has.
+    /// left of the piece, before the range or behind it, stays. `first + count` may pass 2^64.
     pub fn carve(&mut self, root: RegionName, first: PageNo, count: u64) -> Option<Piece>
         requires room { 1 ≤ mapping_spare self.old }
         ensures piece { MatchOption result (IsBare (table_of self.old root.0) first (first + count))
@@ -256,7 +253,6 @@ impl MappingSet {
     }
 
     /// Takes out one piece of the entries that belong to a region, and answers it. `None` if and only if there is none.
-    /// The call costs a fixed number of look-ups and changes, however many pages the piece has.
     pub fn drop_region(&mut self, root: RegionName, region: RegionName) -> Option<Piece>
         ensures piece { MatchOption result (has_entry (table_of self.old) root.0 region.0 0 PAGES_END ≡ false)
             (IsPieceIn (table_of self.old root.0) region.0) }

@@ -41,7 +41,7 @@ impl Filter {
         }
     }
 
-    /// Returns the word of a list: 0 only if no page of it has a row. It costs one load.
+    /// Returns the word of a list: 0 only if no page of it has a row.
     #[inline(always)]
     pub(crate) fn word(&self, list: u64) -> u64
         ensures { result ≡ word_in self.now list }
@@ -54,7 +54,7 @@ impl Filter {
         }
     }
 
-    /// Returns whether the bit of a page of a list is set: false only if the page has no row. It costs one load.
+    /// Returns whether the bit of a page of a list is set: false only if the page has no row.
     #[inline(always)]
     pub(crate) fn may_have(&self, list: u64, page: PageNo) -> bool
         ensures { result ≡ has_bit self.now list page }
@@ -82,7 +82,7 @@ impl Filter {
         self.left = self.left.saturating_sub(1);
     }
 
-    /// Returns whether `more` rows may come before the filter has to be tested again. It costs one comparison.
+    /// Returns whether `more` rows may come before the filter has to be tested again.
     #[inline(always)]
     pub(crate) fn suits(&self, more: u64) -> bool {
         more <= self.left
@@ -91,9 +91,6 @@ impl Filter {
     /// Makes the filter anew if it is too small for the rows of a tree and `more` of them, or if many rows went.
     /// `HostMemory` if the filter has to grow and the host has too little memory: the filter then stays as it was. A
     /// filter that need not grow takes no memory.
-    ///
-    /// To make the filter anew costs a look-up for each row and a store for each word. Otherwise the call costs a few
-    /// comparisons.
     pub(crate) fn renew(&mut self, tree: &BalancedTree<Row>, more: u64) -> Result<(), HostMemory>
         requires { AreFiltered self.old tree.now }
         ensures { AreFiltered self.new tree.now }
@@ -144,7 +141,7 @@ impl Filter {
     }
 
     /// Clears all bits, and gives the filter `len` words. `HostMemory` if the host has too little memory for as many,
-    /// and then no bit is cleared. It costs a store for each word.
+    /// and then no bit is cleared.
     fn clear(&mut self, len: u64) -> Result<(), HostMemory>
         ensures { OnErr result (IsMore self.old self.new) }
     {
@@ -163,7 +160,7 @@ impl Filter {
         Ok(())
     }
 
-    /// Sets the bit of each row of a tree, whatever bits are set before. It costs a look-up and a store for each row.
+    /// Sets the bit of each row of a tree, whatever bits are set before.
     fn fill(&mut self, tree: &BalancedTree<Row>)
         ensures { AreFiltered self.new tree.now }
     {

@@ -61,10 +61,6 @@ impl PageLists {
     /// since the last time. `HostMemory` if the host has too little memory for the rows, or for a filter that has to
     /// grow. A filter that only has bits to clear takes no memory, and is left as it is if the host has no memory for
     /// the rows. The rows stay as they are on both answers, and no room is lost.
-    ///
-    /// If the room is there and the filter stays, the call costs two comparisons. Otherwise it costs what room for the
-    /// rows costs. A filter that is made anew costs a look-up for each row and a store for each word more: over all
-    /// calls, a few for each row that came or went, or for which room was asked.
     #[inline(always)]
     pub fn reserve(&mut self, n: u64) -> Result<(), HostMemory>
         ensures room { OnOk result (n ≤ self.new.spare) }
@@ -113,8 +109,7 @@ impl PageLists {
         self.tree.spare() as u64
     }
 
-    /// Returns the slot of a page of a list. `None` if and only if the page has no row. It costs one test if the filter
-    /// says so, and otherwise a look-up in the tree, O(log n).
+    /// Returns the slot of a page of a list. `None` if and only if the page has no row.
     pub fn find(&self, list: ListId, page: PageNo) -> Option<Slot>
         ensures { result ≡ slots_of self.now list.0 page }
     {
@@ -125,14 +120,14 @@ impl PageLists {
     }
 
     /// Returns which pages of a list may have a row, by the page's number modulo 64: bit b is clear only where no page
-    /// p with p % 64 = b has one. It costs one load.
+    /// p with p % 64 = b has one.
     pub fn pages(&self, list: ListId) -> u64
         ensures { (page : ℕ) → bit_at result (page % 64) ≡ 0 → slots_of self.now list.0 page ≡ None }
     {
         self.filter.word(list.0)
     }
 
-    /// Adds a row to a page of a list that has none. It costs one way down the tree, and sets one bit of the filter.
+    /// Adds a row to a page of a list that has none.
     pub fn insert(&mut self, list: ListId, page: PageNo, slot: Slot)
         requires absent { slots_of self.old list.0 page ≡ None }
         requires room { 1 ≤ self.old.spare }
@@ -145,8 +140,7 @@ impl PageLists {
         self.filter.set(list.0, page);
     }
 
-    /// Takes the row of a page of a list out, and answers its slot. It costs one way down the tree, O(log n). The
-    /// filter stays.
+    /// Takes the row of a page of a list out, and answers its slot. The filter stays.
     pub fn remove(&mut self, list: ListId, page: PageNo) -> Slot
         requires { IsSome (slots_of self.old list.0 page) }
         ensures slot { slots_of self.old list.0 page ≡ Some result }
@@ -159,8 +153,7 @@ impl PageLists {
         self.tree.remove(pair_rank(list.0, page)).slot
     }
 
-    /// Takes the row of a page of a list out, if it has one, and answers its slot. It costs one test if the filter says
-    /// that the page has none, and otherwise one way down the tree, O(log n).
+    /// Takes the row of a page of a list out, if it has one, and answers its slot.
     pub fn take(&mut self, list: ListId, page: PageNo) -> Option<Slot>
         ensures slot { result ≡ slots_of self.old list.0 page }
         ensures slots { slots_of self.new ≡ with_pair (slots_of self.old) list.0 page None }
@@ -202,8 +195,7 @@ impl PageLists {
         self.tree.replace(Row::new(list, page, slot));
     }
 
-    /// Returns the least page of a list from `from` on that has a row. `None` if and only if there is none. It costs
-    /// one test if the filter says that the list is empty, and otherwise a look-up in the tree, O(log n).
+    /// Returns the least page of a list from `from` on that has a row. `None` if and only if there is none.
     pub fn next(&self, list: ListId, from: PageNo) -> Option<PageNo>
         ensures { IsNext (slots_of self.now list.0) from result }
     {

@@ -96,7 +96,7 @@ pub trait PageStore: Drop {
         ensures { result ≡ look_at (content self.now) v.0 ((content self.now).page v.0 page) };
 
     /// Returns the frame of a page below the count. `None` if the page is zero. It says what `look` does, but not whether
-    /// another VMO shows the frame: a store may find that out at a greater cost.
+    /// another VMO shows the frame, for which a store may have to search.
     fn frame(&self, v: Koid, page: PageNo) -> Option<Tag>
         requires page { page < pages_of (content self.now) v.0 }
         ensures { result ≡ tag_held ((content self.now).page v.0 page) };

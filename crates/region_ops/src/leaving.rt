@@ -13,8 +13,8 @@ use pages::{Pages, drop_gone};
 use vm_base::{PageNo, RegionName};
 use vmo_table::VmoTable;
 
-/// Takes the entries of `count` pages from `first` on out of an address space. It costs the pieces that it takes out.
-/// If there is room for two pieces more, it wants no memory.
+/// Takes the entries of `count` pages from `first` on out of an address space. If there is room for two pieces more,
+/// it wants no memory.
 pub(crate) fn clear_range<P: Pages>(
     store: &mut P,
     vmos: &mut VmoTable,
@@ -36,8 +36,7 @@ pub(crate) fn clear_range<P: Pages>(
     }
 }
 
-/// Takes the entries that belong to a region out of an address space. It costs the region's pieces, and wants no
-/// memory.
+/// Takes the entries that belong to a region out of an address space. It wants no memory.
 pub(crate) fn clear_region<P: Pages>(
     store: &mut P,
     vmos: &mut VmoTable,

@@ -80,8 +80,7 @@ impl MapRequest<VmoName> {
 /// answers the address. The first page that is shown is the one at `vmo_offset` bytes in the name. `offset` is in bytes
 /// from the start of the region. The mapping begins there with `SPECIFIC`, and with `OVERWRITE`, which takes out what
 /// is mapped there. It ends at or below `offset` with `UPPER_LIMIT`. With none of the three, `offset` is 0, and any
-/// place will do. The call costs the pieces that it overwrites, and not the pages of the mapping. Refusals, in their
-/// order:
+/// place will do. Refusals, in their order:
 ///
 /// - `AccessDenied` if the region does not allow what is asked for in `perm`, or the name may not write and `perm` has
 ///   writing;

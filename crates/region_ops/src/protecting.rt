@@ -23,7 +23,7 @@ use region_tree::{Region, Regions};
 use vm_base::{PageNo, Perm, Refusal, RegionName};
 
 /// Changes what accesses to a range of a live region may do (`zx_vmar_protect`). The range is `len` bytes, rounded up
-/// to whole pages, from an address on. The call costs the pieces of the range. Refusals, in their order:
+/// to whole pages, from an address on. Refusals, in their order:
 ///
 /// - `AccessDenied` if the region does not allow what is asked for in `perm`;
 /// - `InvalidArgs` if the address is not at a page, `len` is 0, the range passes an end of the region or has a page of
@@ -81,8 +81,7 @@ pub fn protect_in(
 }
 
 /// Finds the pages of a range of a live region, which is `above`, whose permissions are to be changed. Each of them has an
-/// entry that belongs to the region. Refusals as for `protect`, without `HostMemory`. Nothing changes. The call costs the
-/// pieces of the range.
+/// entry that belongs to the region. Refusals as for `protect`, without `HostMemory`. Nothing changes.
 pub fn ask_to_protect(
     regions: &Regions,
     maps: &MappingSet,

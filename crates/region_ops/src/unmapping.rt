@@ -25,8 +25,8 @@ use vm_base::{HostMemory, PageNo, Refusal, RegionName};
 use vmo_table::VmoTable;
 
 /// Unmaps a range of a live region (`zx_vmar_unmap`): `len` bytes, rounded up to whole pages, from an address on.
-/// Regions below it that have no other pages are destroyed. A VMO that nothing keeps any more leaves. The call costs
-/// the pieces of the range, and the regions that it destroys. Refusals, in their order:
+/// Regions below it that have no other pages are destroyed. A VMO that nothing keeps any more leaves. Refusals, in
+/// their order:
 ///
 /// - `InvalidArgs` if the address is not at a page, `len` is 0, the range passes an end of the region, or a live child
 ///   of the region has a page in the range and one outside;
@@ -110,7 +110,7 @@ pub fn ask_to_unmap(
 }
 
 /// Destroys a live region and all below it, with their mappings (`zx_vmar_destroy`). A VMO that nothing keeps any more
-/// leaves. The call costs the regions and the pieces that go, and never wants memory.
+/// leaves. The call never wants memory.
 pub fn destroy<P: Pages>(
     store: &mut P,
     vmos: &mut VmoTable,

@@ -170,9 +170,8 @@ impl Regions {
     }
 
     /// Returns the first page of the lowest free place of `count` pages in a live region. The place ends at most `limit`
-    /// pages behind the region's start. `None` if and only if there is none. The search needs no note of a place. It costs a
-    /// search for each change between children and mappings up to the place. If places are noted, `find_gap_noted` costs one
-    /// search.
+    /// pages behind the region's start. `None` if and only if there is none. The search needs no note of a place.
+    /// `find_gap_noted` rests on one.
     pub fn find_gap(
         &self,
         maps: &MappingSet,
@@ -195,7 +194,7 @@ impl Regions {
     }
 
     /// Returns what `find_gap` answers for a live region, which is `above`. The set of mappings has noted the live
-    /// children of each region. It costs one search by gaps, also if there is no place. The place is the lowest one.
+    /// children of each region. The place is the lowest one.
     pub fn find_gap_noted(
         &self,
         maps: &MappingSet,
@@ -239,7 +238,7 @@ impl Regions {
     }
 
     /// Returns what `is_free` answers for a live region, which is `above`. The set of mappings has noted the live
-    /// children of each region. It costs one look-up.
+    /// children of each region.
     pub fn is_free_noted(
         &self,
         maps: &MappingSet,

@@ -6,7 +6,7 @@ ghost use Rattle.script_io.specs.Faults.{HasCause, IsCutOff};
 
 use vm_base::Failed;
 
-/// A sink for bytes. Whether a sink tells its bytes matters to clauses alone, and costs nothing.
+/// A sink for bytes. Whether a sink tells its bytes matters to clauses alone.
 pub trait Sink {
     /// The bytes that it took, if it tells them.
     ghost contents: { Self → Option (List ℕ) };

@@ -6,7 +6,7 @@ ghost use Rattle.script_io.specs.Faults.{HasCause};
 
 use vm_base::Failed;
 
-/// A source of bytes. Whether a source tells its bytes matters to clauses alone, and costs nothing.
+/// A source of bytes. Whether a source tells its bytes matters to clauses alone.
 pub trait Source {
     /// The bytes that it has left, if it tells them.
     ghost remaining: { Self → Option (List ℕ) };

@@ -17,8 +17,8 @@ pub fn is_blank(byte: u8) -> bool
     matches!(byte, b' ' | b'\t' | b'\r')
 }
 
-/// Reports whether a line begins with these bytes. They are compared one by one: if they are known to the compiler, as the
-/// words of commands are, this costs less than to compare many at a time.
+/// Reports whether a line begins with these bytes. They are compared one by one: the compiler unrolls this if it knows
+/// them, as it knows the words of commands.
 #[inline(always)]
 pub fn begins_with(line: &[u8], front: &[u8]) -> bool
     ensures { result ≡ pointwise nat_eq (take (length front.now) line.now) front.now }
@@ -60,7 +60,7 @@ fn word_len(line: &[u8]) -> usize
 }
 
 /// Does what `word_len` does, for a line that begins with no blank and words that are likely to be short. It looks at
-/// their bytes one by one, which costs less than a search of many at a time.
+/// their bytes one by one.
 #[inline(always)]
 fn short_word_len(line: &[u8]) -> usize
     requires some { 0 < length line.now }

@@ -26,7 +26,7 @@ use vm_base::{Failed, Koid, PageNo};
 /// is furthest to the left, and no number in the text depends on where a node stands in memory. `Failed` if the sink failed, and then
 /// it took a front part of the text.
 ///
-/// It takes no memory. For each koid that was given it costs a look-up, for each node a few calls of the sink, and for each row one.
+/// It takes no memory.
 pub fn write_forest<K: Sink>(form: Form, forest: &CowForest, sink: &mut K) -> Result<(), Failed>
     ensures text { SinkTakes result (K.contents sink.old) (K.contents sink.new) (forest_text form forest.now) }
     ensures nodes { HasEachNodeOnce forest.now (all_nodes forest.now) }

@@ -1,5 +1,5 @@
 //! The copies of pinned pages that a snapshot owns at once. So each pinned page keeps its frame for itself. A walk goes
-//! from one pinned page to the next, and costs nothing for the pages between.
+//! from one pinned page to the next.
 
 ghost use Rattle.std.specs.Prelude.{◌≡◌, ℕ, ◌+◌, ◌≤◌, length};
 ghost use Rattle.vm_base.specs.declared.limits.TheConstants.{VMO_PAGES};
@@ -38,7 +38,7 @@ pub fn next_copy(
 }
 
 /// Returns the number of pages of a snapshot that are copies of pinned pages. The snapshot sees `seen` pages of `of` from
-/// the page `first` of `of` on. The call costs O(n log p) for n of them, if p pages are pinned in all.
+/// the page `first` of `of` on.
 pub fn count_copies(pins: &PinTable, of: Koid, first: PageNo, seen: PageNo) -> u64
     requires { first + seen ≤ VMO_PAGES }
     ensures { result ≡ length (copies_of (is_pinned (pins_of pins.now) of.0) first seen 0) }

@@ -1,4 +1,4 @@
-//! Walks over the held pages of a range. The zero pages of a long range cost nothing.
+//! Walks over the held pages of a range. They go past the zero pages of a long range.
 
 ghost use Rattle.std.specs.Prelude.{◌≡◌, ℕ, ◌<◌, ◌≤◌, None, IsSome, IfSome, IfNone};
 ghost use Rattle.vm_base.specs.Search.{HasNone, IsFirst, IsFirstOrNone};
@@ -41,9 +41,8 @@ pub(crate) struct HeldPage {
 }
 
 /// Returns the first page that is held, as `next_held_below` finds it, and whether it is sole, which takes a look at the
-/// page. If the held pages before stand in a row (`in_row`), page `from` is looked at before a search. So held pages in a
-/// row cost one look each, and held pages that stand apart a search and a look each. The answer does not depend on
-/// `in_row`.
+/// page. If the held pages before stand in a row (`in_row`), page `from` is looked at before a search. The answer does
+/// not depend on `in_row`.
 pub(crate) fn next_with_sole<P: Pages>(
     store: &P,
     v: Koid,

@@ -9,8 +9,7 @@ use crate::held_pages::next_with_sole;
 use pages::{Look, Pages};
 use vm_base::{HostMemory, Koid, PageNo};
 
-/// Returns the number of frames that it takes to own the pages from `first` to below `end`: as many as are not sole. A
-/// range of one page costs one look.
+/// Returns the number of frames that it takes to own the pages from `first` to below `end`: as many as are not sole.
 #[inline(always)]
 pub fn need_of<P: Pages>(store: &P, v: Koid, first: PageNo, end: PageNo) -> u64
     requires good { IsGood (P.content store.now) }
