@@ -134,8 +134,8 @@ fn push_report<K: Sink>(check: &Check, sink: &mut K) -> Status
 /// of the script. `ILLEGAL k` or `MALFORMED k` with the number of the first line, from 1, of which `Checker::feed` says so;
 /// `ILLEGAL k` with the number of lines plus 1 if the lines end while a reply line is missing.
 ///
-/// The memory grows with what the machine holds at one time, with the pages of standing mappings that were ever ready, and with
-/// the regions that are made. Nothing else stays of a line (`Checker`).
+/// The memory grows with what the machine holds at one time and with the regions that are made, and nothing else stays of a line
+/// (`Checker`).
 ///
 /// `HostMemory` if the host has too little memory, `ReadFault` if the source fails, and `ScriptLimit` if it gives more than
 /// `SCRIPT_BYTES` bytes: nothing was written. `WriteFault` if the sink fails. `Usage` for other words, and nothing is touched.
