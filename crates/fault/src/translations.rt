@@ -100,7 +100,7 @@ impl Translations {
 
     /// Gives a page this translation. The page may be translated already, for the same entry. Forgets the translations
     /// of the page of the VMO that hold another frame. There is room. `link` is the link of the page, if it has one, or
-    /// was. If it still is, and no other translation has to be forgotten, the call makes no look-up.
+    /// was. It is compared with the page before it is used.
     pub(crate) fn set(
         &mut self,
         root: RegionName,

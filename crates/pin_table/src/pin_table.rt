@@ -118,8 +118,7 @@ impl PinTable {
         }
     }
 
-    /// Reports whether one of `count` pages of a VMO, from `first` on, is pinned. It takes one look-up. `first + count`
-    /// may pass 2^64.
+    /// Reports whether one of `count` pages of a VMO, from `first` on, is pinned. `first + count` may pass 2^64.
     pub fn pinned(&self, koid: Koid, first: PageNo, count: u64) -> bool
         ensures { result ≡ any_pinned (pins_of self.now) koid.0 first (first + count) }
     {

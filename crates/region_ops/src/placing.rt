@@ -45,7 +45,7 @@ pub(crate) fn allows(region: Region, caps: Perm) -> bool
 #[derive(Clone, Copy, Debug)]
 pub struct SearchedRegion {
     pub region: Region,
-    /// The set of mappings has noted the live children of each region. A place is found by one search then.
+    /// The set of mappings has noted the live children of each region.
     pub noted: bool,
 }
 
