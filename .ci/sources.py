@@ -1,4 +1,5 @@
-"""Reads the sources of the crates: their calls with comments and clauses, their enums, and what the files bring in by name."""
+"""Reads the sources of the crates: their calls with comments and clauses, their enums and constants, what the files bring in by name,
+and the words that stand in them."""
 import functools
 import pathlib
 import re
@@ -37,19 +38,24 @@ class Call(NamedTuple):
         return result.strip().rstrip("{").strip() if arrow and head.count("(") == head.count(")") else ""
 
 
+def edges(top=TOP):
+    """Returns the libraries that each crate names in crates.txt, lowest crate first."""
+    rows = (it.partition(":") for it in (top / "crates.txt").read_text().splitlines() if ":" in it and not it.startswith("#"))
+    return {crate: names.split() for crate, _, names in rows}
+
+
 def crate_names(top=TOP):
     """Returns the names of all crates, lowest first."""
-    lines = (top / "crates.txt").read_text().splitlines()
-    return [it.partition(":")[0].split()[0] for it in lines if it.strip() and not it.startswith("#")]
+    return [*edges(top)]
 
 
 def rt_files(crate, top=TOP):
     return sorted((top / "crates" / crate / "src").rglob("*.rt"))
 
 
-def shown_names(root):
-    """Returns the names that the root file of a crate hands out."""
-    used = re.findall(r"^pub use [\w:]*?(?:\{([^}]*)\}|(\w+));", root, re.M | re.S)
+def shown_names(root, use="pub use "):
+    """Returns the names that the root file of a crate hands out: those of a library, or those that a program itself brings in."""
+    used = re.findall(rf"^{use}[\w:]*?(?:\{{([^}}]*)\}}|(\w+));", root, re.M | re.S)
     return {it.strip() for many, one in used for it in (many or one).split(",") if it.strip()}
 
 
@@ -137,9 +143,19 @@ def calls_of(path, every=False):
             is_trait = re.match(r"^(pub )?trait\b", line) is not None
         elif line.startswith("}"):
             subject, trait, is_trait = None, None, False
-        found = re.match(r"^(\s*)(pub )?(?:pub\(crate\) )?(?:extern \"C\" )?fn (\w+)", line) if "fn " in line else None
+        found = re.match(r"^(\s*)(pub )?(?:pub\(crate\) )?(?:const )?(?:unsafe )?(?:extern \"C\" )?fn (\w+)", line) if "fn " in line else None
         if found and len(found[1]) == (4 if subject else 0) and (every or found[2] or is_trait or trait):
             yield Call(path, subject, trait, found[3], *split_call(lines_of_call(lines, at, found[1])), comment_above(lines, at))
+
+
+def constants(top=TOP):
+    """Returns the numbers of the public constants of the crates, by name."""
+    found = {}
+    for crate in crate_names(top):
+        for path in rt_files(crate, top):
+            for name, value in re.findall(r"^pub const (\w+): [ui]\w+ = ([\w *+<-]+);", text_of(path), re.M):
+                found[name] = eval(re.sub(r" as \w+", "", value), {"__builtins__": {}}, found)
+    return found
 
 
 def enums(top=TOP):
