@@ -41,7 +41,7 @@ class Call(NamedTuple):
 def edges(top=TOP):
     """Returns the libraries that each crate names in crates.txt, lowest crate first."""
     rows = (it.partition(":") for it in (top / "crates.txt").read_text().splitlines() if ":" in it and not it.startswith("#"))
-    return {crate: names.split() for crate, _, names in rows}
+    return {crate.split()[0]: names.split() for crate, _, names in rows}
 
 
 def crate_names(top=TOP):
@@ -148,6 +148,7 @@ def calls_of(path, every=False):
             yield Call(path, subject, trait, found[3], *split_call(lines_of_call(lines, at, found[1])), comment_above(lines, at))
 
 
+@functools.cache
 def constants(top=TOP):
     """Returns the numbers of the public constants of the crates, by name."""
     found = {}
