@@ -1,9 +1,11 @@
 -- Laws of zeroing a range, whole pages in a row and page by page: what it takes, and what it leads to.
-use Rattle.std.proofs.Common.{min, [], ◌≡◌, ◌≢◌, ℕ, zero, suc, ◌+◌, ◌-◌, ◌*◌, ◌/◌, ◌<◌, ◌≤◌, Bool, true, false, not, cond, ◌&&◌, List, ◌∷◌, length, replicate, Option, None, Some, ◌⊎◌, inl, inr, refl, sym, ap, subst, ◌∙◌, arith}
+use Rattle.std.proofs.Common.{max, min, [], ◌≡◌, ◌≢◌, ℕ, zero, suc, ◌+◌, ◌-◌, ◌*◌, ◌/◌, ◌<◌, ◌≤◌, Bool, true, false, not, cond, ◌&&◌, List, ◌∷◌, length, replicate, Option, None, Some, ◌⊎◌, inl, inr, refl, sym, ap, subst, ◌∙◌, arith}
 use Rattle.std.specs.Prelude.{IsSome, is_some}
 use Rattle.std.specs.List.{range_with_len, list_any, filter}
 use Rattle.std.proofs.lemmas.Bool.{cases_Bool, both_ways, and_left, or_left, or_right}
 use Rattle.std.proofs.lemmas.Bool.Decides.{nat_tests}
+use Rattle.std.proofs.lemmas.List.FromFn.{length-range_with_len}
+use Rattle.std.proofs.Math.Nat.{le-max_left}
 use Rattle.vm_base.specs.declared.limits.TheConstants.{PAGE}
 use Rattle.vm_base.proofs.SearchLaws.{bit-true}
 use Rattle.vm_model.specs.Contents.Content.{Content, is_held, pages_of, used, sole, IsGood}
@@ -23,7 +25,8 @@ use Rattle.vm_model.proofs.ZeroesLaws.{ZeroedPage, ZeroedPage-from_ZeroesPage}
 use Rattle.vmo_ops.proofs.ModelLaws.{count_from-next, count_from-split, zeroed-empty, zeroed-more, Zeroes-none, need-zero}
 use Rattle.pages.specs.Held.{held_from}
 use Rattle.pages.proofs.HeldLaws.{held-count}
-use Rattle.vmo_ops.specs.Costs.{held_touched}
+use Rattle.vmo_ops.specs.declared.owning.TheConstants.{UNSEEN_PAGES}
+use Rattle.vmo_ops.specs.Costs.{held_touched, AsksToZero}
 use Rattle.vm_model.specs.Contents.Writing.{part_at}
 use Rattle.vmo_ops.proofs.PartLaws.{part_bytes-replicate}
 use Rattle.vmo_ops.proofs.RowLaws.{Run, Takes, IsUnderWay, IsUnderWay-start, IsUnderWay-step}
@@ -75,6 +78,19 @@ pub held_touched-most : (c : Content) (v offset len first end : ℕ)
     → touched offset len ≡ range_with_len first (end - first) → held_touched c v offset len ≤ end - first
 held_touched-most c v offset len first end pages =
     omega (arith, held_touched-count c v offset len first end pages, count_from_le (is_held c v) first (end - first))
+
+-- a short range asks for a row for each of its pages
+pub asks_for_all : (c : Content) (v offset len first end : ℕ) → touched offset len ≡ range_with_len first (end - first)
+    → end - first ≤ UNSEEN_PAGES → AsksToZero c v offset len (end - first)
+asks_for_all c v offset len first end pages few =
+    let size = ap (λ (ps : List ℕ). length ps) pages ∙ length-range_with_len first (end - first) in (
+      held_touched-most c v offset len first end pages,
+      rw size (omega arith),
+    )
+
+-- and any range may ask for one for each that is held
+pub asks_for_held : (c : Content) (v offset len : ℕ) → AsksToZero c v offset len (held_touched c v offset len)
+asks_for_held c v offset len = (omega arith, le-max_left _ _)
 
 pub need-zero-most : (c : Content) (v : ℕ) (pinned : ℕ → Bool) (offset len first end : ℕ)
     → touched offset len ≡ range_with_len first (end - first)

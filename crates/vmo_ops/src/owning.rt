@@ -84,7 +84,8 @@ pub(crate) const UNSEEN_PAGES: u64 = 64;
 /// there is a free frame for each. No page takes more than one. A page that is sole takes none, so `false` does not mean a
 /// refusal.
 pub(crate) fn are_ample<P: Pages>(store: &P, pages: u64) -> bool
-    ensures { IsTrue result → used (P.content store.now) + pages ≤ (P.content store.now).frames }
+    ensures few { IsTrue result → pages ≤ UNSEEN_PAGES }
+    ensures free { IsTrue result → used (P.content store.now) + pages ≤ (P.content store.now).frames }
 {
     pages <= UNSEEN_PAGES && pages <= u64::from(store.free())
 }

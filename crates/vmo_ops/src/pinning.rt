@@ -17,7 +17,7 @@ ghost use Rattle.vm_model.specs.Machine.Step.{Step, frame_of, frames_of, reply_o
 ghost use Rattle.pages.specs.Names.{IsInside};
 ghost use Rattle.vmo_table.specs.Table.{keepers_of, lineage_in, names_of, CountsKeepers, IsNamed, IsWellCounted};
 ghost use Rattle.pin_table.specs.Table.{pins_of, pin_room};
-ghost use Rattle.vmo_ops.specs.Costs.{HasRows};
+ghost use Rattle.vmo_ops.specs.Costs.{AsksToOwn, HasRows};
 ghost use Rattle.vmo_ops.specs.inside.Pinning.{pin_in, IsPinnable, IsPinRange};
 ghost use Rattle.vmo_ops.specs.Ranges.{touched_row, AreTouched};
 ghost use Rattle.vmo_ops.specs.Targets.{with_pins, with_tables, IsRefusalIn};
@@ -148,7 +148,7 @@ fn room_to_pin<P: Pages>(
     requires vmo { IsSome ((P.content store.old).count v.0) }
     requires order { range.pages.first ≤ range.pages.end }
     requires inside { range.pages.end ≤ pages_of (P.content store.old) v.0 }
-    requires rows { HasRows (P.content store.old) v.0 (touched_row range.pages) range.rows }
+    requires rows { AsksToOwn (P.content store.old) v.0 (touched_row range.pages) range.rows }
     ensures content { P.content store.new ≡ P.content store.old }
     ensures pins { pins_of pins.new ≡ pins_of pins.old }
     ensures rows { OnOk result (HasRows (P.content store.old) v.0 (touched_row range.pages) (P.spare store.new)) }

@@ -9,7 +9,7 @@ ghost use Rattle.vm_model.specs.Contents.Content.{pages_of, sole, used, IsGood};
 ghost use Rattle.vm_model.specs.Contents.Owning.{need};
 ghost use Rattle.vm_model.specs.Contents.Writing.{touched};
 ghost use Rattle.pages.specs.Names.{IsInside};
-ghost use Rattle.vmo_ops.specs.Costs.{HasRows, LacksRoom};
+ghost use Rattle.vmo_ops.specs.Costs.{AsksToOwn, HasRows, LacksRoom};
 ghost use Rattle.vmo_ops.specs.Ranges.{touched_row, AreTouched};
 ghost use Rattle.vmo_ops.specs.Targets.{with_content, IsPlaced, IsBarred, IsRefusalIn};
 
@@ -95,7 +95,7 @@ pub fn ask_to_own<P: Pages>(
     requires good { IsGood (P.content store.now) }
     requires inside { IsInside (P.content store.now) t.now }
     ensures ok { IfOk result (λ range. (t.now.may_write ≡ true) × IsPlaced (P.content store.now) t.now offset len range.at
-        × HasRows (P.content store.now) t.now.koid.0 (touched range.at len) range.rows
+        × AsksToOwn (P.content store.now) t.now.koid.0 (touched range.at len) range.rows
         × (used (P.content store.now) + need (P.content store.now) t.now.koid.0 (touched range.at len)
         ≤ (P.content store.now).frames)) }
     ensures err { IfErr result (λ refusal. IsBarred (P.content store.now) t.now offset len refusal
@@ -127,7 +127,7 @@ pub(crate) fn rows_to_own<P: Pages>(store: &P, v: Koid, pages: TouchedPages) -> 
     requires vmo { IsSome ((P.content store.now).count v.0) }
     requires order { pages.first ≤ pages.end }
     requires inside { pages.end ≤ pages_of (P.content store.now) v.0 }
-    ensures some { IfSome result (λ rows. HasRows (P.content store.now) v.0 (touched_row pages) rows
+    ensures some { IfSome result (λ rows. AsksToOwn (P.content store.now) v.0 (touched_row pages) rows
         × (used (P.content store.now) + need (P.content store.now) v.0 (touched_row pages) ≤ (P.content store.now).frames)) }
     ensures none { IfNone result ((P.content store.now).frames
         < used (P.content store.now) + need (P.content store.now) v.0 (touched_row pages)) }
@@ -146,7 +146,7 @@ fn rows_needed<P: Pages>(store: &P, v: Koid, first: PageNo, end: PageNo) -> Opti
     requires vmo { IsSome ((P.content store.now).count v.0) }
     requires order { first ≤ end }
     requires pages { end ≤ pages_of (P.content store.now) v.0 }
-    ensures some { IfSome result (λ rows. HasRows (P.content store.now) v.0 (range_with_len first (end - first)) rows
+    ensures some { IfSome result (λ rows. AsksToOwn (P.content store.now) v.0 (range_with_len first (end - first)) rows
         × (used (P.content store.now) + need (P.content store.now) v.0 (range_with_len first (end - first))
         ≤ (P.content store.now).frames)) }
     ensures none { IfNone result ((P.content store.now).frames
@@ -174,7 +174,7 @@ pub(crate) fn room_to_own<P: Pages>(
     requires vmo { IsSome ((P.content store.old).count v.0) }
     requires order { pages.first ≤ pages.end }
     requires inside { pages.end ≤ pages_of (P.content store.old) v.0 }
-    requires rows { HasRows (P.content store.old) v.0 (touched_row pages) rows }
+    requires rows { AsksToOwn (P.content store.old) v.0 (touched_row pages) rows }
     ensures same { P.content store.new ≡ P.content store.old }
     ensures rows { OnOk result (HasRows (P.content store.old) v.0 (touched_row pages) (P.spare store.new)) }
     ensures err { OnErr result (list_any (λ p. not (sole (P.content store.old) v.0 p)) (touched_row pages) ≡ true) }

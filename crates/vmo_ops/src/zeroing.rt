@@ -15,7 +15,7 @@ ghost use Rattle.pages.specs.Held.{held_from};
 ghost use Rattle.pin_table.specs.Table.{pins_of};
 ghost use Rattle.vmo_ops.specs.Ranges.{AreTouched};
 ghost use Rattle.vmo_ops.specs.Targets.{with_pins, DoesWith, IsPlaced, IsRefusalIn};
-ghost use Rattle.vmo_ops.specs.Costs.{held_touched};
+ghost use Rattle.vmo_ops.specs.Costs.{held_touched, AsksToZero};
 
 use crate::filling::fill_part;
 use crate::held_pages::{is_held_at, next_held_below};
@@ -94,7 +94,7 @@ pub fn ask_to_zero<P: Pages>(
         let command = λ (name : VmoName). Command.VmoZero name offset len in
         MatchResult result (λ range. IsRefusalIn parts t.now command None
         × IsPlaced (P.content store.now) t.now offset len range.at
-        × (held_touched (P.content store.now) t.now.koid.0 range.at len ≤ range.rows)
+        × AsksToZero (P.content store.now) t.now.koid.0 range.at len range.rows
         × (used (P.content store.now) + need (P.content store.now) t.now.koid.0
         (owned_by_zero (P.content store.now) t.now.koid.0 (is_pinned (pins_of pins.now) t.now.koid.0) range.at len)
         ≤ (P.content store.now).frames) × AreTouched range.at len range.pages)
@@ -125,7 +125,7 @@ fn rows_to_zero<P: Pages>(
     requires good { IsGood (P.content store.now) }
     requires vmo { IsSome ((P.content store.now).count v.0) }
     requires inside { offset + len ≤ pages_of (P.content store.now) v.0 * PAGE }
-    ensures some { IfSome result (λ rows. (held_touched (P.content store.now) v.0 offset len ≤ rows)
+    ensures some { IfSome result (λ rows. AsksToZero (P.content store.now) v.0 offset len rows
         × (used (P.content store.now) + need (P.content store.now) v.0
         (owned_by_zero (P.content store.now) v.0 (is_pinned (pins_of pins.now) v.0) offset len)
         ≤ (P.content store.now).frames)) }
@@ -158,7 +158,7 @@ pub(crate) fn rows_to_clear<P: Pages>(
     requires good { IsGood (P.content store.now) }
     requires vmo { IsSome ((P.content store.now).count v.0) }
     requires inside { offset + len ≤ pages_of (P.content store.now) v.0 * PAGE }
-    ensures { held_touched (P.content store.now) v.0 offset len ≤ result }
+    ensures { AsksToZero (P.content store.now) v.0 offset len result }
 {
     let count = pages.end - pages.first;
     if count <= UNSEEN_PAGES {
@@ -178,7 +178,7 @@ pub(crate) fn room_to_zero<P: Pages>(
     requires good { IsGood (P.content store.old) }
     requires vmo { IsSome ((P.content store.old).count v.0) }
     requires inside { range.at + len ≤ pages_of (P.content store.old) v.0 * PAGE }
-    requires rows { held_touched (P.content store.old) v.0 range.at len ≤ range.rows }
+    requires rows { AsksToZero (P.content store.old) v.0 range.at len range.rows }
     ensures same { P.content store.new ≡ P.content store.old }
     ensures rows { OnOk result (held_touched (P.content store.old) v.0 range.at len ≤ P.spare store.new) }
     ensures err { OnErr result (0 < held_touched (P.content store.old) v.0 range.at len) }

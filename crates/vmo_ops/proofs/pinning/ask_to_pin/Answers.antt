@@ -38,6 +38,6 @@ pub returns-in-Some-rows_to_own-clause-ok : goal.returns-in-Some-rows_to_own-cla
 returns-in-Some-rows_to_own-clause-ok g c = record {
   range = pin_range c.args.offset c.args.len (sym c.is_no_pin_range.ensures ∙ c.if-is_no_pin_range.false);
   placed = c.in-Some.ensures.some;
-  rows = rw c.touched_by-pages.ensures.row c.in-Some-rows_to_own.ensures.some.0;
+  asked = rw c.touched_by-pages.ensures.row c.in-Some-rows_to_own.ensures.some.0;
   frames = rw c.touched_by-pages.ensures.row c.in-Some-rows_to_own.ensures.some.1;
 }

@@ -26,7 +26,7 @@ pub room_to_pin-requires-clause-order : goal.room_to_pin-requires-clause-order
 room_to_pin-requires-clause-order g c = c.in-Ok.ensures.touched.order
 
 pub room_to_pin-requires-clause-rows : goal.room_to_pin-requires-clause-rows
-room_to_pin-requires-clause-rows g c = rw (← c.in-Ok.ensures.touched.row) c.in-Ok.ensures.ok.rows
+room_to_pin-requires-clause-rows g c = rw (← c.in-Ok.ensures.touched.row) c.in-Ok.ensures.ok.asked
 
 pub add_pin-requires-clause-good : goal.add_pin-requires-clause-good
 add_pin-requires-clause-good g c = rw c.room_to_pin.ensures.content c.requires.parts.1.good.content

@@ -6,10 +6,10 @@ use Rattle.vmo_ops.proofs.ready.rows_to_own.Goals as goal
 pub returns-then-are_ample-clause-some : goal.returns-then-are_ample-clause-some
 returns-then-are_ample-clause-some g c =
     let pages = c.args.pages in (
-      inr (rw length-range_with_len (omega arith)),
+      (inr (rw length-range_with_len (omega arith)), rw length-range_with_len (omega arith)),
       omega (
         arith,
-        c.are_ample.ensures c.if-are_ample.true,
+        c.are_ample.ensures.free c.if-are_ample.true,
         need-most (g.P.Pages.content c.args.store.now) c.args.v.0 pages.first (pages.end - pages.first),
       ),
     )
