@@ -1,6 +1,6 @@
 -- What the machine answered, as an outcome in which want of memory is apart.
 use Rattle.std.proofs.Common.{◌≡◌, ℕ, true, Option, None, Some, refl, sym, subst, inl, inr}
-use Rattle.std.specs.Prelude.{Result, ⊤, MatchResult, MatchOption}
+use Rattle.std.specs.Prelude.{Result, ⊤, OnErr, MatchResult, MatchOption}
 use Rattle.std.specs.declared.result.Result.TheVariants.{Ok, Err}
 use Rattle.vm_base.specs.declared.refusal.HostMemory.{HostMemory as Lack}
 use Rattle.vm_base.specs.declared.refusal.Refusal.{Refusal}
@@ -14,7 +14,7 @@ use Rattle.vm_model.specs.Machine.State.{State}
 use Rattle.vm_model.specs.Machine.Refusals.{refusals, first_of}
 use Rattle.vm_model.specs.Machine.Step.{Effect}
 use Rattle.vm_model.specs.Machine.Machine.{Machine}
-use Rattle.vm_model.specs.Machine.MachineStep.{MachineStepAfter, MachineStep}
+use Rattle.vm_model.specs.Machine.MachineStep.{may_want_memory, MachineStepAfter, MachineStep}
 use Rattle.moving_model.specs.Moving.{tells_place}
 use Rattle.moving_model.proofs.HostLaws.{lack_only}
 use Rattle.machine.specs.Machine.{LacksPlace, IsAtPlace}
@@ -49,6 +49,12 @@ module _ (old new : Machine) (command : Command) (told : ℕ) where
       → IsGiven given → MatchResult outcome IsStepOrNone (λ lack. new ≡ old)
   outcome_step given (Ok own) is does = step_or_none own (subst IsGiven (sym is) does)
   outcome_step given (Err lack) is does = (lack_only old new command (subst IsGiven is does)).2
+
+  -- and it comes only where nothing refuses the command, and it may want memory
+  pub outcome_lack : (given : Option Answer) (outcome : Result (Option Answer) Lack) → MatchResult outcome (λ own. own ≡ given) (λ lack. given ≡ Some (Answer.Refused HostMemory))
+      → IsGiven given → OnErr outcome ((first_of (refusals old.state command) ≡ None) × (may_want_memory old command ≡ true))
+  outcome_lack given (Ok own) is does = tt
+  outcome_lack given (Err lack) is does = let only = lack_only old new command (subst IsGiven is does) in (only.0, only.1)
 
 -- the address of a place is the one that is told
 module _ (command : Command) (told : ℕ) where

@@ -1,6 +1,6 @@
 //! The machine of a checker.
 
-ghost use Rattle.std.specs.Prelude.{◌≡◌, ◌≢◌, ◌+◌, ◌<◌, ◌≤◌, ◌&&◌, ◌↔◌, ℕ, not, true, length, is_some, ⊤, IsTrue, None, Some, MatchResult, MatchOption};
+ghost use Rattle.std.specs.Prelude.{◌≡◌, ◌≢◌, ◌+◌, ◌<◌, ◌≤◌, ◌&&◌, ◌↔◌, ℕ, not, true, length, is_some, ⊤, IsTrue, None, Some, OnErr, MatchResult, MatchOption};
 ghost use Rattle.std.specs.Option.{option_map};
 ghost use Rattle.vm_base.specs.declared.limits.TheConstants.{DATA_BYTES, FRAMES, KOIDS, PIN_PAGES};
 ghost use Rattle.vm_base.specs.declared.names.Tag.{Tag};
@@ -92,7 +92,7 @@ impl CheckerMachine {
     /// which the command leaves the place open is put at the address `told`. The answer is `None`, with nothing changed, if
     /// nothing refuses the command, but it can't be at that address. Of other commands `told` says nothing. Bytes that are read
     /// are written to `bytes`, and the frames of pinned pages to `numbers`, and lent from there. `HostMemory`, with nothing
-    /// changed, if the host has too little memory.
+    /// changed, if the host has too little memory: only if nothing refuses the command, and it may want memory.
     pub fn answer<'a>(
         &mut self,
         call: &Call<'_>,
@@ -109,6 +109,8 @@ impl CheckerMachine {
             × ((new : Machine) → MachineStep (checker_machine_of self.old) (command_of call.now) (Reply.Address told) new → ⊥))
             (λ answer. MachineStep (checker_machine_of self.old) (command_of call.now) (reply_for answer) (checker_machine_of self.new)))
             (λ lack. checker_machine_of self.new ≡ checker_machine_of self.old) }
+        ensures lack { OnErr result ((first_of (refusals (checker_machine_of self.old).state (command_of call.now)) ≡ None)
+            × (may_want_memory (checker_machine_of self.old) (command_of call.now) ≡ true)) }
         ensures own { MatchResult result (λ given. MatchOption given ⊤
             (λ answer. reply_for answer ≢ Reply.Refused Refusal.HostMemory)) (λ lack. ⊤) }
         ensures place { MatchResult result (λ given. MatchOption given ⊤ (λ answer. tells_place (command_of call.now) ≡ true
