@@ -47,12 +47,9 @@ def record_of(turn, state, ranks):
 def add_trees(records, turns, asked):
     """Adds to what the page has of each turn which clone tree is behind it, and returns the trees, each once. There are none without
     vmotree."""
-    drawn = trees_of([it.line for it in turns], asked)
+    drawn = trees_of(turns, asked)
     if drawn is None:
         return []
-    wanted = sum(map(has_tree, turns))
-    if len(drawn) != wanted:
-        raise Trouble(1, f"vmotree draws {len(drawn)} trees behind {wanted} commands")
     trees, following, last = {}, iter(drawn), None
     for record, turn in zip(records, turns):
         if has_tree(turn):

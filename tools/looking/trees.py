@@ -5,7 +5,6 @@ import subprocess
 from .turns import TOP, Trouble
 
 BUILT = TOP / "crates" / "vmotree" / "out" / "vmotree"
-COUNTS = "# vmos="
 MOST_NODES = 200
 
 
@@ -22,28 +21,32 @@ def shortened(tree):
     return "\n".join(tree if more <= 0 else [*tree[: MOST_NODES + 1], f"# .. and {more} nodes more"])
 
 
-def trees_of(lines, asked):
-    """Returns the tree behind each command that is one, in the order of the lines. None without vmotree."""
-    program = tree_program(asked)
-    if not program:
-        return None
+def tree_after(program, frames, lines):
+    """Returns the tree after these lines of a script."""
     text = "".join(f"{it}\n" for it in lines).encode()
-    words = [program, "--frames", str(asked.frames), "--at", "each"]
     try:
-        ran = subprocess.run(words, input=text, stdout=subprocess.PIPE, check=False)
+        ran = subprocess.run([program, "--frames", str(frames)], input=text, stdout=subprocess.PIPE, check=False)
     except OSError as error:
         raise Trouble(1, f"cannot run {program!r}: {error.strerror}") from None
     if ran.returncode:
         raise Trouble(1, f"the program {program!r} ends with status {ran.returncode}")
-    trees = []
-    for line in ran.stdout.decode(errors="replace").splitlines():
-        if line.startswith(COUNTS):
-            trees.append([line])
-        elif line.startswith("#") and trees:
-            trees[-1].append(line)
-    return [shortened(it) for it in trees]
+    return shortened(ran.stdout.decode(errors="replace").splitlines())
 
 
 def has_tree(turn):
-    """Returns whether a tree is drawn behind a turn: its line is a command."""
+    """Returns whether a tree is shown behind a turn: its line is a command."""
     return bool(turn.replies) and turn.replies[0] != "SYNTAX"
+
+
+def trees_of(turns, asked):
+    """Returns the tree behind each turn that has one, in the order of the turns. None without vmotree."""
+    program = tree_program(asked)
+    if not program:
+        return None
+    lines, trees = [it.line for it in turns], []
+    for count, turn in enumerate(turns, 1):
+        if has_tree(turn):
+            # A command that is refused leaves the tree as it was.
+            is_same = turn.refusal and trees
+            trees.append(trees[-1] if is_same else tree_after(program, asked.frames, lines[:count]))
+    return trees

@@ -5,7 +5,7 @@ use Rattle.cow_arena.specs.Nodes.{Nodes, nodes_of}
 use Rattle.cow_arena.specs.Walk.{Tree}
 use Rattle.cow_forest.specs.Store.{Forest, tree}
 use Rattle.tree_text.specs.Order.{Place, place_below_parent, root_of, nodes_below, tree_nodes, nodes_from, all_nodes}
-use Rattle.tree_text.specs.Text.{rail, rails, head_text, tail_text, rows_text, text_of_node, lines_text, counts_text, open_text, close_text, forest_text}
+use Rattle.tree_text.specs.Text.{rail, rails_cut, rails, head_text, tail_text, rows_text, text_of_node, lines_text, counts_text, open_text, close_text, forest_text}
 use Rattle.tree_text.specs.declared.lines.Form.{Form}
 use Rattle.tree_text.proofs.PlaceLaws.{climb-zero, climb-root, climb-level}
 use Rattle.tree_text.proofs.WalkLaws.{over-none}
@@ -13,17 +13,18 @@ use Rattle.tree_text.proofs.WalkLaws.{over-none}
 -- ---- rails
 
 module _ (nodes : Nodes) (n k : ℕ) (front : List ℕ) where
-  behind-none : rails nodes n k ≡ [] → front ≡ front ++ rails nodes n k
-  behind-none none = sym (ap (λ list. front ++ list) none ∙ append-nil front)
+  abbrev cut : ℕ → List ℕ
+  cut j = rails_cut (place_below_parent nodes j)
 
   -- no level is left
-  pub rails-zero : n ≡ 0 → front ≡ front ++ rails nodes n k
-  rails-zero none =
-      behind-none (ap (λ m. rails nodes m k) none ∙ climb-zero nodes (λ j. []) (λ place above. above ++ rail place.1) k)
+  pub rails-zero : (whole piece : List ℕ) → n ≡ 0 → whole ≡ front ++ piece → piece ≡ rails_cut (place_below_parent nodes k) → whole ≡ front ++ rails nodes n k
+  rails-zero whole piece none last text =
+      last ∙ ap (λ list. front ++ list) (text ∙ sym (ap (λ m. rails nodes m k) none ∙ climb-zero nodes cut (λ place above. above ++ rail place.1) k))
 
   -- the node has no parent
   pub rails-root : place_below_parent nodes k ≡ None → front ≡ front ++ rails nodes n k
-  rails-root none = behind-none (climb-root nodes (λ j. []) (λ place above. above ++ rail place.1) n k none)
+  rails-root none =
+      sym (ap (λ list. front ++ list) (climb-root nodes cut (λ place above. above ++ rail place.1) n k none ∙ ap rails_cut none) ∙ append-nil front)
 
   -- one level more
   pub rails-more : (place : Place) (whole mid piece : List ℕ) → 0 < n → place_below_parent nodes k ≡ Some place → whole ≡ mid ++ piece →
@@ -31,7 +32,7 @@ module _ (nodes : Nodes) (n k : ℕ) (front : List ℕ) where
   rails-more place whole mid piece some is last before text =
       let above = rails nodes (n - 1) place.0.0 in
       last ∙ (ap (λ list. list ++ piece) before ∙ (append_assoc front above piece ∙ (ap (λ list. front ++ (above ++ list)) text
-      ∙ ap (λ list. front ++ list) (sym (climb-level nodes (λ j. []) (λ place above. above ++ rail place.1) n k place some is)))))
+      ∙ ap (λ list. front ++ list) (sym (climb-level nodes cut (λ place above. above ++ rail place.1) n k place some is)))))
 
 -- ---- lines
 

@@ -65,9 +65,14 @@ abbrev pub rail : Side → List ℕ
 rail side.Left = codes "|   "
 rail side.Right = codes "    "
 
--- the rails of node k and of the nodes above it, n at most, the uppermost first
+-- what stands in place of the rails of the node at this place and of those above it, which are left out
+abbrev pub rails_cut : Option Place → List ℕ
+rails_cut None = []
+rails_cut (Some place) = codes "..  "
+
+-- The rails of node k and of the nodes above it, n at most, the uppermost first. Two dots before them say that there are more.
 abbrev pub rails : Nodes → (n k : ℕ) → List ℕ
-rails nodes n k = climb nodes (λ j. []) (λ place above. above ++ rail place.1) n k
+rails nodes n k = climb nodes (λ j. rails_cut (place_below_parent nodes j)) (λ place above. above ++ rail place.1) n k
 
 abbrev pub indented : Nodes → Option Place → List ℕ
 indented nodes None = []

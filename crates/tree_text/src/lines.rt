@@ -5,7 +5,7 @@ ghost use Rattle.cow_arena.specs.declared.node.Node.{Node};
 ghost use Rattle.cow_arena.specs.Nodes.{Nodes, nodes_of, node_above};
 ghost use Rattle.cow_arena.specs.Forest.{IsForest};
 ghost use Rattle.tree_text.specs.Order.{place_below_parent};
-ghost use Rattle.tree_text.specs.Text.{bits_text, slot_text, row_text, name_text, node_text, branch, rail, rails, indented, before_text, edge_text, head_text, tail_text, counts_text, open_text, close_text};
+ghost use Rattle.tree_text.specs.Text.{bits_text, slot_text, row_text, name_text, node_text, branch, rail, rails_cut, rails, indented, before_text, edge_text, head_text, tail_text, counts_text, open_text, close_text};
 
 use crate::walking::place;
 use cow_arena::{CowArena, Node, NodeId, Side};
@@ -24,8 +24,8 @@ pub enum Form {
     Graph,
 }
 
-/// The most levels above a node by which its line is indented. Deeper ones read as these do. That loses nothing: a hidden node has two
-/// children and a VMO's node none, so the order of the lines alone says which node stands below which.
+/// The most levels above a node by which its line is indented. The line of a deeper node begins with two dots. That loses nothing: a hidden
+/// node has two children and a VMO's node none, so the order of the lines alone says which node stands below which.
 pub const LEVELS: usize = 16;
 
 /// The bytes that a line takes up to its rows, at most.
@@ -173,9 +173,9 @@ fn put_edge(arena: &CowArena, at: NodeId, out: &mut [u8], end: usize) -> usize
 fn put_indent(arena: &CowArena, at: NodeId, out: &mut [u8], end: usize) -> usize
     requires forest { IsForest (nodes_of arena.now) arena.now.lists }
     requires node { IsSome (nodes_of arena.now at.0) }
-    requires room { end + 4 * LEVELS + 4 ≤ length out.old }
+    requires room { end + 4 * LEVELS + 8 ≤ length out.old }
     ensures written { take result out.new ≡ take end out.old ++ indented (nodes_of arena.now) (place_below_parent (nodes_of arena.now) at.0) }
-    ensures end { result ≤ end + 4 * LEVELS + 4 }
+    ensures end { result ≤ end + 4 * LEVELS + 8 }
 {
     let Some(up) = place(arena, at) else {
         return end;
@@ -184,22 +184,35 @@ fn put_indent(arena: &CowArena, at: NodeId, out: &mut [u8], end: usize) -> usize
     put(branch(up.1), out, end)
 }
 
-/// Writes the rails of a node and of those above it, `levels` at most.
+/// Writes the rails of a node and of those above it, `levels` at most. Two dots before them say that there are more.
 fn put_rails(arena: &CowArena, at: NodeId, levels: usize, out: &mut [u8], end: usize) -> usize
     requires forest { IsForest (nodes_of arena.now) arena.now.lists }
     requires node { IsSome (nodes_of arena.now at.0) }
-    requires room { end + 4 * levels ≤ length out.old }
+    requires room { end + 4 * levels + 4 ≤ length out.old }
     ensures written { take result out.new ≡ take end out.old ++ rails (nodes_of arena.now) levels at.0 }
-    ensures end { result ≤ end + 4 * levels }
+    ensures end { result ≤ end + 4 * levels + 4 }
 {
     if levels == 0 {
-        return end;
+        return put(rails_cut(arena, at), out, end);
     }
     let Some(up) = place(arena, at) else {
         return end;
     };
     let end = put_rails(arena, up.0, levels - 1, out, end);
     put(rail(up.1), out, end)
+}
+
+/// Returns what stands in place of the rails of a node and of those above it: two dots, if it has a rail.
+fn rails_cut(arena: &CowArena, at: NodeId) -> &'static [u8]
+    requires forest { IsForest (nodes_of arena.now) arena.now.lists }
+    requires node { IsSome (nodes_of arena.now at.0) }
+    ensures text { result.now ≡ rails_cut (place_below_parent (nodes_of arena.now) at.0) }
+    ensures len { length result.now ≤ 4 }
+{
+    match place(arena, at) {
+        Some(_) => b"..  ",
+        None => b"",
+    }
 }
 
 /// Returns what stands before the line of a node on this side.

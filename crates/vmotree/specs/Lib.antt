@@ -1,4 +1,2 @@
 pub mod Words
-pub mod Drawing
 pub mod Outcome
-pub mod inside

@@ -1,11 +1,10 @@
 //! The program that draws the clone tree of a script on standard input.
 //!
 //! It makes the clone tree (`cow_forest`) as the store, hands it to `draw` with standard input and output as a source and a sink, and
-//! ends with the status of the run. `request` reads the command line, `drawer` answers a line, and `tree_text` has the text of a tree. It
-//! writes nothing to standard error.
+//! ends with the status of the run. `request` reads the command line, and `tree_text` has the text of a tree. It writes nothing to standard
+//! error.
 #![tactic(auto)]
 
-mod drawer;
 mod drawing;
 mod request;
 

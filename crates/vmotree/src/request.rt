@@ -2,7 +2,7 @@
 
 ghost use Rattle.std.specs.Prelude.{◌≡◌, ◌≤◌, IfSome};
 ghost use Rattle.vm_base.specs.declared.limits.TheConstants.{FRAMES};
-ghost use Rattle.vmotree.specs.Words.{first_request, with_flag, with_time, with_word, complete, request_in};
+ghost use Rattle.vmotree.specs.Words.{first_request, with_flag, with_word, complete, request_in};
 
 use line_server::decimal_of_word;
 use tree_text::Form;
@@ -15,8 +15,6 @@ pub enum Wanted {
     Flag,
     /// The number of page frames.
     Frames,
-    /// `end` or `each`, the time at which the tree is drawn.
-    When,
 }
 
 /// The request that the words make.
@@ -26,16 +24,14 @@ pub struct Request {
     pub frames: u32,
     /// The form of the text of the tree.
     pub form: Form,
-    /// The tree is drawn after each command, and not at the end.
-    pub each: bool,
-    /// The replies are written too.
+    /// The replies are written before the tree.
     pub replies: bool,
     /// The meaning of the word behind those that were read.
     pub wanted: Wanted,
 }
 
-/// Returns what the words ask for. `--frames N`, `--text` or `--dot`, `--at end` or `--at each`, and `--replies` may stand in
-/// any order. The last of a kind counts. `None` for any other words.
+/// Returns what the words ask for. `--frames N`, `--text` or `--dot`, and `--replies` may stand in any order. The last of a kind
+/// counts. `None` for any other words, and for replies beside a graph.
 pub(crate) fn request_in(words: &[String]) -> Option<Request>
     ensures request { result ≡ request_in words.now }
     ensures range { IfSome result (λ r. 1 ≤ r.frames × r.frames ≤ FRAMES) }
@@ -43,7 +39,6 @@ pub(crate) fn request_in(words: &[String]) -> Option<Request>
     let mut request = Request {
         frames: DEFAULT_FRAMES,
         form: Form::Drawing,
-        each: false,
         replies: false,
         wanted: Wanted::Flag,
     };
@@ -55,13 +50,15 @@ pub(crate) fn request_in(words: &[String]) -> Option<Request>
     complete(request)
 }
 
-/// Returns a request, if no value is wanted any more.
+/// Returns a request, if no value is wanted any more, and no replies beside a graph.
 fn complete(request: Request) -> Option<Request>
     ensures { result ≡ complete request }
 {
-    match request.wanted {
-        Wanted::Flag => Some(request),
-        Wanted::Frames | Wanted::When => None,
+    match (request.wanted, request.form, request.replies) {
+        (Wanted::Frames, _, _) => None,
+        (Wanted::Flag, Form::Graph, true) => None,
+        (Wanted::Flag, Form::Graph, false) => Some(request),
+        (Wanted::Flag, Form::Drawing, _) => Some(request),
     }
 }
 
@@ -81,7 +78,6 @@ fn with_word(request: Request, word: &[u8]) -> Option<Request>
                 ..request
             })
         }
-        Wanted::When => with_time(request, word),
     }
 }
 
@@ -106,29 +102,6 @@ fn with_flag(request: Request, word: &[u8]) -> Option<Request>
     }
     if word == b"--frames".as_slice() {
         next.wanted = Wanted::Frames;
-        return Some(next);
-    }
-    if word == b"--at".as_slice() {
-        next.wanted = Wanted::When;
-        return Some(next);
-    }
-    None
-}
-
-/// Returns the request with the time at which the tree is drawn.
-fn with_time(request: Request, word: &[u8]) -> Option<Request>
-    requires { 1 ≤ request.frames × request.frames ≤ FRAMES }
-    ensures request { result ≡ with_time request word.now }
-    ensures range { IfSome result (λ r. 1 ≤ r.frames × r.frames ≤ FRAMES) }
-{
-    let mut next = request;
-    next.wanted = Wanted::Flag;
-    if word == b"end".as_slice() {
-        next.each = false;
-        return Some(next);
-    }
-    if word == b"each".as_slice() {
-        next.each = true;
         return Some(next);
     }
     None
