@@ -10,6 +10,7 @@ mod TextLaws
 mod StepLaws
 mod TableLaws
 mod RowLaws
+mod SourceLaws
 mod ClosingLaws
 mod AccessLaws
 mod ComingLaws

@@ -9,6 +9,7 @@ use Rattle.vm_base.specs.declared.refusal.Refusal.TheVariants.{NoMemory, HostMem
 use Rattle.vm_model.specs.Contents.Content.{Content, Page, IsGood, pages_of, used}
 use Rattle.vm_model.specs.Contents.Writing.{Piece, touched}
 use Rattle.vm_model.specs.Contents.Zeroing.{is_within}
+use Rattle.page_store.specs.Pages.{tag_held}
 use Rattle.source_model.specs.declared.backing.Backing.{Backing}
 use Rattle.source_model.specs.declared.link.Link.{Link}
 use Rattle.source_model.specs.Sources.{backing_text}
@@ -17,6 +18,7 @@ use Rattle.vm_model.specs.Contents.Owning.{VmoPage}
 use Rattle.source_model.specs.State.{SourceState, state_over, Fills, FillsEach, is_absent, supply_of}
 use Rattle.source_model.specs.Commands.{is_aligned}
 use Rattle.source_vm.specs.declared.walk.Place.{Place}
+use Rattle.source_vm.specs.declared.walk.FoundPage.{FoundPage}
 
 -- the backing of each VMO, and the link of each
 abbrev pub Backings : Type 0
@@ -37,6 +39,10 @@ pub record IsReadable (c : Content) (backings : Backings) (links : LooseLinks) :
   pub smaller : (v : ℕ) (l : Link) → links v ≡ Some l → l.parent.0 < v
   pub inside : (v : ℕ) (l : Link) → links v ≡ Some l → 0 < l.seen → l.base + l.seen ≤ pages_of c l.parent.0
   pub either : (v : ℕ) (b : Backing) → backings v ≡ Some b → links v ≡ None
+
+-- a page was looked up: the frame is that which it has in the content
+abbrev pub IsFound : Content → FoundPage → Type 0
+IsFound c at = at.frame ≡ tag_held (c.page at.place.koid.0 at.place.page)
 
 -- a page, as the code has it
 abbrev pub page_at : Place → VmoPage

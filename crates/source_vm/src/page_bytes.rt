@@ -8,12 +8,12 @@ ghost use Rattle.vm_model.specs.Contents.Content.{pages_of, sole, used, IsGood};
 ghost use Rattle.source_model.specs.Links.{page_below, walked};
 ghost use Rattle.source_model.specs.Sources.{source_byte, backing_text, text_over};
 ghost use Rattle.source_model.specs.declared.backing.Backing.{Backing};
-ghost use Rattle.source_vm.specs.Pages.{FillsPage, IsReadable, IsSource, is_clean_page, is_end_absent};
+ghost use Rattle.source_vm.specs.Pages.{FillsPage, IsFound, IsReadable, IsSource, is_clean_page, is_end_absent};
 ghost use Rattle.source_vm.specs.Table.{backings_of, loose_links_of};
 
 use crate::source_fn::SourceFn;
 use crate::table::SourceTable;
-use crate::walk::{Place, find_end, is_sourced};
+use crate::walk::{FoundPage, Place, find_end, is_sourced};
 use page_store::PageStore;
 use source_model::Backing;
 use vm_base::{Koid, PAGE, PAGE_BYTES, PageNo, SOURCE_BYTES, SOURCE_PAGES};
@@ -32,16 +32,6 @@ fn function_of(functions: &[SourceFn; 3], kind: u8) -> &SourceFn
     }
 }
 
-/// Fills `out` with the bytes of a source from an offset on.
-fn source_bytes(function: &SourceFn, seed: u64, offset: u64, out: &mut [u8])
-    requires { offset + length out.old ≤ SOURCE_BYTES }
-    ensures { out.new ≡ map (source_byte function.now.kind seed) (range_with_len offset (length out.old)) }
-{
-    for i in 0..out.len() {
-        out[i] = function.byte(seed, offset + i as u64);
-    }
-}
-
 /// Fills `out`, of the size of a page, with the bytes that a page has by its backing.
 fn load_page(functions: &[SourceFn; 3], backing: &Backing, page: PageNo, out: &mut [u8])
     requires kinds { map (λ f. f.kind) functions.now ≡ 0 ∷ 1 ∷ 2 ∷ [] }
@@ -51,7 +41,7 @@ fn load_page(functions: &[SourceFn; 3], backing: &Backing, page: PageNo, out: &m
 {
     if page < backing.seen {
         let function = function_of(functions, backing.kind);
-        source_bytes(function, backing.seed, (backing.base + page) * PAGE, out);
+        function.fill_page(backing.seed, backing.base + page, out);
     } else {
         out.fill(0);
     }
@@ -66,23 +56,23 @@ fn patch(whole: &mut [u8], at: u64, bytes: &[u8])
     whole[at..at + bytes.len()].copy_from_slice(bytes);
 }
 
-/// Fills `out`, of the size of a page, with the bytes that a page has in the store, or by its backing.
+/// Fills `out`, of the size of a page, with the bytes that a page which was looked up has in the store, or by its backing.
 fn load_end<P: PageStore>(
     store: &P,
     table: &SourceTable,
     functions: &[SourceFn; 3],
-    end: Place,
+    end: FoundPage,
     out: &mut [u8],
 )
     requires kinds { map (λ f. f.kind) functions.now ≡ 0 ∷ 1 ∷ 2 ∷ [] }
     requires readable { IsReadable (P.content store.now) (backings_of table.now) (loose_links_of table.now) }
-    requires page { end.page < pages_of (P.content store.now) end.koid.0 }
+    requires found { IsFound (P.content store.now) end }
     requires size { length out.old ≡ PAGE }
-    ensures { out.new ≡ text_over (P.content store.now) (backings_of table.now) end.koid.0 end.page }
+    ensures { out.new ≡ text_over (P.content store.now) (backings_of table.now) end.place.koid.0 end.place.page }
 {
-    match store.frame(end.koid, end.page) {
+    match end.frame {
         Some(tag) => store.read(tag, 0, out),
-        None => load_backed(table, functions, end, out),
+        None => load_backed(table, functions, end.place, out),
     }
 }
 
@@ -99,20 +89,21 @@ fn load_backed(table: &SourceTable, functions: &[SourceFn; 3], end: Place, out: 
     }
 }
 
-/// Fills `out`, of the size of a page, with the bytes that a page shows.
+/// Fills `out`, of the size of a page, with the bytes that a page which was looked up shows.
 fn load_text<P: PageStore>(
     store: &P,
     table: &SourceTable,
     functions: &[SourceFn; 3],
-    at: Place,
+    at: FoundPage,
     out: &mut [u8],
 )
     requires kinds { map (λ f. f.kind) functions.now ≡ 0 ∷ 1 ∷ 2 ∷ [] }
     requires readable { IsReadable (P.content store.now) (backings_of table.now) (loose_links_of table.now) }
-    requires page { at.page < pages_of (P.content store.now) at.koid.0 }
+    requires page { at.place.page < pages_of (P.content store.now) at.place.koid.0 }
+    requires found { IsFound (P.content store.now) at }
     requires size { length out.old ≡ PAGE }
     ensures { out.new ≡ walked (P.content store.now) (backings_of table.now)
-        (page_below (P.content store.now) (loose_links_of table.now)) at.koid.0 at.page }
+        (page_below (P.content store.now) (loose_links_of table.now)) at.place.koid.0 at.place.page }
 {
     let end = find_end(store, table, at);
     load_end(store, table, functions, end, out);
@@ -133,9 +124,10 @@ pub(crate) fn read_shown<P: PageStore>(
     ensures read { result ≡ false → out.new ≡ take (length out.old) (drop at (walked (P.content store.now) (backings_of table.now)
         (page_below (P.content store.now) (loose_links_of table.now)) place.koid.0 place.page)) }
 {
-    let end = find_end(store, table, place);
-    let Some(tag) = store.frame(end.koid, end.page) else {
-        if is_sourced(table, end) {
+    let frame = store.frame(place.koid, place.page);
+    let end = find_end(store, table, FoundPage { place, frame });
+    let Some(tag) = end.frame else {
+        if is_sourced(table, end.place) {
             return true;
         }
         out.fill(0);
@@ -145,31 +137,33 @@ pub(crate) fn read_shown<P: PageStore>(
     false
 }
 
-/// Fills a page: it is owned, and has its whole text then, with these bytes written from `at` bytes into it on. With no bytes it is
-/// supplied. A page that is held moves no more than the bytes.
+/// Fills a page that was looked up: it is owned, and has its whole text then, with these bytes written from `at` bytes into it on. With
+/// no bytes it is supplied. A page that is held moves no more than the bytes.
 pub(crate) fn fill_page<P: PageStore>(
     store: &mut P,
     table: &SourceTable,
     functions: &[SourceFn; 3],
-    place: Place,
+    found: FoundPage,
     at: u64,
     bytes: &[u8],
 )
     requires kinds { map (λ f. f.kind) functions.now ≡ 0 ∷ 1 ∷ 2 ∷ [] }
     requires readable { IsReadable (P.content store.old) (backings_of table.now) (loose_links_of table.now) }
-    requires page { place.page < pages_of (P.content store.old) place.koid.0 }
+    requires page { found.place.page < pages_of (P.content store.old) found.place.koid.0 }
+    requires found { IsFound (P.content store.old) found }
     requires within { at + length bytes.now ≤ PAGE }
-    requires room { (sole (P.content store.old) place.koid.0 place.page ≡ true)
+    requires room { (sole (P.content store.old) found.place.koid.0 found.place.page ≡ true)
         ⊎ ((1 ≤ P.spare store.old) × (used (P.content store.old) < (P.content store.old).frames)) }
     ensures fills { FillsPage (backings_of table.now) (loose_links_of table.now) (P.content store.old)
-        (record { koid = place.koid.0; page = place.page; at = at; bytes = bytes.now }) (P.content store.new) }
+        (record { koid = found.place.koid.0; page = found.place.page; at = at; bytes = bytes.now }) (P.content store.new) }
     ensures spare { P.spare store.old ≤ P.spare store.new + 1 }
 {
-    match store.frame(place.koid, place.page) {
+    let place = found.place;
+    match found.frame {
         Some(_) => write_part(store, place.koid, place.page, at, bytes),
         None => {
             let mut whole = [0; PAGE_BYTES];
-            load_text(store, table, functions, place, &mut whole);
+            load_text(store, table, functions, found, &mut whole);
             patch(&mut whole, at, bytes);
             write_part(store, place.koid, place.page, 0, &whole);
         }

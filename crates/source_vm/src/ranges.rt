@@ -14,7 +14,7 @@ ghost use Rattle.source_vm.specs.Table.{backings_of, loose_links_of, source_stat
 use crate::page_bytes::{fill_page, is_clean, read_shown};
 use crate::source_fn::SourceFn;
 use crate::table::SourceTable;
-use crate::walk::{Place, Stretch, find_end, is_absent};
+use crate::walk::{FoundPage, Place, Stretch, find_end, is_absent};
 use page_store::PageStore;
 use source_model::Backing;
 use vm_base::{HostMemory, Koid, PAGE, PageNo, Refusal};
@@ -162,8 +162,9 @@ fn supply_end<P: PageStore>(
     ensures inside { (lookup_end (loose_links_of table.now) (P.content store.old) at.koid.0 at.page).page
         < pages_of (P.content store.old) (lookup_end (loose_links_of table.now) (P.content store.old) at.koid.0 at.page).koid }
 {
-    let end = find_end(store, table, at);
-    if is_absent(store, table, end) {
+    let frame = store.frame(at.koid, at.page);
+    let end = find_end(store, table, FoundPage { place: at, frame });
+    if is_absent(table, end) {
         fill_page(store, table, functions, end, 0, &[]);
     }
 }
@@ -311,11 +312,13 @@ fn write_range<P: PageStore>(
     for page in first..end {
         let part = part_in_page(offset, len, page);
         let until = part.from + part.len;
+        let frame = store.frame(v, page);
+        let place = Place { koid: v, page };
         fill_page(
             store,
             table,
             functions,
-            Place { koid: v, page },
+            FoundPage { place, frame },
             part.at,
             &bytes[part.from as usize..until as usize],
         );

@@ -1,8 +1,11 @@
 //! A function that is known to give the bytes of a source.
 
-ghost use Rattle.std.specs.Prelude.{◌≡◌, ℕ, ◌^◌, ◌<◌, ◌≤◌};
+ghost use Rattle.std.specs.Prelude.{◌≡◌, ℕ, ◌+◌, ◌%◌, ◌^◌, ◌<◌, ◌≤◌, map, length};
+ghost use Rattle.std.specs.List.{range_with_len};
 ghost use Rattle.vm_base.specs.declared.limits.TheConstants.{SOURCE_BYTES, SOURCE_KIND_MAX};
-ghost use Rattle.source_model.specs.Sources.{source_byte};
+ghost use Rattle.source_model.specs.Sources.{source_byte, source_page};
+
+use vm_base::{PAGE, PageNo, SOURCE_PAGES};
 
 /// A function for the bytes of sources of one kind, beside the fact that it gives them: what the machine is handed where the kernel
 /// would ask a pager. It is called with a seed and an offset in bytes.
@@ -35,5 +38,29 @@ impl SourceFn {
         ensures { result ≡ source_byte self.now.kind seed offset }
     {
         (self.f)(seed, offset)
+    }
+
+    /// Fills `out`, of the size of a page, with the bytes of a page of a source of its kind. The function is asked for the first byte
+    /// alone: those behind it count up from it in a source of kind 1, and are the same in one of another kind.
+    pub(crate) fn fill_page(&self, seed: u64, page: PageNo, out: &mut [u8])
+        requires page { page < SOURCE_PAGES }
+        requires size { length out.old ≡ PAGE }
+        ensures { out.new ≡ source_page self.now.kind seed page }
+    {
+        let first = self.byte(seed, page * PAGE);
+        if self.kind == 1 {
+            count_up(first, out);
+        } else {
+            out.fill(first);
+        }
+    }
+}
+
+/// Fills `out` with bytes that count up from the first of them, modulo 256.
+fn count_up(first: u8, out: &mut [u8])
+    ensures { out.new ≡ map (λ i. (first + i) % 256) (range_with_len 0 (length out.old)) }
+{
+    for i in 0..out.len() {
+        out[i] = ((first as u64 + i as u64) % 256) as u8;
     }
 }

@@ -1,18 +1,18 @@
-use Rattle.std.proofs.Common.{◌∙◌, ◌+◌, ◌*◌, sym, ap, map, replicate, ℕ, arith}
-use Rattle.std.specs.List.{range_with_len}
-use Rattle.vm_base.specs.declared.limits.TheConstants.{PAGE}
+use Rattle.std.proofs.Common.{◌∙◌, ◌+◌, sym, ap, replicate, ℕ, arith}
 use Rattle.vm_base.specs.Pages.{zeros}
-use Rattle.source_model.specs.Sources.{source_byte}
+use Rattle.source_model.specs.Sources.{source_page}
 use Rattle.source_model.proofs.FillingLaws.{backing-seen, backing-behind}
 use Rattle.source_vm.proofs.page_bytes.load_page.Goals as goal
 
+pub fill_page-requires-clause-page : goal.fill_page-requires-clause-page
+fill_page-requires-clause-page g c = omega (arith, c.requires.source.inside, c.if-page-backing.true)
+
 pub returns-then-page-backing : goal.returns-then-page-backing
+unfolding source_page
 returns-then-page-backing g c =
     let b = c.args.backing.now in
-    c.source_bytes.ensures
-    ∙ (ap (λ (n : ℕ). map (source_byte c.function_of-function.result.now.kind b.seed) (range_with_len ((b.base + c.args.page) * PAGE) n)) c.requires.size
-    ∙ (ap (λ (k : ℕ). map (source_byte k b.seed) (range_with_len ((b.base + c.args.page) * PAGE) PAGE)) c.function_of-function.ensures
-    ∙ sym (backing-seen b c.args.page (omega (arith, c.if-page-backing.true)))))
+    c.fill_page.ensures ∙ (ap (λ (k : ℕ). source_page k b.seed (b.base + c.args.page)) c.function_of-function.ensures
+    ∙ sym (backing-seen b c.args.page (omega (arith, c.if-page-backing.true))))
 
 pub returns-else-page-backing : goal.returns-else-page-backing
 unfolding zeros

@@ -13,8 +13,8 @@ returns-then-is_sourced-clause-absent g c =
     let content = g.P.PageStore.content c.args.store.now in
     let bs = backings_of c.args.table.now in
     let ls = loose_links_of c.args.table.now in
-    let end = c.find_end-end.result in
-    let is = sym c.if-is_sourced.true ∙ (c.is_sourced.ensures ∙ sym (absent-unheld content bs end.koid.0 end.page (zero_frame _ c.in_default.ensures))) in
+    let end = c.find_end-end.result.place in
+    let is = sym c.if-is_sourced.true ∙ (c.is_sourced.ensures ∙ sym (absent-unheld content bs end.koid.0 end.page (zero_frame _ (sym c.in_default.is ∙ c.find_end-end.ensures.found)))) in
     absent-end content bs ls c.args.place.koid.0 c.args.place.page (page_at end) true c.find_end-end.ensures.end is
 
 pub returns-in_default-clause-absent : goal.returns-in_default-clause-absent
@@ -22,8 +22,8 @@ returns-in_default-clause-absent g c =
     let content = g.P.PageStore.content c.args.store.now in
     let bs = backings_of c.args.table.now in
     let ls = loose_links_of c.args.table.now in
-    let end = c.find_end-end.result in
-    let is = sym c.if-is_sourced.false ∙ (c.is_sourced.ensures ∙ sym (absent-unheld content bs end.koid.0 end.page (zero_frame _ c.in_default.ensures))) in
+    let end = c.find_end-end.result.place in
+    let is = sym c.if-is_sourced.false ∙ (c.is_sourced.ensures ∙ sym (absent-unheld content bs end.koid.0 end.page (zero_frame _ (sym c.in_default.is ∙ c.find_end-end.ensures.found)))) in
     absent-end content bs ls c.args.place.koid.0 c.args.place.page (page_at end) false c.find_end-end.ensures.end is
 
 pub returns-in_default-clause-read : goal.returns-in_default-clause-read
@@ -31,8 +31,8 @@ returns-in_default-clause-read g c = λ supplied.
     let content = g.P.PageStore.content c.args.store.now in
     let bs = backings_of c.args.table.now in
     let ls = loose_links_of c.args.table.now in
-    let end = c.find_end-end.result in
-    let free = zero_frame _ c.in_default.ensures in
+    let end = c.find_end-end.result.place in
+    let free = zero_frame _ (sym c.in_default.is ∙ c.find_end-end.ensures.found) in
     let tight = absent-unheld content bs end.koid.0 end.page free ∙ (sym c.is_sourced.ensures ∙ c.if-is_sourced.false) in
     let text = sym (zeros-end content bs end.koid.0 end.page free tight)
     ∙ walked-from_end content bs ls c.args.place.koid.0 c.args.place.page (page_at end) c.find_end-end.ensures.end in
@@ -44,8 +44,8 @@ returns-clause-absent g c =
     let content = g.P.PageStore.content c.args.store.now in
     let bs = backings_of c.args.table.now in
     let ls = loose_links_of c.args.table.now in
-    let end = c.find_end-end.result in
-    let held = held_frame _ _ c.in-Some.ensures in
+    let end = c.find_end-end.result.place in
+    let held = held_frame _ _ (sym c.in-Some.is ∙ c.find_end-end.ensures.found) in
     absent-end content bs ls c.args.place.koid.0 c.args.place.page (page_at end) false c.find_end-end.ensures.end
     (sym (absent-held content (bs end.koid.0) end.koid.0 end.page held.0 held.1))
 
@@ -54,8 +54,8 @@ returns-clause-read g c = λ supplied.
     let content = g.P.PageStore.content c.args.store.now in
     let bs = backings_of c.args.table.now in
     let ls = loose_links_of c.args.table.now in
-    let end = c.find_end-end.result in
-    let held = held_frame _ _ c.in-Some.ensures in
+    let end = c.find_end-end.result.place in
+    let held = held_frame _ _ (sym c.in-Some.is ∙ c.find_end-end.ensures.found) in
     let text = sym (text-held content bs end.koid.0 end.page held.0 held.1)
     ∙ walked-from_end content bs ls c.args.place.koid.0 c.args.place.page (page_at end) c.find_end-end.ensures.end in
     c.read.ensures end.koid.0 end.page held.0 (record { page = held.1; tag = held.2 })

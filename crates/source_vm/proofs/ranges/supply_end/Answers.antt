@@ -9,7 +9,7 @@ use Rattle.source_vm.proofs.ranges.supply_end.Goals as goal
 
 pub fill_page-requires-clause-room : goal.fill_page-requires-clause-room
 fill_page-requires-clause-room g c =
-    let bit = absent-end _ (backings_of c.args.table.now) (loose_links_of c.args.table.now) c.args.at.koid.0 c.args.at.page (page_at c.find_end-end.result) c.is_absent.result c.find_end-end.ensures.end c.is_absent.ensures in
+    let bit = absent-end _ (backings_of c.args.table.now) (loose_links_of c.args.table.now) c.args.at.koid.0 c.args.at.page (page_at c.find_end-end.result.place) c.is_absent.result c.find_end-end.ensures.end (c.is_absent.ensures (g.P.PageStore.content c.args.store.now) c.find_end-end.ensures.found) in
     inr (c.requires.room (sym bit ∙ c.if-is_absent.true))
 
 pub returns-then-is_absent-clause-absent : goal.returns-then-is_absent-clause-absent
@@ -21,7 +21,7 @@ returns-then-is_absent-clause-absent g c = λ e. (
 
 pub returns-then-is_absent-clause-other : goal.returns-then-is_absent-clause-other
 returns-then-is_absent-clause-other g c = λ e. absurd (
-    let bit = absent-end _ (backings_of c.args.table.now) (loose_links_of c.args.table.now) c.args.at.koid.0 c.args.at.page (page_at c.find_end-end.result) c.is_absent.result c.find_end-end.ensures.end c.is_absent.ensures in
+    let bit = absent-end _ (backings_of c.args.table.now) (loose_links_of c.args.table.now) c.args.at.koid.0 c.args.at.page (page_at c.find_end-end.result.place) c.is_absent.result c.find_end-end.ensures.end (c.is_absent.ensures (g.P.PageStore.content c.args.store.now) c.find_end-end.ensures.found) in
     let no : ◌≡◌ {A = Bool} true false = sym c.if-is_absent.true ∙ (bit ∙ e) in cc)
 
 pub returns-then-is_absent-clause-inside : goal.returns-then-is_absent-clause-inside
@@ -30,7 +30,7 @@ returns-then-is_absent-clause-inside g c =
 
 pub returns-else-is_absent-clause-absent : goal.returns-else-is_absent-clause-absent
 returns-else-is_absent-clause-absent g c = λ e. absurd (
-    let bit = absent-end _ (backings_of c.args.table.now) (loose_links_of c.args.table.now) c.args.at.koid.0 c.args.at.page (page_at c.find_end-end.result) c.is_absent.result c.find_end-end.ensures.end c.is_absent.ensures in
+    let bit = absent-end _ (backings_of c.args.table.now) (loose_links_of c.args.table.now) c.args.at.koid.0 c.args.at.page (page_at c.find_end-end.result.place) c.is_absent.result c.find_end-end.ensures.end (c.is_absent.ensures (g.P.PageStore.content c.args.store.now) c.find_end-end.ensures.found) in
     let no : ◌≡◌ {A = Bool} true false = sym e ∙ (sym bit ∙ c.if-is_absent.false) in cc)
 
 pub returns-else-is_absent-clause-inside : goal.returns-else-is_absent-clause-inside

@@ -6,9 +6,10 @@ use Rattle.source_vm.proofs.EndLaws.{absent-unheld}
 use Rattle.source_vm.proofs.walk.is_absent.Goals as goal
 
 pub returns-in-Some : goal.returns-in-Some
-returns-in-Some g c = let held = held_frame _ _ c.in-Some.ensures in sym (absent-held _ _ _ _ held.0 held.1)
+returns-in-Some c = λ content found.
+    let held = held_frame _ _ (sym c.in-Some.is ∙ found) in sym (absent-held _ _ _ _ held.0 held.1)
 
 pub returns-in-None : goal.returns-in-None
-returns-in-None g c =
+returns-in-None c = λ content found.
     c.is_sourced.ensures
-    ∙ sym (absent-unheld (g.P.PageStore.content c.args.store.now) (backings_of c.args.table.now) c.args.at.koid.0 c.args.at.page (zero_frame _ c.in-None.ensures))
+    ∙ sym (absent-unheld content (backings_of c.args.table.now) c.args.at.place.koid.0 c.args.at.place.page (zero_frame _ (sym c.in-None.is ∙ found)))
