@@ -1,4 +1,4 @@
-use Rattle.std.proofs.Common.{◌<◌, inl, inr, ap, subst, sym}
+use Rattle.std.proofs.Common.{◌<◌, inl, inr, subst, sym}
 use Rattle.vmotree.proofs.EndLaws.{failed-some}
 use Rattle.vmotree.proofs.drawing.draw.Goals as goal
 
