@@ -451,13 +451,14 @@ impl PageStore for CowForest {
     }
 
     fn next_held(&self, v: Koid, from: PageNo) -> Option<PageNo> {
-        next_shown(
-            &self.arena,
-            &self.lists,
-            &self.jumps,
-            self.nodes.get(v.0),
-            from,
-        )
+        let leaf = self.nodes.get(v.0);
+        let end = self.arena.look(leaf).count;
+        next_shown(&self.arena, &self.lists, &self.jumps, leaf, from, end)
+    }
+
+    fn next_held_below(&self, v: Koid, from: PageNo, end: PageNo) -> Option<PageNo> {
+        let leaf = self.nodes.get(v.0);
+        next_shown(&self.arena, &self.lists, &self.jumps, leaf, from, end)
     }
 
     fn least_viewer(&self, tag: Tag) -> Koid {

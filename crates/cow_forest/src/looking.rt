@@ -194,29 +194,70 @@ fn look_found(
     }
 }
 
-/// Returns the first page from `from` on of a VMO's node that shows a frame. Page `from` itself is looked at first, by a
-/// walk with jumps.
+/// The most pages of a range that are looked at one by one. A look takes jumps, and a search goes through each node above. So a
+/// short range behind a long chain costs looks alone, and a longer one a search for each gap between held pages.
+const FEW_PAGES: u64 = 4;
+
+/// Returns the first page from `from` to below `end` of a VMO's node that shows a frame. `None` if and only if none does. A search
+/// ends at the first row that comes to a page at or behind `end`.
 pub(crate) fn next_shown(
     arena: &CowArena,
     lists: &PageLists,
     jumps: &JumpTable,
     leaf: NodeId,
     from: PageNo,
+    end: PageNo,
 ) -> Option<PageNo>
     requires exact { (in_use : ℕ → Bool) × IsExact (tree_of arena.now lists.now) all_in_sight in_use }
     requires jumps { (next : ℕ) × AreJumps (tree_of arena.now lists.now) next jumps.now }
     requires leaf { IsSomeAnd (nodes_of arena.now leaf.0) (λ node. IsSome node.koid) }
-    ensures some { IfSome result (λ page. (from ≤ page) × IsSome (frame_shown (tree_of arena.now lists.now) leaf.0 page)
-        × HasNone (shows_frame (tree_of arena.now lists.now) leaf.0) from page) }
-    ensures none { IfNone result ((end : ℕ) → HasNone (shows_frame (tree_of arena.now lists.now) leaf.0) from end) }
+    ensures { IsFirstOrNone (shows_frame (tree_of arena.now lists.now) leaf.0) from end result }
 {
-    if holder_by_jumps(arena, lists, jumps, leaf, from)
-        .frame()
-        .is_some()
-    {
-        return Some(from);
+    let few = end.min(from.saturating_add(looks_of(arena, leaf, from, end)));
+    if let Some(page) = first_shown(arena, lists, jumps, leaf, from, few) {
+        return Some(page);
     }
-    next_shown_by_rows(arena, lists, jumps, leaf, from)
+    if few < end {
+        next_shown_by_rows(arena, lists, jumps, leaf, few, end)
+    } else {
+        None
+    }
+}
+
+/// Returns how many pages of a range are looked at before a search: all of a short range, unless the node is a root, and otherwise
+/// the first.
+fn looks_of(arena: &CowArena, leaf: NodeId, from: PageNo, end: PageNo) -> u64
+    requires { IsSome (nodes_of arena.now leaf.0) }
+{
+    if end.saturating_sub(from) <= FEW_PAGES && arena.look(leaf).parent.is_some() {
+        FEW_PAGES
+    } else {
+        1
+    }
+}
+
+/// Does what `next_shown` does, by a look at each page.
+fn first_shown(
+    arena: &CowArena,
+    lists: &PageLists,
+    jumps: &JumpTable,
+    leaf: NodeId,
+    from: PageNo,
+    end: PageNo,
+) -> Option<PageNo>
+    requires exact { (in_use : ℕ → Bool) × IsExact (tree_of arena.now lists.now) all_in_sight in_use }
+    requires jumps { (next : ℕ) × AreJumps (tree_of arena.now lists.now) next jumps.now }
+    requires leaf { IsSomeAnd (nodes_of arena.now leaf.0) (λ node. IsSome node.koid) }
+    ensures { IsFirstOrNone (shows_frame (tree_of arena.now lists.now) leaf.0) from end result }
+{
+    let mut page = from;
+    while page < end {
+        if shown_frame(arena, lists, jumps, leaf, page).is_some() {
+            return Some(page);
+        }
+        page += 1;
+    }
+    None
 }
 
 /// Does what `next_shown` does, by the rows of the node and of the nodes above.
@@ -226,16 +267,18 @@ fn next_shown_by_rows(
     jumps: &JumpTable,
     leaf: NodeId,
     from: PageNo,
+    end: PageNo,
 ) -> Option<PageNo>
     requires exact { (in_use : ℕ → Bool) × IsExact (tree_of arena.now lists.now) all_in_sight in_use }
     requires jumps { (next : ℕ) × AreJumps (tree_of arena.now lists.now) next jumps.now }
     requires leaf { IsSomeAnd (nodes_of arena.now leaf.0) (λ node. IsSome node.koid) }
-    ensures some { IfSome result (λ page. (from ≤ page) × IsSome (frame_shown (tree_of arena.now lists.now) leaf.0 page)
-        × HasNone (shows_frame (tree_of arena.now lists.now) leaf.0) from page) }
-    ensures none { IfNone result ((end : ℕ) → HasNone (shows_frame (tree_of arena.now lists.now) leaf.0) from end) }
+    ensures { IsFirstOrNone (shows_frame (tree_of arena.now lists.now) leaf.0) from end result }
 {
     let mut at = from;
     while let Some(page) = next_row(arena, lists, leaf, at) {
+        if page >= end {
+            return None;
+        }
         if holder_by_jumps(arena, lists, jumps, leaf, page)
             .frame()
             .is_some()
@@ -247,9 +290,8 @@ fn next_shown_by_rows(
     None
 }
 
-/// Returns the first page from `from` to below `end` of a VMO's node that shows a frame, or `end` if none does. The first page
-/// is looked at, and of two pages the second. Behind the first of more than two the call searches.
-pub(crate) fn next_shown_below(
+/// Does what `next_shown` does, but returns `end` if there is no such page.
+pub(crate) fn next_shown_or_end(
     arena: &CowArena,
     lists: &PageLists,
     jumps: &JumpTable,
@@ -264,20 +306,10 @@ pub(crate) fn next_shown_below(
     ensures range { (from ≤ result) × (result ≤ end) }
     ensures none { HasNone (shows_frame (tree_of arena.now lists.now) leaf.0) from result }
 {
-    if from == end || shown_frame(arena, lists, jumps, leaf, from).is_some() {
-        return from;
+    match next_shown(arena, lists, jumps, leaf, from, end) {
+        Some(page) => page,
+        None => end,
     }
-    let next = from + 1;
-    if end - from > 2 {
-        return match next_shown_by_rows(arena, lists, jumps, leaf, next) {
-            Some(page) if page < end => page,
-            _ => end,
-        };
-    }
-    if next == end || shown_frame(arena, lists, jumps, leaf, next).is_some() {
-        return next;
-    }
-    end
 }
 
 /// Returns the first page from `from` on of a VMO's node that comes to a row, of the node or of one above it. No page

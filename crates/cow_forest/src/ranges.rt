@@ -15,7 +15,7 @@ ghost use Rattle.cow_jump.specs.Jumps.{AreJumps};
 ghost use Rattle.cow_fork.specs.Zeroing.{HasZeroed};
 ghost use Rattle.cow_forest.specs.Ranges.{rows_in, rows_reached, IsReadyToZero, HasNoFrame};
 
-use crate::looking::next_shown_below;
+use crate::looking::next_shown_or_end;
 use cow_arena::{CowArena, NodeId};
 use cow_fork::zero_by_jumps;
 use cow_jump::{JumpTable, holder_by_jumps};
@@ -116,7 +116,7 @@ fn first_to_zero(
         return pages;
     }
     PageRun {
-        from: next_shown_below(arena, lists, jumps, leaf, pages.from, pages.end),
+        from: next_shown_or_end(arena, lists, jumps, leaf, pages.from, pages.end),
         end: pages.end,
         in_row: true,
     }
@@ -150,7 +150,7 @@ fn zero_next(
             in_row: true,
         };
     }
-    let next = next_shown_below(arena, lists, jumps, leaf, behind, pages.end);
+    let next = next_shown_or_end(arena, lists, jumps, leaf, behind, pages.end);
     PageRun {
         from: next,
         end: pages.end,

@@ -1,7 +1,8 @@
 //! The contract of a store of pages.
 
 ghost use Rattle.std.specs.Prelude.{◌≡◌, ℕ, ◌+◌, ◌-◌, ◌<◌, ◌≤◌, ◌⊎◌, Bool, true, false, length, is_ok, IsSome, None, Some, IfSome, IfNone, IfOk, OnOk, OnErr};
-ghost use Rattle.vm_model.specs.Contents.Content.{Content, nothing, used, sole, pages_of, created, views, vmos_of};
+ghost use Rattle.vm_base.specs.Search.{IsFirstOrNone};
+ghost use Rattle.vm_model.specs.Contents.Content.{Content, nothing, used, sole, pages_of, is_held, created, views, vmos_of};
 ghost use Rattle.vm_model.specs.Contents.Owning.{Owns};
 ghost use Rattle.vm_model.specs.Contents.Sharing.{viewers, IsLeastViewer, snapshotted, without};
 ghost use Rattle.vm_model.specs.Contents.Zeroing.{zeroed, resized};
@@ -164,6 +165,18 @@ pub trait PageStore: Drop {
         ensures some { IfSome result (λ page. (from ≤ page) × IsSome ((content self.now).page v.0 page)
             × ((p : ℕ) → from ≤ p → p < page → (content self.now).page v.0 p ≡ None)) }
         ensures none { IfNone result ((p : ℕ) → from ≤ p → (content self.now).page v.0 p ≡ None) };
+
+    /// Returns the first page that is held, from page `from` of a VMO to below `end`. `None` if and only if none is. A store may end
+    /// its search there, and so pages at or behind `end` cost nothing.
+    fn next_held_below(&self, v: Koid, from: PageNo, end: PageNo) -> Option<PageNo>
+        requires { IsSome ((content self.now).count v.0) }
+        ensures { IsFirstOrNone (is_held (content self.now) v.0) from end result }
+    {
+        match self.next_held(v, from) {
+            Some(page) if page < end => Some(page),
+            _ => None,
+        }
+    }
 
     /// Returns the least koid of the VMOs that show a frame, of which there is one at least. That VMO is charged for
     /// the frame.

@@ -258,6 +258,10 @@ impl<P: PageStore> PageStore for RefusingStore<P> {
         self.inner.next_held(v, from)
     }
 
+    fn next_held_below(&self, v: Koid, from: PageNo, end: PageNo) -> Option<PageNo> {
+        self.inner.next_held_below(v, from, end)
+    }
+
     fn least_viewer(&self, tag: Tag) -> Koid {
         self.inner.least_viewer(tag)
     }

@@ -1,7 +1,8 @@
 //! The contract of the pages of VMOs, however they are kept.
 
 ghost use Rattle.std.specs.Prelude.{◌≡◌, ℕ, ◌+◌, ◌-◌, ◌<◌, ◌≤◌, ◌⊎◌, true, length, take, drop, IsSome, None, Some, IfSome, IfNone, IfOk, OnOk, OnErr};
-ghost use Rattle.vm_model.specs.Contents.Content.{Content, used, sole, pages_of, created, shown, vmos_of, IsGood};
+ghost use Rattle.vm_base.specs.Search.{IsFirstOrNone};
+ghost use Rattle.vm_model.specs.Contents.Content.{Content, used, sole, pages_of, is_held, created, shown, vmos_of, IsGood};
 ghost use Rattle.vm_model.specs.Contents.Owning.{Owns};
 ghost use Rattle.vm_model.specs.Contents.Sharing.{snapshotted, without};
 ghost use Rattle.vm_model.specs.Contents.Writing.{WritesPiece};
@@ -141,6 +142,18 @@ pub trait Pages: Drop {
         ensures some { IfSome result (λ page. (from ≤ page) × IsSome ((content self.now).page v.0 page)
             × ((p : ℕ) → from ≤ p → p < page → (content self.now).page v.0 p ≡ None)) }
         ensures none { IfNone result ((p : ℕ) → from ≤ p → (content self.now).page v.0 p ≡ None) };
+
+    /// Returns the first page that is held, from page `from` of a VMO to below `end`. `None` if and only if none is. A store may end
+    /// its search there, and so pages at or behind `end` cost nothing.
+    fn next_held_below(&self, v: Koid, from: PageNo, end: PageNo) -> Option<PageNo>
+        requires { IsSome ((content self.now).count v.0) }
+        ensures { IsFirstOrNone (is_held (content self.now) v.0) from end result }
+    {
+        match self.next_held(v, from) {
+            Some(page) if page < end => Some(page),
+            _ => None,
+        }
+    }
 
     /// Reports whether a VMO is charged for a page of it, which has this frame: no VMO with a lesser koid shows the
     /// frame.

@@ -83,6 +83,11 @@ impl<P: PageStore> crate::pages::Pages for P {
     }
 
     #[inline(always)]
+    fn next_held_below(&self, v: Koid, from: PageNo, end: PageNo) -> Option<PageNo> {
+        self.next_held_below(v, from, end)
+    }
+
+    #[inline(always)]
     fn is_charged(&self, v: Koid, _page: PageNo, tag: Tag) -> bool {
         self.lesser_viewer(tag, v).is_none()
     }

@@ -1,37 +1,12 @@
 //! Walks over the held pages of a range. They go past the zero pages of a long range.
 
 ghost use Rattle.std.specs.Prelude.{◌≡◌, ℕ, ◌<◌, ◌≤◌, None, IsSome, IfSome, IfNone};
-ghost use Rattle.vm_base.specs.Search.{HasNone, IsFirst, IsFirstOrNone};
+ghost use Rattle.vm_base.specs.Search.{HasNone, IsFirst};
 ghost use Rattle.vm_model.specs.Contents.Content.{is_held, pages_of, sole, IsGood};
 
 use crate::owning::is_sole;
 use pages::{Look, Pages};
 use vm_base::{Koid, PageNo};
-
-/// The most pages of a range that are looked at one by one. A longer range is gone over by its held pages. A look at a
-/// zero page is a walk to the root, and a search makes one such walk for a whole gap. A look at a held page also finds
-/// out whether the page is sole, and a search does not. So more looks than this do not pay if that is not wanted.
-const FEW_PAGES: u64 = 2;
-
-/// Returns the first page that is held, from page `from` of a VMO to below `end`. `None` if and only if none is.
-pub(crate) fn next_held_below<P: Pages>(
-    store: &P,
-    v: Koid,
-    from: PageNo,
-    end: PageNo,
-) -> Option<PageNo>
-    requires vmo { IsSome ((P.content store.now).count v.0) }
-    requires pages { end ≤ pages_of (P.content store.now) v.0 }
-    ensures { IsFirstOrNone (is_held (P.content store.now) v.0) from end result }
-{
-    if end.saturating_sub(from) <= FEW_PAGES {
-        return first_held(store, v, from, end);
-    }
-    match store.next_held(v, from) {
-        Some(page) if page < end => Some(page),
-        _ => None,
-    }
-}
 
 /// A page that is held, and whether no other VMO shows its frame.
 #[derive(Clone, Copy)]
@@ -40,9 +15,9 @@ pub(crate) struct HeldPage {
     pub sole: bool,
 }
 
-/// Returns the first page that is held, as `next_held_below` finds it, and whether it is sole, which takes a look at the
-/// page. If the held pages before stand in a row (`in_row`), page `from` is looked at before a search. The answer does
-/// not depend on `in_row`.
+/// Returns the first page from `from` to below `end` that is held, and whether it is sole, which takes a look at the page.
+/// If the held pages before stand in a row (`in_row`), page `from` is looked at before a search. The answer does not depend
+/// on `in_row`.
 pub(crate) fn next_with_sole<P: Pages>(
     store: &P,
     v: Koid,
@@ -62,7 +37,7 @@ pub(crate) fn next_with_sole<P: Pages>(
             return Some(held);
         }
     }
-    match next_held_below(store, v, from, end) {
+    match store.next_held_below(v, from, end) {
         Some(page) => Some(HeldPage {
             page,
             sole: is_sole(store, v, page),
@@ -84,21 +59,6 @@ fn held_at<P: Pages>(store: &P, v: Koid, page: PageNo) -> Option<HeldPage>
         Look::Zero => None,
         Look::Held { sole, .. } => Some(HeldPage { page, sole }),
     }
-}
-
-// Does what `next_held_below` does, by a look at each page.
-fn first_held<P: Pages>(store: &P, v: Koid, from: PageNo, end: PageNo) -> Option<PageNo>
-    requires { end ≤ pages_of (P.content store.now) v.0 }
-    ensures { IsFirstOrNone (is_held (P.content store.now) v.0) from end result }
-{
-    let mut page = from;
-    while page < end {
-        if is_held_at(store, v, page) {
-            return Some(page);
-        }
-        page += 1;
-    }
-    None
 }
 
 // Whether a page is held.

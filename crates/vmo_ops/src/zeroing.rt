@@ -18,7 +18,7 @@ ghost use Rattle.vmo_ops.specs.Targets.{with_pins, DoesWith, IsPlaced, IsRefusal
 ghost use Rattle.vmo_ops.specs.Costs.{held_touched, AsksToZero};
 
 use crate::filling::fill_part;
-use crate::held_pages::{is_held_at, next_held_below};
+use crate::held_pages::is_held_at;
 use crate::owning::{UNSEEN_PAGES, are_ample, is_sole, with_one};
 use crate::ranges::{PagePart, TouchedPages, part_in_page, touched_by, touched_pages};
 use crate::ready::{RangeToChange, place_to_change};
@@ -221,7 +221,7 @@ pub fn cost_to_zero<P: Pages>(
     let mut cost = ZeroCost { held: 0, owned: 0 };
     let (first, end) = touched_pages(offset, len);
     let mut from = first;
-    while let Some(page) = next_held_below(store, v, from, end) {
+    while let Some(page) = store.next_held_below(v, from, end) {
         cost.held += 1;
         cost.owned = with_one(cost.owned, takes_frame(store, pins, v, offset, len, page));
         from = page + 1;
