@@ -1,5 +1,5 @@
-"""Reads the sources of the crates: their calls with comments and clauses, their enums and constants, what the files bring in by name,
-and the words that stand in them."""
+"""Reads the sources of the crates: what each names, their calls with comments and clauses, their enums and constants, and what the files
+bring in by name."""
 import functools
 import pathlib
 import re
