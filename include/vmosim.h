@@ -14,7 +14,8 @@
  *   out overlaps neither line nor script nor the struct.
  * - One call at a time on a struct, by one thread, or by several that a lock orders. Calls on different structs may run at once if
  *   malloc may. No call from a signal handler, nor in a child that a program with several threads forked.
- * - malloc, realloc and free belong together, and align as the C standard asks. */
+ * - malloc, realloc and free belong together, and align as the C standard asks.
+ * - The thread has 16 KiB of stack left for a call. That each call takes less is measured, and not proved. */
 #ifndef VMOSIM_H
 #define VMOSIM_H
 

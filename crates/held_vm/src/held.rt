@@ -48,17 +48,18 @@ impl<P: PageStore, I: Interpreter<P>> Model for HeldVm<P, I> {
 
 impl<P: PageStore> HeldVm<P> {
     /// Returns a machine with `frames` page frames, from 1 to `FRAMES`, and nothing else, over a store that has nothing. `HostMemory`
-    /// if the host has too little memory for the frames.
+    /// if the host has too little memory for the frames and the data of a line.
     pub fn new(alloc: Global, frames: u32, store: P) -> Result<HeldVm<P>, HostMemory>
         requires frames { 1 ≤ frames × frames ≤ FRAMES }
         requires empty { P.content store ≡ nothing }
         ensures machine { IfOk result (λ h. held_machine P.content h ≡ empty_machine frames) }
     {
+        let interpreter = VmInterpreter::new(alloc)?;
         let mut filled = store;
         filled.fill(frames)?;
         // By no call of `hold`: with the interpreter handed to it, the check would read the code of all that answers a line.
         Ok(HeldVm {
-            interpreter: VmInterpreter::new(alloc),
+            interpreter,
             store: filled,
             reply: BoundedSink::new(alloc),
         })

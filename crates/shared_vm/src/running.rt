@@ -83,6 +83,9 @@ fn run_on<R: Threads + Wait + Sync, P: PageStore + Send, G: Gate, S: Source, K: 
 /// store may be gone. `ReadFault` if the source fails, and `ScriptLimit` if it gives more than `INPUT_BYTES` bytes: no task was
 /// done, and nothing was written. `WriteFault` if the sink fails: all tasks were done. `Usage` for other words, and nothing is
 /// touched.
+///
+/// It is not inlined, so the stack has the frames of one word of the program at a time.
+#[inline(never)]
 pub fn run_actors<R: Threads + Wait + Sync, P: PageStore + Send, G: Gate, S: Source, K: Sink>(
     rt: &R,
     alloc: Global,

@@ -23,6 +23,9 @@ use std::alloc::Global;
 /// `HostMemory` if the host has too little memory for the buffers and the frames. `ScriptLimit` if the source gives more than
 /// `SCRIPT_BYTES` bytes. `ReadFault` and `WriteFault` if the source and the sink fail. `Usage` for other words, and then nothing is
 /// touched.
+///
+/// It is not inlined, so the stack has the frames of one word of the program at a time.
+#[inline(never)]
 pub fn run_sources<P: PageStore, S: Source, K: Sink>(
     alloc: Global,
     words: &[String],

@@ -1,6 +1,6 @@
 //! Answering one line of a script.
 
-ghost use Rattle.std.specs.Prelude.{◌≡◌, ◌+◌, ◌≤◌, ◌<◌};
+ghost use Rattle.std.specs.Prelude.{◌≡◌, ◌+◌, ◌≤◌, ◌<◌, IfOk};
 ghost use Rattle.script_io.specs.Faults.{HasCause};
 ghost use Rattle.vm_model.specs.Machine.Machine.{IsGoodMachine};
 ghost use Rattle.vm_core.specs.Vm.{Agrees, machine_of};
@@ -14,13 +14,13 @@ use script_io::Sink;
 use script_text::read_call;
 use std::alloc::Global;
 use std::marker::Model;
-use vm_base::{Failed, KOIDS};
+use vm_base::{Failed, HostMemory, KOIDS};
 use vm_core::Vm;
 
 /// A machine that answers the lines of a script, and the room for the data of a line. Clauses see the parts of the machine.
 pub struct VmInterpreter {
     vm: Vm,
-    rooms: Rooms,
+    rooms: Box<Rooms>,
 }
 
 impl Model for VmInterpreter {
@@ -34,8 +34,9 @@ impl Model for VmInterpreter {
 impl Drop for VmInterpreter {
     // Written, and so proved here once. A derived drop is proved in each crate that lets an interpreter go, with that of each table.
     fn drop(self) {
-        let VmInterpreter { vm, rooms: _ } = self;
+        let VmInterpreter { vm, rooms } = self;
         drop(vm);
+        drop(rooms);
     }
 }
 
@@ -43,15 +44,17 @@ impl VmInterpreter {
     ghost use Rattle.vm_model.specs.Contents.Content.{Content, HasNoVmo};
     ghost use Rattle.vm_core.specs.Vm.{Agrees, bare_machine, machine_of};
 
-    /// Returns a machine with no names, pins, regions and translations. It agrees with every store that has no VMO.
-    pub fn new(alloc: Global) -> VmInterpreter
-        ensures bare { (c : Content) → machine_of c result ≡ bare_machine c }
-        ensures agrees { (c : Content) → HasNoVmo c → 1 ≤ c.next → Agrees c result }
+    /// Returns a machine with no names, pins, regions and translations. It agrees with every store that has no VMO. `HostMemory`
+    /// if the host has too little memory for the data of a line.
+    pub fn new(alloc: Global) -> Result<VmInterpreter, HostMemory>
+        ensures bare { IfOk result (λ i. (c : Content) → machine_of c i ≡ bare_machine c) }
+        ensures agrees { IfOk result (λ i. (c : Content) → HasNoVmo c → 1 ≤ c.next → Agrees c i) }
     {
-        VmInterpreter {
+        let rooms = Rooms::new(alloc)?;
+        Ok(VmInterpreter {
             vm: Vm::new(alloc),
-            rooms: Rooms::new(),
-        }
+            rooms,
+        })
     }
 }
 
@@ -74,7 +77,7 @@ impl<P: PageStore> Interpreter<P> for VmInterpreter {
         sink: &mut K,
         line: &[u8],
     ) -> Result<(), Failed> {
-        answer_line(store, &mut self.vm, sink, &mut self.rooms, line)
+        answer_line(store, &mut self.vm, sink, self.rooms.as_mut(), line)
     }
 
     ghost holds = { λ x c. refl };

@@ -37,7 +37,9 @@ pub fn serve<P: PageStore, S: Source, K: Sink>(
     ensures write_cause { result ≡ Status.WriteFault → HasFailed (K.faults sink.old) (K.faults sink.new) }
     ensures host_memory { result ≡ Status.HostMemory → (source.new ≡ source.old) × (sink.new ≡ sink.old) }
 {
-    let mut interpreter = VmInterpreter::new(alloc);
+    let Ok(mut interpreter) = VmInterpreter::new(alloc) else {
+        return Status::HostMemory;
+    };
     let bounds = Bounds {
         frames,
         bytes: limit,

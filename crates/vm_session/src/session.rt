@@ -24,6 +24,9 @@ use vm_base::SCRIPT_BYTES;
 /// `HostMemory` if the host has too little memory for the buffers and the frames. `ScriptLimit` if the source gives
 /// more than 4,294,967,296 bytes. `ReadFault` if the source fails, `WriteFault` if the sink fails. `Usage` for other
 /// words, and nothing is touched then.
+///
+/// It is not inlined, so the stack has the frames of one word of the program at a time.
+#[inline(never)]
 pub fn run<P: PageStore, S: Source, K: Sink>(
     alloc: Global,
     words: &[String],

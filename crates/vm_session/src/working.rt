@@ -21,7 +21,7 @@ use vm_core::Vm;
 /// Does `count` commands that are generated from a number, one after another, on a machine with `frames` page frames,
 /// from 1 to 65,536, and pushes the line that says what became of them.
 ///
-/// `HostMemory` if the host has too little memory for the frames. `WriteFault` if the sink fails.
+/// `HostMemory` if the host has too little memory for the buffers and the frames. `WriteFault` if the sink fails.
 pub(crate) fn work<P: PageStore, K: Sink>(
     alloc: Global,
     frames: u32,
@@ -39,12 +39,15 @@ pub(crate) fn work<P: PageStore, K: Sink>(
     ensures host_memory { result ≡ Status.HostMemory → sink.new ≡ sink.old }
     ensures others { (result ≢ Status.Usage) × (result ≢ Status.ReadFault) }
 {
+    let Ok(mut boxed) = Rooms::new(alloc) else {
+        return Status::HostMemory;
+    };
     let Ok(()) = store.fill(frames) else {
         return Status::HostMemory;
     };
     let mut vm = Vm::new(alloc);
-    let mut rooms = Rooms::new();
-    let tally = work_through(store, &mut vm, number, count, &mut rooms);
+    let rooms = boxed.as_mut();
+    let tally = work_through(store, &mut vm, number, count, rooms);
     // By one call: at the end of the body its tables would be dropped one by one, each with a proof.
     drop(vm);
     let end = write_tally(tally, store, &mut rooms.reply);

@@ -22,6 +22,17 @@ use vm_session::{Status, code};
 #[cfg(test)]
 mod tests;
 
+/// The bytes of stack that are touched before anything is read: more than any line needs.
+const STACK_BYTES: usize = 40960;
+
+/// Touches the stack that a line may need, so that a program whose stack can't grow ends before it reads. Returns whether each byte
+/// is what was written there, which it is. The function is not inlined, so `main` does not keep these bytes.
+#[inline(never)]
+fn touch_stack(byte: u8) -> bool {
+    let room = [byte; STACK_BYTES];
+    room.iter().all(|it| *it == byte)
+}
+
 /// Returns the words of the command line behind the program's name. `HostMemory` if there is no memory for them,
 /// `Usage` if one of them is no text.
 fn words(rt: &(impl Env + AllocGlobal)) -> Result<Vec<String>, Status> {
@@ -45,6 +56,10 @@ fn main(rt: HostRuntime) -> ExitCode {
         Ok(words) => words,
         Err(status) => return ExitCode::from(code(status)),
     };
+    // The number of words is known only at run time, so the compiler leaves the call.
+    if !touch_stack(words.len() as u8) {
+        return ExitCode::from(code(Status::HostMemory));
+    }
     let functions = [
         SourceFn::new(0, |seed, offset| src_byte(0, seed, offset)),
         SourceFn::new(1, |seed, offset| src_byte(1, seed, offset)),
