@@ -5,8 +5,8 @@
  *
  * What is proved of the library, whatever bytes it is given: it touches no other memory, never aborts, and each call ends. What a line
  * or a script is answered is what the plain machine answers, the same definition as in the theorem of `vmosim run`. A machine that is
- * opened is empty, and no call but those below changes it. The clauses stand in crates/vmosim_c/src/exports.rt. No clause says that
- * closing gives memory back: the types let no machine be lost, and valgrind finds no byte that is.
+ * opened is empty, and no call but those below changes it. The clauses stand in crates/vmosim_c/src/exports.rt. That closing gives
+ * memory back, and that VMOSIM_OUT_OF_MEMORY comes only where malloc fails, is tested and not proved.
  *
  * What is not proved is up to the caller:
  * - A struct vmosim is all zeros, or as the last call on it left it. It may be moved, but of two copies only one is used from then on.
@@ -61,8 +61,8 @@ uint8_t vmosim_open(struct vmosim *machine, uint32_t frames);
 
 /* Answers one line, without its line feed, and writes the reply to out: no byte for a comment or a blank line. The bytes of out behind
  * the reply stay as they are. VMOSIM_OUT_OF_ROOM if and only if the reply is longer than room: the line was done then, and a line maps,
- * which changes nothing, may be given again with more room. VMOSIM_OUT_OF_MEMORY comes only where room is more than at every line
- * before. */
+ * which changes nothing, may be given again with more room. VMOSIM_OUT_OF_MEMORY comes only where room is more than at the last line that
+ * was answered. */
 struct vmosim_answered vmosim_line(struct vmosim *machine, const uint8_t *line, size_t len, uint8_t *out, size_t room);
 
 /* Closes the machine, and gives its memory back. A closed one stays as it is. */

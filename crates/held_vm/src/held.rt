@@ -94,8 +94,8 @@ impl<P: PageStore, I: Interpreter<P>> HeldVm<P, I> {
     /// Answers a line, without its line feed, and writes the reply to the front of `out`. Returns the length of the reply in bytes.
     ///
     /// `OutOfRoom` if and only if the reply is longer than `out`: the line was done, and `out` has the front of the reply.
-    /// `OutOfMemory` if the host has too little memory, which it is asked for only if `out` is longer than it was at every line
-    /// before. `OutOfKoids` if `KOIDS` koids were given. Nothing was done in these two cases, and `out` is as it was.
+    /// `OutOfMemory` if the host has too little memory, which it is asked for only if `out` is longer than at the last line that was
+    /// answered. `OutOfKoids` if `KOIDS` koids were given. Nothing was done in these two cases, and `out` is as it was.
     pub fn answer(&mut self, line: &[u8], out: &mut [u8]) -> Result<usize, AnswerError>
         ensures answers { Answers I.rules result line.now (state_held P.content I.state self.old)
             (state_held P.content I.state self.new) out.old out.new }
