@@ -1,10 +1,13 @@
 /* Measures how much stack each call of the library takes, on the script on standard input: in a thread whose stack is painted before a
  * call, and looked through behind it. It writes a line for each call, with the most bytes that any call of it took. It ends with 0, or
- * with 1 if a call took more than LIMIT bytes.
+ * says what is wrong and ends with 1.
  *
- *     stack LIMIT <SCRIPT
+ *     stack <SCRIPT
  *
  * It is C, and takes POSIX threads. */
+#undef _POSIX_C_SOURCE
+#define _POSIX_C_SOURCE 200809L
+
 #include "vmosim.h"
 
 #include <pthread.h>
@@ -71,19 +74,13 @@ static void *play(void *unused) {
     return NULL;
 }
 
-int main(int count, char **words) {
-    must(count == 2, "one word is taken, the most bytes that a call may take");
-    size_t limit = strtoul(words[1], NULL, 10);
+int main(void) {
     script_len = fread(script, 1, MOST, stdin);
     pthread_attr_t how;
     pthread_t thread;
     must(posix_memalign((void **)&stack, 4096, STACK) == 0, "no memory");
     must(pthread_attr_init(&how) == 0 && pthread_attr_setstack(&how, stack, STACK) == 0, "a stack is not taken");
     must(pthread_create(&thread, &how, play, NULL) == 0 && pthread_join(thread, NULL) == 0, "a thread is not started");
-    bool is_less = true;
-    for (int call = 0; call < CALLS; call++) {
-        printf("%s %zu\n", names[call], most[call]);
-        is_less = is_less && most[call] <= limit;
-    }
-    return is_less ? 0 : 1;
+    for (int call = 0; call < CALLS; call++) printf("%s %zu\n", names[call], most[call]);
+    return 0;
 }
