@@ -1,9 +1,8 @@
 -- Laws of the bytes of a page of a source: the first of them determines the others.
-use Rattle.std.proofs.Common.{◌≡◌, ◌≢◌, ℕ, zero, suc, ◌+◌, ◌*◌, ◌/◌, ◌%◌, ◌<◌, ◌≤◌, ◌==◌, ◌∷◌, Bool, cond, List, map, replicate, refl, sym, ap, ◌∙◌, arith}
+use Rattle.std.proofs.Common.{◌≡◌, ◌≢◌, ℕ, zero, suc, ◌+◌, ◌*◌, ◌/◌, ◌%◌, ◌<◌, ◌==◌, ◌∷◌, Bool, cond, List, map, replicate, refl, sym, ap, ◌∙◌, arith}
 use Rattle.std.specs.List.{range_with_len}
-use Rattle.std.proofs.lemmas.Bool.{cases_eq}
 use Rattle.vm_base.specs.declared.limits.TheConstants.{PAGE}
-use Rattle.vm_base.proofs.SearchLaws.{eqb_same, eqb_apart}
+use Rattle.vm_base.proofs.SearchLaws.{eqb_apart}
 use Rattle.source_model.specs.Sources.{source_byte, source_page}
 
 -- two maps over ranges of one length are the same where they agree at each place
