@@ -3,7 +3,7 @@
 ghost use Rattle.std.specs.Prelude.{◌≡◌, ℕ, ◌+◌, ◌-◌, ◌*◌, ◌/◌, ◌<◌, ◌≤◌, true, false, [], ◌∷◌, map, length, Some, None, IsSome, IfSome, IfNone, IfErr, OnOk, OnErr};
 ghost use Rattle.std.specs.List.{filter, range_with_len};
 ghost use Rattle.vm_base.specs.Search.{any_from, IsFirstOrNone};
-ghost use Rattle.vm_model.specs.Contents.Content.{pages_of, is_held, used, IsGood};
+ghost use Rattle.vm_model.specs.Contents.Content.{pages_of, used, IsGood};
 ghost use Rattle.vm_model.specs.Contents.Owning.{need};
 ghost use Rattle.vm_model.specs.Contents.Writing.{touched, pieces};
 ghost use Rattle.vmo_ops.specs.Costs.{HasRows};
@@ -47,7 +47,7 @@ fn count_absent<P: PageStore>(
 {
     let mut absent = end - first;
     let mut from = first;
-    while let Some(page) = next_held_in(store, v, from, end) {
+    while let Some(page) = store.next_held_below(v, from, end) {
         absent -= 1;
         from = page + 1;
     }
@@ -356,15 +356,6 @@ pub(crate) fn evict_pages<P: PageStore>(
     Ok(())
 }
 
-/// Returns the first held page from `from` to below `end`. `None` if and only if none is.
-fn next_held_in<P: PageStore>(store: &P, v: Koid, from: PageNo, end: PageNo) -> Option<PageNo>
-    requires { IsSome ((P.content store.now).count v.0) }
-    ensures { IsFirstOrNone (is_held (P.content store.now) v.0) from end result }
-{
-    let page = store.next_held(v, from)?;
-    if page < end { Some(page) } else { None }
-}
-
 /// Returns the first clean page from `first` to below `end`. `None` if and only if none is clean.
 fn first_clean<P: PageStore>(
     store: &P,
@@ -383,7 +374,7 @@ fn first_clean<P: PageStore>(
     ensures { IsFirstOrNone (is_clean_at backing.now (P.content store.now) v.0) first end result }
 {
     let mut from = first;
-    while let Some(page) = next_held_in(store, v, from, end) {
+    while let Some(page) = store.next_held_below(v, from, end) {
         if is_clean(store, functions, backing, v, page) {
             return Some(page);
         }
@@ -411,7 +402,7 @@ fn evict_range<P: PageStore>(
     ensures { P.content store.new ≡ cleared backing.now (P.content store.old) v.0 first end }
 {
     let mut from = first;
-    while let Some(page) = next_held_in(store, v, from, end) {
+    while let Some(page) = store.next_held_below(v, from, end) {
         evict_page(store, functions, backing, v, page);
         from = page + 1;
     }

@@ -12,8 +12,8 @@ loop-page-init g c = record {
   room = c.requires.room;
 }
 
-pub next_held_in-requires : goal.next_held_in-requires
-next_held_in-requires g c =
+pub next_held_below-requires : goal.next_held_below-requires
+next_held_below-requires g c =
     subst (λ count. IsSome (count c.args.v.0)) (sym (count-cleared _ _ _ _ _ _ c.loop-page.invariant.cleared)) c.requires.vmo
 
 pub evict_page-requires-clause-good : goal.evict_page-requires-clause-good
