@@ -1,7 +1,8 @@
-"""The clone tree behind each line of a script, with its hidden nodes, as `vmotree` draws it."""
+"""The clone tree behind lines of a script, with its hidden nodes, as `vmotree` draws it."""
 import os
 import subprocess
 
+from .clone_tree import nodes_of, tree_picture
 from .turns import TOP, Trouble
 
 BUILT = TOP / "crates" / "vmotree" / "out" / "vmotree"
@@ -16,19 +17,13 @@ def tree_program(asked):
     return asked.tree or (str(BUILT) if os.access(BUILT, os.X_OK) else None)
 
 
-def shortened(tree):
-    """Returns the lines of a tree, cut if they are many. The first one counts."""
-    more = len(tree) - 1 - MOST_NODES
-    return "\n".join(tree if more <= 0 else [*tree[: MOST_NODES + 1], f"# .. and {more} nodes more"])
-
-
-def trees_of(lines, asked):
-    """Returns the tree behind each command that is one, in the order of the lines. None without vmotree."""
+def trees_of(lines, asked, at="each"):
+    """Returns the tree behind each command that is one, in the order of the lines, or only that at the end. None without vmotree."""
     program = tree_program(asked)
     if not program:
         return None
     text = "".join(f"{it}\n" for it in lines).encode()
-    words = [program, "--frames", str(asked.frames), "--at", "each"]
+    words = [program, "--frames", str(asked.frames), "--at", at]
     try:
         ran = subprocess.run(words, input=text, stdout=subprocess.PIPE, check=False)
     except OSError as error:
@@ -41,9 +36,37 @@ def trees_of(lines, asked):
             trees.append([line])
         elif line.startswith("#") and trees:
             trees[-1].append(line)
-    return [shortened(it) for it in trees]
+    return ["\n".join(it) for it in trees]
+
+
+def renumber(machine, tree):
+    """Gives the frames of a model the numbers that they have in a tree."""
+    vmos = {it.koid: it for it in machine.vmos}
+    for node in nodes_of(tree):
+        pages = vmos[node.koid].pages if node.koid in vmos else {}
+        for page, frame in pages.items():
+            number = node.holder(page)[1]
+            if number is not None:
+                machine.pool.renumber(frame, number)
+
+
+def tree_shown(tree, machine, least=460):
+    """Returns what is shown of a tree: its picture, or its lines if it has more nodes than a picture, cut if they are many."""
+    picture = tree_picture(tree, machine.label, least=least)
+    lines = tree.splitlines()
+    more = len(lines) - 1 - MOST_NODES
+    return picture or "\n".join(lines if more <= 0 else [*lines[: MOST_NODES + 1], f"# .. and {more} nodes more"])
 
 
 def has_tree(turn):
     """Returns whether a tree is drawn behind a turn: its line is a command."""
     return bool(turn.replies) and turn.replies[0] != "SYNTAX"
+
+
+def draw_tree(turns, asked):
+    """Yields the picture of the clone tree behind the last turn."""
+    trees = trees_of(asked.lines, asked, "end")
+    if not trees:
+        raise Trouble(1, "the program vmotree is not built, and no --tree names it" if asked.word == "run" else f"{asked.word} has no clone tree")
+    machine = list(turns)[-1][1]
+    yield tree_picture(trees[-1], machine.label, asked.scheme) or trees[-1]
