@@ -27,15 +27,16 @@ _vmosim() {
 }
 
 _vmosim_look() {
-    local verbs='annotate cost json state draw page'
+    local verbs='annotate cost json why orders state draw tree page'
     case ${COMP_WORDS[COMP_CWORD - 1]} in
         --word) _vmosim_offer 'run batch sources' ;;
+        --scheme) _vmosim_offer 'auto light dark' ;;
         --frames | --at) COMPREPLY=() ;;
         *)
             if [ "$COMP_CWORD" -eq 1 ]; then
                 _vmosim_offer "$verbs --help"
             else
-                _vmosim_offer '--frames --word --at --csv --program' -f
+                _vmosim_offer '--frames --word --at --csv --scheme --program --tree' -f
             fi
             ;;
     esac

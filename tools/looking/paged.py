@@ -40,13 +40,7 @@ def source_marks(machine):
     """Returns what a picture shows, by its places: each held page, and each VMO."""
     marks = {("page", vmo.koid, page): (frame.slot, frame.payer(), len(frame.koids), kind_of(vmo, page))
              for vmo in machine.vmos for page, frame in vmo.held.items()}
-    return marks | {("vmo", vmo.koid): label_of(machine, vmo.koid) for vmo in machine.vmos}
-
-
-def label_of(machine, koid):
-    """Returns what a VMO is called: its first name, or its koid."""
-    names = next((names_of(machine, it) for it in machine.vmos if it.koid == koid), [])
-    return names[0] if names else f"koid {koid}"
+    return marks | {("vmo", vmo.koid): machine.label(vmo.koid) for vmo in machine.vmos}
 
 
 def vmo_row(machine, vmo, depth, change):
@@ -58,13 +52,13 @@ def vmo_row(machine, vmo, depth, change):
             return Look(kind, hint="no frame", is_new=is_new)
         frame = vmo.held[page]
         payer, others = frame.payer(), sorted(frame.koids - {vmo.koid})
-        tag = "" if not others else f"+{len(others)}" if payer == vmo.koid else label_of(machine, payer)
-        return Look("held", payer, tag, kind, f"{kind}, {label_of(machine, payer)} pays", is_new=is_new)
+        tag = "" if not others else f"+{len(others)}" if payer == vmo.koid else machine.label(payer)
+        return Look("held", payer, tag, kind, f"{kind}, {machine.label(payer)} pays", is_new=is_new)
 
     seen = vmo.backing.seen if vmo.backing else vmo.link.seen
     marked = {*vmo.held, seen, *change.changed_pages(vmo.koid)}
     cells = runs_of(range(len(vmo.text)), sorted(marked), look_at)
-    comes = f"source {vmo.backing.kind}, seed {vmo.backing.seed}" if vmo.backing else f"child of {label_of(machine, vmo.link.parent.koid)}"
+    comes = f"source {vmo.backing.kind}, seed {vmo.backing.seed}" if vmo.backing else f"child of {machine.label(vmo.link.parent.koid)}"
     label = Label(depth, vmo.koid, " ".join(names_of(machine, vmo)) or f"koid {vmo.koid}", f"{comes}, {len(vmo.held):,} held",
                   change.is_new("vmo", vmo.koid))
     return row_of(cells, label, lambda cell: [vmo.held[it].slot for it in cell.pages] if cell.look.kind == "held" else [])

@@ -9,6 +9,7 @@ class FramePool:
         self.taken = {}
         self.idle = []
         self.fresh = 0
+        self.count = 0
 
     def take(self, frame):
         """Gives a frame its number."""
@@ -16,6 +17,8 @@ class FramePool:
             self.idle.append(self.fresh)
             self.fresh += 1
         frame.slot = self.idle.pop()
+        frame.order = self.count
+        self.count += 1
         self.taken[frame.slot] = frame
 
     def give_back(self, frame):
@@ -41,8 +44,8 @@ class FramePool:
 
 
 class Frame:
-    """A page frame: its bytes, the koids of the VMOs that show it, and its number in the pool. `number` is the same while a pin keeps
-    it, and else None."""
+    """A page frame: its bytes, the koids of the VMOs that show it, its number in the pool, and how many frames were taken before it.
+    `number` is that in the pool while a pin keeps it, and else None."""
 
     def __init__(self, bytes_shown, koid, pool):
         self.data = bytearray(bytes_shown)

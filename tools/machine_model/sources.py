@@ -142,6 +142,10 @@ class SourceMachine(Answering):
         self.refuse(("BAD_HANDLE", name not in self.names and f"{name} is not open"))
         return self.names[name]
 
+    def label(self, koid):
+        """Returns what a VMO is called: its name, or its koid."""
+        return next((name for name, it in self.names.items() if it.koid == koid), f"koid {koid}")
+
     def add(self, name, text, backing=None, link=None):
         """Adds a VMO with a name, and returns it."""
         it = SourceVmo(self.next, text, backing, link)

@@ -4,10 +4,9 @@ import re
 
 from looking.drawing import all_rows, marks_of, picture
 from looking.page import record_of
-from looking.texts import COLUMNS, Ranks, blocks_of
+from looking.texts import COLUMNS, Blocks, Ranks, payers_of
 from looking.trees import renumber, tree_shown, trees_of
 from looking.turns import MACHINES, Trouble, play
-from machine_model import SourceMachine
 
 LEAST, WIDEST = 340, 920
 MOST_LINES = 20_000
@@ -17,16 +16,6 @@ def lines_of(script):
     """Returns the lines of a script."""
     lines = script.replace("\r\n", "\n").split("\n")
     return lines[:-1] if lines[-1] == "" else lines
-
-
-def payers_of(machine):
-    """Returns how many frames each VMO is charged for, in the order of the koids, those without a frame left out."""
-    pages = (lambda vmo: vmo.held) if isinstance(machine, SourceMachine) else (lambda vmo: vmo.pages)
-    frames = {frame for vmo in machine.vmos for frame in pages(vmo).values()}
-    counts = {}
-    for it in sorted(frame.payer() for frame in frames):
-        counts[it] = counts.get(it, 0) + 1
-    return [[machine.label(koid), count] for koid, count in counts.items()]
 
 
 class View:
@@ -60,7 +49,7 @@ class Turns:
 
     def __init__(self, asked, lines):
         self.asked, self.lines, self.ranks = asked, lines, Ranks(asked.word)
-        self.told, self.turns = [], []
+        self.told, self.blocks, self.is_begun = [], Blocks(), False
         self.view = View(asked, min(asked.line, len(lines)))
 
     def follow(self, program):
@@ -71,7 +60,8 @@ class Turns:
                 self.view.follow(turn, machine, lines)
                 if self.asked.all:
                     self.told.append(record_of(turn, self.ranks) | {"faults": turn.faults, "column": column_of(turn)})
-                self.turns.append(turn)
+                    self.blocks.add(turn, machine)
+                self.is_begun = True
         except Trouble as trouble:
             return str(trouble).replace("\nlook: ", "; ")
         return ""
@@ -83,11 +73,12 @@ def answer(asked):
     lines = lines_of(asked.script)
     turns = Turns(asked, lines[:MOST_LINES])
     trouble = turns.follow(asked.program)
-    if trouble and not turns.turns:
+    if trouble and not turns.is_begun:
         trouble += "; these replies are the model's" + turns.follow(None)
     if len(lines) > MOST_LINES:
         trouble = f"{trouble}; " * bool(trouble) + f"the page shows {MOST_LINES:,} lines, and the script has {len(lines):,}"
-    costs = [[str(it[name]) for name in COLUMNS] for it in blocks_of((it, None) for it in turns.turns)] if asked.all else []
+    turns.blocks.end_row()
+    costs = [[str(it[name]) for name in COLUMNS] for it in turns.blocks.rows]
     return {"error": trouble, "view": turns.view.shown, "lines": turns.told, "columns": COLUMNS, "cost": costs}
 
 
