@@ -50,6 +50,15 @@ _vmosim_shell() {
     esac
 }
 
+_vmosim_play() {
+    case ${COMP_WORDS[COMP_CWORD - 1]} in
+        --word) _vmosim_offer 'run batch sources' ;;
+        --frames | --port) COMPREPLY=() ;;
+        *) _vmosim_offer '--frames --word --no-open --port --program --tree --help' -f ;;
+    esac
+}
+
 complete -o filenames -F _vmosim vmosim ./vmosim
 complete -o filenames -F _vmosim_look look tools/look
+complete -o filenames -F _vmosim_play play tools/play
 complete -o filenames -F _vmosim_shell shell tools/shell
