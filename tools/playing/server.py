@@ -44,8 +44,7 @@ class Site:
         forms = {word: {name: [*form] for name, form in it.forms.items()}
                  for word, it in (("run", Machine), ("batch", BatchMachine), ("sources", SourceMachine))}
         samples = examples()
-        start = {"forms": forms, "examples": samples, "given": given or samples[STARTER], "name": given["name"] if given else STARTER,
-                 "answerer": answerer}
+        start = {"forms": forms, "examples": samples, "given": given, "name": given["name"], "answerer": answerer}
         page = (HERE / "page.html").read_text(encoding="utf-8")
         page = page.replace("@EDITOR@", (HERE / "editor.html").read_text(encoding="utf-8").strip() if has_editor else "")
         self.files = {"": (page.encode(), ".html"), "start.json": (json.dumps(start).encode(), ".json")}
