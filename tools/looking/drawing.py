@@ -41,8 +41,7 @@ def vmo_row(machine, vmo, depth):
     names = [it["name"] + ("" if it["kind"] == "owner" else f" ({it['kind']})") for it in names_of(machine, vmo)]
     charged = sum(min(frame.koids) == vmo.koid for frame in vmo.pages.values())
     parent = f", child of koid {vmo.parent.koid}" if vmo.parent else ""
-    count = f"{vmo.count:,} page{'' if vmo.count == 1 else 's'}"
-    small = [f"koid {vmo.koid}{parent}", f"{count}, {len(vmo.pages):,} held, charged {charged:,}"]
+    small = [f"koid {vmo.koid}{parent}", f"{counted(vmo.count, 'page')}, {len(vmo.pages):,} held, charged {charged:,}"]
     return row_of(cells, depth, " ".join(names) or "(no name)", small, lambda page: f"page {page:,}")
 
 

@@ -1,6 +1,8 @@
 """The same of the machine of page sources: its state, and the rows of its picture."""
 import hashlib
 
+from machine_model.answering import counted
+
 from .cells import Look, runs_of
 from .rows import Row, row_of, shown_by, text_row, tree_of
 
@@ -56,8 +58,7 @@ def vmo_row(machine, vmo, depth):
     seen = vmo.backing.seen if vmo.backing else vmo.link.seen
     cells = runs_of(range(len(vmo.text)), sorted({*vmo.held, seen}), look_at)
     comes = f"source {vmo.backing.kind}, seed {vmo.backing.seed}" if vmo.backing else f"loose, child of koid {vmo.link.parent.koid}"
-    count = f"{len(vmo.text):,} page{'' if len(vmo.text) == 1 else 's'}"
-    small = [f"koid {vmo.koid}, {comes}", f"{count}, {len(vmo.held):,} held"]
+    small = [f"koid {vmo.koid}, {comes}", f"{counted(len(vmo.text), 'page')}, {len(vmo.held):,} held"]
     return row_of(cells, depth, " ".join(names_of(machine, vmo)) or "(no name)", small, lambda page: f"page {page:,}")
 
 

@@ -1,6 +1,8 @@
 """The clone tree behind each line of a script, with its hidden nodes, as `vmotree` draws it."""
 import os
-import subprocess
+
+from machine_model.answering import counted
+from programs import run
 
 from .turns import TOP, Trouble
 
@@ -19,7 +21,7 @@ def tree_program(asked):
 def shortened(tree):
     """Returns the lines of a tree, cut if they are many. The first one counts."""
     more = len(tree) - 1 - MOST_NODES
-    return "\n".join(tree if more <= 0 else [*tree[: MOST_NODES + 1], f"# .. and {more} nodes more"])
+    return "\n".join(tree if more <= 0 else [*tree[: MOST_NODES + 1], f"# .. and {counted(more, 'node')} more"])
 
 
 def trees_of(lines, asked):
@@ -27,12 +29,7 @@ def trees_of(lines, asked):
     program = tree_program(asked)
     if not program:
         return None
-    text = "".join(f"{it}\n" for it in lines).encode()
-    words = [program, "--frames", str(asked.frames), "--at", "each"]
-    try:
-        ran = subprocess.run(words, input=text, stdout=subprocess.PIPE, check=False)
-    except OSError as error:
-        raise Trouble(1, f"cannot run {program!r}: {error.strerror}") from None
+    ran = run(program, ["--frames", str(asked.frames), "--at", "each"], "".join(f"{it}\n" for it in lines).encode())
     if ran.returncode:
         raise Trouble(1, f"the program {program!r} ends with status {ran.returncode}")
     trees = []

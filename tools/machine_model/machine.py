@@ -1,7 +1,7 @@
 """The plain machine: a VMO is a map of its pages, and a snapshot copies the map."""
 import re
 
-from .answering import Answering, counted, misplaced
+from .answering import Answering, are, counted, misplaced
 from .limits import MOST_PAGES, MOST_PINNED, MOST_READ, PAGE, meet, pages_in, touched
 from .objects import Frame, Name, Pin, Vmo
 from .regions import READY_TO_READ, RegionCommands
@@ -85,7 +85,7 @@ class Machine(RegionCommands, Answering):
 
     def free_words(self):
         """Says how many frames are free."""
-        return f"{counted(self.frames - self.used, 'frame')} {'is' if self.frames - self.used == 1 else 'are'} free"
+        return f"{counted(self.frames - self.used, 'frame')} {are(self.frames - self.used)} free"
 
     def lacks_words(self, vmo, pages, which="of the range"):
         """Says that owning pages of a VMO takes too many frames, if it does. The pages are a range or a list."""
@@ -93,7 +93,7 @@ class Machine(RegionCommands, Answering):
             return ""
         count = pages.stop - pages.start if isinstance(pages, range) else len(pages)
         need = count - sum(it in pages and vmo.is_sole(it) for it in vmo.pages)
-        return f"{counted(need, 'page')} {which} {'is' if need == 1 else 'are'} not sole, {self.free_words()}"
+        return f"{counted(need, 'page')} {which} {are(need)} not sole, {self.free_words()}"
 
     def put(self, vmo, offset, written):
         """Writes bytes to pages, which it owns."""
@@ -157,7 +157,7 @@ class Machine(RegionCommands, Answering):
         self.refuse(
             ("INVALID_ARGS", misplaced(OFFSET=offset) or both),
             ("OUT_OF_RANGE", past_most("OFFSET + SIZE, rounded up to whole pages,", (offset // PAGE + count) * PAGE)),
-            ("NO_MEMORY", lacks and f"of the pages of {parent} that it copies {len(pinned)} are pinned, {self.free_words()}"),
+            ("NO_MEMORY", lacks and f"of the pages of {parent} that it copies {len(pinned):,} {are(len(pinned))} pinned, {self.free_words()}"),
         )
         self.may_lack_host_memory()
         child = self.new_vmo(count, resizable, of.vmo)
@@ -322,7 +322,7 @@ class Machine(RegionCommands, Answering):
 
     def numbers_told(self, vmo, pages):
         """Returns the numbers of the frames of pages that are to be pinned as the reply has them, or None if they may not be these."""
-        if not re.fullmatch("OK( (0|[1-9][0-9]*))+", self.told):
+        if not re.fullmatch("OK( (0|[1-9][0-9]{0,9}))+", self.told):
             return None
         told = [int(it) for it in self.told.split()[1:]]
         return told if len(told) == len(pages) and self.numbers_for(vmo, pages, iter(told), True) == told else None
