@@ -16,7 +16,7 @@ _vmosim() {
     elif [ -z "$verb" ] && [ "$COMP_CWORD" -eq 1 ]; then
         _vmosim_offer "$verbs --proved --try --build --path --version --help"
     elif [ -z "$verb" ]; then
-        case $last in --proved | --try) _vmosim_offer "$verbs" ;; *) COMPREPLY=() ;; esac
+        case $last in --proved) _vmosim_offer "$verbs" ;; --try) _vmosim_offer "$verbs --path" ;; *) COMPREPLY=() ;; esac
     elif [ "$verb" = work ]; then
         _vmosim_offer '--frames'
     elif [ "$last" = "$verb" ]; then

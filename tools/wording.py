@@ -5,6 +5,7 @@ import pathlib
 import re
 import sys
 
+OUTPUT, ERRORS = 1, 2
 WRONG_WORD, UNREADABLE, UNWRITABLE, BROKEN_OFF = 2, 4, 5, 130
 MOST_FRAMES = 65_536
 
@@ -27,6 +28,9 @@ class Words(argparse.ArgumentParser):
 
     def __init__(self, tool, **more):
         super().__init__(prog=tool if "/" in tool else f"tools/{tool}", allow_abbrev=False, formatter_class=argparse.RawDescriptionHelpFormatter, **more)
+
+    def print_help(self, file=None):
+        write_out([self.format_help()])
 
     def error(self, message):
         raise Trouble(WRONG_WORD, f"{message}; '{self.prog} --help' lists the words")
@@ -59,22 +63,42 @@ def write_file(path, data):
         raise Trouble(UNWRITABLE, f"cannot write {str(path)!r}: {getattr(error, 'strerror', None) or error}") from None
 
 
-def write_out(pieces):
-    """Writes pieces of bytes to the standard output. A reader that wants no more of them is no trouble."""
+def silence(stream):
+    """Sends what is left in the buffer of a stream, and all that follows, to nowhere."""
+    os.dup2(os.open(os.devnull, os.O_WRONLY), stream)
+
+
+def is_written(write, *piece):
+    """Writes to the standard output, and returns whether its reader takes more."""
     try:
-        for piece in pieces:
-            sys.stdout.buffer.write(piece)
-        sys.stdout.buffer.flush()
-    except (OSError, ValueError, AttributeError) as error:
-        # What is left in the buffer is not to be written once more when this ends.
-        os.dup2(os.open(os.devnull, os.O_WRONLY), 1)
+        write(*piece)
+    except OSError as error:
+        silence(OUTPUT)
         if not isinstance(error, BrokenPipeError):
-            raise Trouble(UNWRITABLE, f"cannot write the output: {getattr(error, 'strerror', None) or 'the stream is closed'}") from None
+            raise Trouble(UNWRITABLE, f"cannot write the output: {error.strerror}") from None
+        return False
+    return True
+
+
+def write_out(pieces):
+    """Writes pieces, of bytes or of text, to the standard output, and returns whether its reader takes more. One that does not is no
+    trouble."""
+    if sys.stdout is None:
+        raise Trouble(UNWRITABLE, "cannot write the output: the stream is closed")
+    # The name of a file may have bytes that are no text.
+    data = (it if isinstance(it, bytes) else it.encode(errors="backslashreplace") for it in pieces)
+    stream = sys.stdout.buffer
+    return all(is_written(stream.write, it) for it in data) and is_written(stream.flush)
 
 
 def say(tool, words):
-    """Says something on standard error."""
-    print(f"{tool}: {words}", file=sys.stderr, flush=True)
+    """Says something on standard error, if that can be written."""
+    if sys.stderr is None:
+        return
+    try:
+        print(f"{tool}: {words}", file=sys.stderr, flush=True)
+    except OSError:
+        silence(ERRORS)
 
 
 def stop_of(error):

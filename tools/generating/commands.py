@@ -222,7 +222,7 @@ class Commands:
 
 def seeded(seed, number=0):
     """Returns what makes up lines by chance, the same for the same seed and number."""
-    return random.Random(f"{seed} {number}")
+    return random.Random(f"{seed} {number}".encode(errors="surrogateescape"))
 
 
 def script_of(machine, commands, length):

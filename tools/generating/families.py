@@ -69,7 +69,7 @@ class Writer:
 
     def __init__(self, family, seed):
         self.family = family
-        self.mixer = random.Random(f"{family.name} {seed}")
+        self.mixer = random.Random(f"{family.name} {seed}".encode(errors="surrogateescape"))
 
     def weighted(self, weights):
         return self.mixer.choices(list(weights), weights.values())[0]

@@ -5,7 +5,7 @@ import signal
 import subprocess
 import time
 
-from judging.replies import command_of, more_lines, normalised
+from judging.replies import bytes_of, command_of, more_lines, normalised, text_of
 from machine_model.answering import counted
 from wording import WRONG_WORD, Trouble
 
@@ -71,7 +71,7 @@ class Kernel:
         if not self.rest:
             return None
         line, _, self.rest = self.rest.partition(b"\n")
-        return line.decode("latin-1")
+        return text_of(line)
 
     def died(self):
         """Returns how it ended, in words."""
@@ -84,7 +84,7 @@ class Kernel:
     def answer(self, line, replies):
         """Gives it a line, and adds the lines of its reply to those that are given."""
         deadline = time.monotonic() + self.seconds
-        self.send(line.encode("latin-1") + b"\n", deadline)
+        self.send(bytes_of([line]), deadline)
         left = 1 if command_of(line) else 0
         while left:
             said = self.read_line(deadline)

@@ -1,4 +1,6 @@
 """Shrinks a script as long as something is wrong with the replies to it."""
+from machine_model.answering import are, counted
+
 from .trials import cut_at, replay
 
 
@@ -20,7 +22,8 @@ class Shrinking:
         is wrong."""
         self.tries += 1
         trial = replay(self.hunt, lines)
-        self.progress(f"shrinking, {len(self.best.turns)} lines are left after {self.tries} tries")
+        left = len(self.best.turns)
+        self.progress(f"shrinking, {counted(left, 'line')} {are(left)} left after {counted(self.tries, 'try')}")
         if not trial.is_found():
             return False
         self.best = trial

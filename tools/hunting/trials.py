@@ -3,7 +3,7 @@ from typing import NamedTuple
 
 from generating.commands import Commands, seeded
 from judging.filling import fill
-from judging.replies import SCRIPT_LINE_BYTES, transcript_of
+from judging.replies import transcript_of
 from judging.verdicts import judge
 
 from .kernels import Kernel, Lost
@@ -67,8 +67,8 @@ def try_number(hunt, number, is_over=None):
 
 
 def replay(hunt, lines):
-    """Returns the trial of the lines of a script. Those that are too long for a transcript are left out."""
-    return run(hunt, [it for it in lines if len(it) <= SCRIPT_LINE_BYTES])
+    """Returns the trial of the lines of a script."""
+    return run(hunt, lines)
 
 
 def cut_at(trial):

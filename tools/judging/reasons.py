@@ -3,11 +3,12 @@ import re
 from typing import NamedTuple
 
 from machine_model import PAGE, Machine
-from machine_model.answering import counted
+from machine_model.answering import are, counted
+from machine_model.grammar import NoCommand, read_line, seen
 from machine_model.limits import pages_in, touched
 from machine_model.regions import address_of, outside_words, taken_words
 
-from .replies import command_of
+from .replies import LINE_BYTES, command_of
 
 # When a command that is done may answer `HOST_MEMORY`, if it depends. The others may at any time, or never.
 NOT_SOLE = "some page that the range touches is not sole"
@@ -57,44 +58,52 @@ def follow(turns, frames):
 
 def shown(line):
     """Returns a line, in quotes if there is something in it that can't be seen."""
-    return line if line and line.isascii() and line.isprintable() and line == line.strip() else ascii(line)
+    return line if line and line.isprintable() and line == line.strip() else f"'{seen(line)}'"
 
 
-def numbers_in(words):
-    """Returns words as numbers where they are some."""
-    return [int(it, 0) if re.fullmatch("0x[0-9a-fA-F]+|0|[1-9][0-9]*", it) else None for it in words]
+# ---- what is no transcript
+
+
+def why_malformed(lines, at):
+    """Yields why the line `at` of a file, counted from 1, is none of a transcript, and what one is."""
+    size = len(lines[at - 1])
+    long = f"has {size:,} bytes, and a line of a transcript has at most {LINE_BYTES:,}"
+    yield f"why:      line {at} {long if size > LINE_BYTES else 'begins with neither `> ` nor `< `'}"
+    yield "          A transcript has each line of a script after `> `, and below it each line of the reply after `< `."
+    yield "          `tools/transcript SCRIPT REPLIES` joins a script and its replies."
 
 
 # ---- why
 
 
-def why_place(machine, words, told):
+def why_place(machine, command, told):
     """Says why the place that was told can't be."""
     if not re.fullmatch(ADDRESS, told):
         return f"{shown(told[3:])} is no address: 0x and hexadecimal digits in lower case, without leading zeros"
-    address, is_map = int(told[3:], 16), words[0] == "vmar_map"
-    region = machine.regions[words[1] if is_map else words[2]]
-    offset, length = (numbers_in(words)[it] for it in ((2, 5) if is_map else (3, 4)))
+    word, values, flags = read_line(command)
+    name, offset, length = (values[0], values[1], values[4]) if word == "vmar_map" else values[1:]
+    address, region = int(told[3:], 16), machine.regions[name]
     count, at = pages_in(length), region.pages.start + offset // PAGE
     if address % PAGE:
         return f"{told[3:]} is no multiple of {PAGE}"
-    if {"specific", "specific_overwrite"} & set(words):
+    if {"specific", "specific_overwrite"} & flags:
         return f"the place is fixed: {region.name} begins at {address_of(region.pages.start)}, and OFFSET = {offset}"
     pages = range(address // PAGE, address // PAGE + count)
     if pages.start < region.pages.start:
         return f"{told[3:]} lies before {region.name}, which begins at {address_of(region.pages.start)}"
-    if "upper_limit" in words and pages.stop > at:
+    if "upper_limit" in flags and pages.stop > at:
         return f"the place ends at {address_of(pages.stop)}, which is above the limit {address_of(at)}"
     outside = outside_words(region, address - region.pages.start * PAGE, count)
     return outside or taken_words(region, pages)
 
 
-def why_pin(machine, words, told):
+def why_pin(machine, command, told):
     """Says why the frames that were told can't be."""
-    name, offset, length = machine.names[words[2]], *numbers_in(words)[3:5]
+    _, (_, of, offset, length), _ = read_line(command)
+    name = machine.names[of]
     pages = touched(name.first * PAGE + offset, length)
     numbers = told.split(" ")[1:]
-    if not re.fullmatch("OK( (0|[1-9][0-9]*))+", told) or len(numbers) != len(pages):
+    if not re.fullmatch("OK( (0|[1-9][0-9]{0,9}))+", told) or len(numbers) != len(pages):
         return f"a number is expected for each of {counted(len(pages), 'page')}"
     owners = {it.vmo.pages[page].number: (pin, it, page) for pin, it in machine.pins.items() for page in it.pages}
     for at, (page, number) in enumerate(zip(pages, map(int, numbers))):
@@ -122,17 +131,18 @@ def why_host_memory(machine, word):
 
 def why(before, after, command, told):
     """Says why a reply is not as it was told, by the models before and after the command; or nothing."""
-    words = re.findall("[^ \t\r]+", command)
+    word = command_of(command)
     if told == "HOST_MEMORY":
-        return why_host_memory(after, words[0])
+        return why_host_memory(after, word)
     if after.refusal:
         return f"{after.refusal.name}: {after.refusal.why}"
-    if words[0] in ("vmar_map", "vmar_allocate") and told.startswith("OK "):
-        return why_place(before, words, told)
-    if words[0] == "vmo_pin" and told.startswith("OK "):
-        return why_pin(before, words, told)
+    if word in ("vmar_map", "vmar_allocate") and told.startswith("OK "):
+        return why_place(before, command, told)
+    if word == "vmo_pin" and told.startswith("OK "):
+        return why_pin(before, command, told)
     if told == "NO_MEMORY":
-        return f"{counted(before.frames - before.used, 'frame')} of {before.frames} are free"
+        free = before.frames - before.used
+        return f"{free:,} of {counted(before.frames, 'frame')} {are(free)} free"
     if re.fullmatch("[A-Z_]+", told) and told in after.tried:
         return f"no condition of {told} holds"
     return ""
@@ -146,11 +156,14 @@ def named(machine, command):
     names = re.findall(NAMES, command)
     vmos = vmos_of(machine, names)
     roots = {machine.regions[it].root for it in names if it in machine.regions}
-    words = command.split()
-    numbers = [it for it in numbers_in(words[2:4]) if it is not None]
-    if words[0] in ("mem_read", "mem_write", "vmar_unmap", "vmar_protect") and roots and numbers:
-        length = numbers[1] if len(numbers) > 1 else len(words[3]) // 2 if len(words) > 3 else 1
-        pages = touched(numbers[0], min(max(length, 1), 1 << 20))
+    try:
+        word, values, _ = read_line(command)
+    except NoCommand:
+        return vmos, roots
+    if word in ("mem_read", "mem_write", "vmar_unmap", "vmar_protect"):
+        _, address, length, *_ = values
+        length = len(length) if word == "mem_write" else length
+        pages = touched(address, min(max(length, 1), 1 << 20))
         vmos.update(mapping.vmo for root in roots for mapping in root.shown(pages))
     return vmos, roots
 
@@ -189,7 +202,7 @@ def states(machine, command):
         lines.append(f"{it}: pages {pin.pages.start} to {pin.pages.stop - 1} of koid {pin.vmo.koid}, frames {frames}")
     lines += [f"{it}: {line}" for it in sorted(regions) for line in machine.answer(f"maps {it}")]
     more = len(lines) - MOST_STATES
-    return lines[:MOST_STATES] + ([f"and {more} lines more"] if more > 0 else [])
+    return lines[:MOST_STATES] + ([f"and {counted(more, 'line')} more"] if more > 0 else [])
 
 
 def earlier(followed, done, command):

@@ -1,5 +1,9 @@
-"""Replies as a kernel spells them, and transcripts of scripts and replies. Lines are text with a character for each byte."""
+"""Replies as a kernel spells them, and transcripts of scripts and replies. Lines are text with a character for each byte: a surrogate
+for a byte that is not ASCII."""
+import itertools
 import re
+
+from machine_model.grammar import NoCommand, read_line, spell_line
 
 # The longest line of a transcript, and the longest script line in one.
 LINE_BYTES, SCRIPT_LINE_BYTES = 16_384, 16_382
@@ -10,15 +14,20 @@ STATUSES = {
 }
 
 
+def text_of(data):
+    """Returns bytes as text."""
+    return data.decode("ascii", "surrogateescape")
+
+
 def lines_of(data):
     """Returns the lines of a file. Its last piece is a line too, unless it is empty."""
-    lines = data.decode("latin-1").split("\n")
+    lines = text_of(data).split("\n")
     return lines[:-1] if lines[-1] == "" else lines
 
 
 def bytes_of(lines):
     """Returns the bytes of lines."""
-    return "".join(f"{it}\n" for it in lines).encode("latin-1")
+    return "".join(f"{it}\n" for it in lines).encode("ascii", "surrogateescape")
 
 
 def command_of(line):
@@ -44,9 +53,21 @@ def normalised(reply):
     return re.sub("^ZX_(ERR_)?", "", status) + blank + more
 
 
+def fitted(line):
+    """Returns a line of a script as it stands in a transcript. One that is too long for that is spelled shorter: a command without the
+    blanks and zeros that it does not need, and any other line by words that the machine takes for the same."""
+    if len(line) <= SCRIPT_LINE_BYTES:
+        return line
+    try:
+        read = read_line(line)
+    except NoCommand:
+        return f"? a line of {len(line):,} bytes"
+    return spell_line(*read) if read else f"# a line of {len(line):,} bytes"
+
+
 def transcript_of(turns):
     """Returns the lines of a transcript: of turns, each a line of a script with the lines of its reply."""
-    return [it for line, replies in turns for it in (f"> {line}", *(f"< {reply}" for reply in replies))]
+    return [it for line, replies in turns for it in (f"> {fitted(line)}", *(f"< {reply}" for reply in replies))]
 
 
 def turns_of(lines):
@@ -61,16 +82,10 @@ def turns_of(lines):
 
 
 def join(script, replies):
-    """Returns the turns of a script and of the reply lines to it, the numbers of its lines that are too long for a transcript, which
-    are left out with their replies, and the reply lines that are left over."""
+    """Returns the turns of a script and of the reply lines to it, and the reply lines that are left over."""
     left = iter(replies)
-    turns, too_long = [], []
-    for number, line in enumerate(script, 1):
-        told = [next(left, None)] if command_of(line) else []
-        if told and told[0] is not None:
-            told += [next(left, None) for _ in range(more_lines(line, told[0]))]
-        if len(line) > SCRIPT_LINE_BYTES:
-            too_long.append(number)
-        else:
-            turns.append((line, [it for it in told if it is not None]))
-    return turns, too_long, list(left)
+    turns = []
+    for line in script:
+        told = list(itertools.islice(left, 1)) if command_of(line) else []
+        turns.append((line, told + [it for first in told for it in itertools.islice(left, more_lines(line, first))]))
+    return turns, list(left)

@@ -1,10 +1,9 @@
 """The verdict on a transcript: that of the program's word `check`, or of the model in Python."""
-import os
-import subprocess
+import re
 
-from looking.turns import proved_program
 from machine_model import verdict
-from wording import WRONG_WORD, Trouble, say
+from programs import run
+from wording import WRONG_WORD, Trouble
 
 from .replies import LINE_BYTES, bytes_of, turns_of
 
@@ -24,29 +23,12 @@ def by_model(lines, frames):
 
 def by_program(program, lines, frames):
     """Returns the verdict of a program on the lines of a transcript."""
-    words = [program, "check", "--frames", str(frames)]
-    try:
-        ran = subprocess.run(words, input=bytes_of(lines), stdout=subprocess.PIPE, check=False)
-    except OSError as error:
-        raise Trouble(WRONG_WORD, f"cannot run {str(program)!r}: {error.strerror}") from None
+    ran = run(program, ["check", "--frames", str(frames)], bytes_of(lines))
     said = ran.stdout.decode("latin-1").strip()
-    if ran.returncode or said.split(" ")[0] not in ("LEGAL", "ILLEGAL", "MALFORMED"):
+    form = re.fullmatch("LEGAL [0-9]+|(?:ILLEGAL|MALFORMED) ([1-9][0-9]{0,17})", said)
+    if ran.returncode or not form or int(form[1] or 1) > len(lines) + 1:
         raise Trouble(WRONG_WORD, f"{str(program)!r} gives no verdict and ends with status {ran.returncode}")
     return said
-
-
-def add_program_word(parser):
-    """Adds the option that names the program to a command line."""
-    parser.add_argument("--program", metavar="PROGRAM", default=os.environ.get("VMOSIM"),
-                        help="judges by this file in place of the proved program; so does the environment variable VMOSIM")
-
-
-def program_for(asked, tool):
-    """Returns the program that judges, or None if the model does, which is said on standard error."""
-    program = asked.program or proved_program()
-    if not program:
-        say(tool, "the proved program is not built; the model in Python judges in its place")
-    return program
 
 
 def judge(program, lines, frames):

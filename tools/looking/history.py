@@ -2,8 +2,11 @@
 import itertools
 import re
 
+from machine_model import PAGE
+from wording import WRONG_WORD, Trouble
+
 from .texts import payers_words
-from .turns import MACHINES, Trouble, cut, play, visible
+from .turns import MACHINES, cut, play, visible
 
 MOST_NAMES, MOST_LINE = 4, 70
 
@@ -19,10 +22,10 @@ def replayed(turns, asked):
 def page_asked(machine, name, page):
     """Returns the VMO and the page of it that a name and a page of the name stand for."""
     if name not in machine.names:
-        raise Trouble(2, f"{name} is not open after the last line")
+        raise Trouble(WRONG_WORD, f"{name} is not open after the last line")
     it = machine.names[name]
-    if page * 4096 >= it.size():
-        raise Trouble(2, f"{name} has {it.size() // 4096:,} pages, and {page} is asked for")
+    if page * PAGE >= it.size():
+        raise Trouble(WRONG_WORD, f"{name} has {it.size() // PAGE:,} pages, and {page} is asked for")
     return it.vmo.koid, it.first + page
 
 
@@ -67,7 +70,7 @@ class Page:
 def why(turns, asked):
     """Yields which line gave a page its frame, and who shares it since."""
     if asked.word == "sources":
-        raise Trouble(2, "why is for run and batch alone")
+        raise Trouble(WRONG_WORD, "why is for run and batch alone")
     done = []
     for turn, machine in turns:
         done.append(turn)
@@ -91,7 +94,7 @@ def orders(turns, asked):
         pass
     absent = next((it for it in asked.of if it not in machine.names), None)
     if absent:
-        raise Trouble(2, f"{absent} is not open after the last line")
+        raise Trouble(WRONG_WORD, f"{absent} is not open after the last line")
     yield f"{'order':{4 * len(asked.of)}}  frames used at first and after each close, and who pays then"
     for names in itertools.permutations(asked.of):
         lines = [*asked.lines, *(f"vmo_close {it}" for it in names)]

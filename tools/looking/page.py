@@ -5,11 +5,13 @@ import os
 import pathlib
 from html import escape
 
+from wording import Trouble
+
 from .cells import styles
 from .drawing import FONT, all_rows, marks_of
 from .texts import Ranks, change_words
 from .trees import has_tree, renumber, tree_shown, trees_of
-from .turns import Trouble, cut, visible
+from .turns import cut, visible
 
 TEMPLATE = pathlib.Path(__file__).with_name("page.html")
 MOST_LINES = 1000

@@ -6,6 +6,7 @@ import json
 import re
 
 from machine_model import SourceMachine
+from machine_model.answering import plural
 from machine_model.tables import key_of, refusals_of
 
 from .turns import MACHINES, cut, visible
@@ -41,7 +42,7 @@ class Ranks:
 def change_words(turn):
     """Says how many frames a turn took and gave back; or nothing."""
     parts = [f"+{turn.taken}"] * (turn.taken > 0) + [f"-{turn.given}"] * (turn.given > 0)
-    return f"{' '.join(parts)} frame{'' if turn.taken + turn.given == 1 else 's'}" if parts else ""
+    return f"{' '.join(parts)} {plural(turn.taken + turn.given, 'frame')}" if parts else ""
 
 
 def frames_words(turn):

@@ -1,9 +1,12 @@
 """The clone tree behind lines of a script, with its hidden nodes, as `vmotree` draws it."""
 import os
-import subprocess
+
+from machine_model.answering import counted
+from programs import run
+from wording import Trouble
 
 from .clone_tree import nodes_of, tree_picture
-from .turns import TOP, Trouble
+from .turns import TOP
 
 BUILT = TOP / "crates" / "vmotree" / "out" / "vmotree"
 COUNTS = "# vmos="
@@ -22,12 +25,7 @@ def trees_of(lines, asked, at="each"):
     program = tree_program(asked)
     if not program:
         return None
-    text = "".join(f"{it}\n" for it in lines).encode()
-    words = [program, "--frames", str(asked.frames), "--at", at]
-    try:
-        ran = subprocess.run(words, input=text, stdout=subprocess.PIPE, check=False)
-    except OSError as error:
-        raise Trouble(1, f"cannot run {program!r}: {error.strerror}") from None
+    ran = run(program, ["--frames", str(asked.frames), "--at", at], "".join(f"{it}\n" for it in lines).encode())
     if ran.returncode:
         raise Trouble(1, f"the program {program!r} ends with status {ran.returncode}")
     trees = []
@@ -55,7 +53,7 @@ def tree_shown(tree, machine, least=460):
     picture = tree_picture(tree, machine.label, least=least)
     lines = tree.splitlines()
     more = len(lines) - 1 - MOST_NODES
-    return picture or "\n".join(lines if more <= 0 else [*lines[: MOST_NODES + 1], f"# .. and {more} nodes more"])
+    return picture or "\n".join(lines if more <= 0 else [*lines[: MOST_NODES + 1], f"# .. and {counted(more, 'node')} more"])
 
 
 def has_tree(turn):

@@ -1,24 +1,17 @@
 """The turns of a script: each line with its reply, by the program and by the model side by side."""
-import functools
 import pathlib
 import re
-import subprocess
 import sys
 from typing import NamedTuple
 
 from machine_model import BatchMachine, Machine, Refusal, SourceMachine
+from machine_model.grammar import seen
+from programs import run
+from wording import UNREADABLE, Trouble
 
 TOP = pathlib.Path(__file__).resolve().parent.parent.parent
 MOST_ANSWER = 200
 MACHINES = {"run": Machine, "batch": BatchMachine, "sources": SourceMachine}
-
-
-class Trouble(Exception):
-    """What stops the tool: the exit status, and what it says."""
-
-    def __init__(self, status, words):
-        super().__init__(words)
-        self.status = status
 
 
 class Turn(NamedTuple):
@@ -39,46 +32,32 @@ def read_script(path):
     """Returns the lines of a script, of a file or of the standard input if there is none."""
     shown = repr(path) if path else "the standard input"
     if not path and sys.stdin is None:
-        raise Trouble(4, f"cannot read {shown}: it is closed")
+        raise Trouble(UNREADABLE, f"cannot read {shown}: it is closed")
     try:
         text = pathlib.Path(path).read_bytes() if path else sys.stdin.buffer.read()
     except FileNotFoundError:
-        raise Trouble(4, f"cannot open {shown}: there is no such file") from None
+        raise Trouble(UNREADABLE, f"cannot open {shown}: there is no such file") from None
     except IsADirectoryError:
-        raise Trouble(4, f"cannot open {shown}: it is a folder") from None
+        raise Trouble(UNREADABLE, f"cannot open {shown}: it is a folder") from None
     except PermissionError:
-        raise Trouble(4, f"cannot open {shown}: it may not be read") from None
+        raise Trouble(UNREADABLE, f"cannot open {shown}: it may not be read") from None
     except (OSError, ValueError) as error:
-        raise Trouble(4, f"cannot read {shown}: {error}") from None
+        raise Trouble(UNREADABLE, f"cannot read {shown}: {getattr(error, 'strerror', None) or error}") from None
     try:
         lines = text.decode().split("\n")
     except UnicodeDecodeError as error:
         number = text.count(b"\n", 0, error.start) + 1
-        raise Trouble(4, f"cannot read {shown}: line {number} has the byte {text[error.start]:#04x}, which is no text") from None
+        raise Trouble(UNREADABLE, f"cannot read {shown}: line {number} has the byte {text[error.start]:#04x}, which is no text") from None
     return lines[:-1] if lines[-1] == "" else lines
-
-
-@functools.cache
-def proved_program():
-    """Returns the file of the proved program, or None if it is not built from the sources as they stand."""
-    words = [TOP / "vmosim", "--path"]
-    try:
-        return subprocess.run(words, stdout=subprocess.PIPE, stderr=subprocess.DEVNULL, text=True, check=False).stdout.strip() or None
-    except OSError:
-        return None
 
 
 def replies_of(program, word, frames, lines):
     """Returns the lines that a program answers to a script."""
-    text = "".join(f"{it}\n" for it in lines).encode()
-    words = [program, word, "--frames", str(frames)]
-    try:
-        ran = subprocess.run(words, input=text, stdout=subprocess.PIPE, check=False)
-    except OSError as error:
-        raise Trouble(1, f"cannot run {program!r}: {error.strerror}") from None
+    ran = run(program, [word, "--frames", str(frames)], "".join(f"{it}\n" for it in lines).encode())
     if ran.returncode:
         raise Trouble(1, f"the program {program!r} ends with status {ran.returncode}")
-    return ran.stdout.decode(errors="replace").splitlines()
+    replies = ran.stdout.decode(errors="replace").split("\n")
+    return replies[:-1] if replies[-1] == "" else replies
 
 
 def answered(replies):
@@ -112,9 +91,7 @@ def play(lines, word, frames, program):
 def visible(line):
     """Returns a line with blanks at its ends left out, and what can't be seen spelled out."""
     line = line.strip(" \t\r")
-    if line.isprintable():
-        return line
-    return "".join(it if it.isprintable() else " " if it == "\t" else ascii(it)[1:-1] for it in line)
+    return line if line.isprintable() else seen(line.replace("\t", " "))
 
 
 def cut(text, most):

@@ -14,9 +14,19 @@ class Refusal(Exception):
         self.rank = rank
 
 
+def plural(number, noun):
+    """Returns a noun in the singular or the plural, as it goes with a number."""
+    return noun if number == 1 else f"{noun[:-1]}ies" if noun.endswith("y") else f"{noun}s"
+
+
 def counted(number, noun):
     """Returns a number with what it counts."""
-    return f"{number} {noun}" if number == 1 else f"{number} {noun}s"
+    return f"{number:,} {plural(number, noun)}"
+
+
+def are(number):
+    """Returns the verb that goes with a number."""
+    return "is" if number == 1 else "are"
 
 
 def misplaced(**arguments):

@@ -116,15 +116,34 @@ FORMS = {
 }
 
 
+def spell_line(command, values, flags):
+    """Returns the line of a command with its arguments and flags: numbers in decimal, and one blank between words."""
+
+    def word_of(value):
+        return value.hex() or "-" if isinstance(value, bytes) else spelled(value) if isinstance(value, frozenset) else str(value)
+
+    return " ".join([command, *map(word_of, values), *sorted(flags)])
+
+
 def words_of(line):
     """Returns the words of a line, each with its column, counted from 1."""
     return [(it.group(), it.start() + 1) for it in re.finditer("[^ \t\r]+", line)]
 
 
+def seen(text):
+    """Returns a text with what can't be seen spelled out. A byte that is no text stands as a surrogate."""
+
+    def spell(letter):
+        byte = ord(letter) - 0xDC00
+        return letter if letter.isprintable() else f"\\x{byte:02x}" if 0x80 <= byte < 0x100 else ascii(letter)[1:-1]
+
+    return "".join(map(spell, text))
+
+
 def shown(word):
     """Returns a word in quotes, cut if it is long, with what can't be seen spelled out."""
     cut = word if len(word) <= SHOWN_LETTERS else word[:SHOWN_LETTERS] + ".."
-    return "`" + "".join(it if it.isprintable() else ascii(it)[1:-1] for it in cut) + "`"
+    return f"`{seen(cut)}`"
 
 
 def listed(words, last="and"):
@@ -189,7 +208,8 @@ def read_line(line, forms=None):
     """Returns the command of a line, its arguments and its flags; or None of a line without a reply. `forms` are those of the
     machine if none are given. Raises NoCommand for a line outside the grammar."""
     forms = forms or FORMS
-    length = len(line.encode())
+    # A byte that is no text stands as a surrogate.
+    length = len(line.encode(errors="surrogateescape"))
     if length > LINE_BYTES:
         raise NoCommand(f"the line has {length} bytes, expected at most {LINE_BYTES}")
     words = words_of(line)

@@ -94,7 +94,7 @@ class Machine(RegionCommands, Answering):
     def free_words(self):
         """Says how many frames are free."""
         free = self.frames - self.used
-        return f"{free or 'none'} {'are' if free > 1 else 'is'} free"
+        return f"{free or 'none'} {'is' if free < 2 else 'are'} free"
 
     def label(self, koid):
         """Returns what a VMO is called: its first name, or its koid."""
@@ -368,7 +368,7 @@ class Machine(RegionCommands, Answering):
     def numbers_told(self, vmo, pages):
         """Returns the numbers of the frames of pages that are to be pinned as the reply has them, or none if they may not be these:
         a pinned page keeps its own, and each other one has a number that no pinned page has."""
-        if not re.fullmatch("OK( (0|[1-9][0-9]*))+", self.told):
+        if not re.fullmatch("OK( (0|[1-9][0-9]{0,9}))+", self.told):
             return []
         told = [int(it) for it in self.told.split()[1:]]
         if len(told) != len(pages):

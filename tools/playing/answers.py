@@ -6,7 +6,8 @@ from looking.drawing import all_rows, marks_of, picture
 from looking.page import record_of
 from looking.texts import COLUMNS, Blocks, Ranks, payers_of
 from looking.trees import renumber, tree_shown, trees_of
-from looking.turns import MACHINES, Trouble, play
+from looking.turns import MACHINES, play
+from wording import Trouble
 
 LEAST, WIDEST = 340, 920
 MOST_LINES = 20_000

@@ -4,8 +4,9 @@ import subprocess
 from contextlib import contextmanager
 
 from judging.replies import more_lines
-from looking.turns import MACHINES, MOST_ANSWER, Trouble, Turn, answered, cut, visible
+from looking.turns import MACHINES, MOST_ANSWER, Turn, answered, cut, visible
 from machine_model.grammar import NoCommand, read_line
+from wording import WRONG_WORD, Trouble
 
 DIFFERENT = 1
 
@@ -48,7 +49,7 @@ class Session:
                 # In a session of its own it gets no interrupt of the terminal.
                 self.process = subprocess.Popen(words, stdin=subprocess.PIPE, stdout=subprocess.PIPE, start_new_session=True)
             except OSError as error:
-                raise Trouble(DIFFERENT, f"cannot run {str(self.program)!r}: {error.strerror}") from None
+                raise Trouble(WRONG_WORD, f"cannot run {str(self.program)!r}: {error.strerror}") from None
 
     def end(self):
         """Ends the program."""
