@@ -10,7 +10,7 @@ from looking.turns import MACHINES, play
 from wording import Trouble
 
 LEAST, WIDEST = 340, 920
-MOST_LINES = 20_000
+MOST_LINES = 10_000
 
 
 def lines_of(script):

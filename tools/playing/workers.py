@@ -8,7 +8,7 @@ import sys
 import threading
 import time
 
-MOST_SECONDS = 20
+MOST_SECONDS = 30
 MOST_IDLE = 2
 
 
