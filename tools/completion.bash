@@ -27,15 +27,16 @@ _vmosim() {
 }
 
 _vmosim_look() {
-    local verbs='annotate cost json state draw page'
+    local verbs='annotate cost json why orders state draw tree page'
     case ${COMP_WORDS[COMP_CWORD - 1]} in
         --word) _vmosim_offer 'run batch sources' ;;
+        --scheme) _vmosim_offer 'auto light dark' ;;
         --frames | --at) COMPREPLY=() ;;
         *)
             if [ "$COMP_CWORD" -eq 1 ]; then
                 _vmosim_offer "$verbs --help"
             else
-                _vmosim_offer '--frames --word --at --csv --program' -f
+                _vmosim_offer '--frames --word --at --csv --scheme --program --tree' -f
             fi
             ;;
     esac
@@ -49,6 +50,15 @@ _vmosim_shell() {
     esac
 }
 
+_vmosim_play() {
+    case ${COMP_WORDS[COMP_CWORD - 1]} in
+        --word) _vmosim_offer 'run batch sources' ;;
+        --frames | --port) COMPREPLY=() ;;
+        *) _vmosim_offer '--frames --word --no-open --port --program --tree --help' -f ;;
+    esac
+}
+
 complete -o filenames -F _vmosim vmosim ./vmosim
 complete -o filenames -F _vmosim_look look tools/look
+complete -o filenames -F _vmosim_play play tools/play
 complete -o filenames -F _vmosim_shell shell tools/shell

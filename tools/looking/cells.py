@@ -1,39 +1,51 @@
-"""Pages as cells of a picture: runs of equal pages, folded if they are long, and how each is drawn."""
+"""Pages as cells of a picture: runs of equal pages, folded if they are long, and how each is drawn. Nothing in it has an id, so that
+pictures may stand on one page."""
 from html import escape
 from typing import NamedTuple
 
 FOLDED = 9
 LONG_NUMBER = 1_000_000
-MOST_CELLS = 90
-BANDS = 8
-CELL, FOLD, HEIGHT, NUMBER = 46, 110, 34, 12
-# Fills for cells with black labels. Any two are at least 23 apart in CIE Lab, and neighbours 37, also as they are simulated for
-# each of the three kinds of colour blindness.
+MOST_CELLS = 60
+CELL, FOLD, HEIGHT, GAP, NUMBER, BAR, BAR_STEP = 44, 104, 24, 3, 11, 6, 12
+# Fills for cells with black labels, one for each VMO that pays. Any two are at least 23 apart in CIE Lab, and neighbours 37, also as
+# they are simulated for each of the three kinds of colour blindness. They stand on white and on black.
 COLOURS = ("#44dddd", "#ffcc44", "#8866ff", "#dd4466", "#dd88ff", "#ccddaa", "#4488aa", "#dd8844")
-# What lies over the colour of a frame, so that more frames look different.
-PATTERNS = ("", "lines", "dots", "grid", "slants")
-DEFINED = (
-    '<pattern id="lines" width="6" height="6" patternUnits="userSpaceOnUse"><path d="M0 3H6" stroke="#fff" stroke-width="1.5"/></pattern>'
-    '<pattern id="dots" width="6" height="6" patternUnits="userSpaceOnUse"><circle cx="3" cy="3" r="1.3" fill="#fff"/></pattern>'
-    '<pattern id="grid" width="8" height="8" patternUnits="userSpaceOnUse"><path d="M0 4H8M4 0V8" stroke="#fff" stroke-width="1.2"/></pattern>'
-    '<pattern id="slants" width="6" height="6" patternUnits="userSpaceOnUse"><path d="M-1 7L7 -1" stroke="#fff" stroke-width="1.5"/></pattern>'
-    '<pattern id="past" width="8" height="8" patternUnits="userSpaceOnUse"><path d="M0 0L8 8M8 0L0 8" stroke="#999"/></pattern>'
-)
-
-
-# What stands in a cell that shows no frame.
+# What stands in a cell that shows no frame. A zero page is an empty one.
 WORDS = {"zero": "zero", "past": "past end", "absent": "absent", "parent": "parent", "other": "pages"}
+# What a mapping shows of a page: neither reads nor writes take a fault, reads take none, or the next access faults.
+FAULTS, READS, WRITES = "faults", "reads", "writes"
+MEANING = {WRITES: "mapped, without a fault", READS: "mapped, reads take no fault", FAULTS: "mapped, the next access faults"}
+LIGHT = {"back": "#ffffff", "ink": "#16181d", "dim": "#5c6370", "edge": "#9aa2ad", "new": "#c2410c"}
+DARK = {"back": "#0d1117", "ink": "#e6e8eb", "dim": "#9aa2ad", "edge": "#596270", "new": "#ffb37a"}
+
+
+def rules(colours):
+    """Returns the styles of a picture in these colours."""
+    return (f".vm .back{{fill:{colours['back']}}}.vm text,.vm .ink{{fill:{colours['ink']}}}.vm .dim{{fill:{colours['dim']}}}"
+            f".vm .on{{fill:#111}}.vm .none{{fill:none;stroke:{colours['edge']}}}.vm .line{{fill:none;stroke:{colours['dim']}}}"
+            f".vm .bar{{fill:none;stroke:{colours['ink']}}}.vm .new{{fill:none;stroke:{colours['new']};stroke-width:2.5}}"
+            f".vm text.new{{fill:{colours['new']};stroke:none}}.vm .seen{{fill-opacity:.25}}")
+
+
+def styles(scheme):
+    """Returns the styles of a picture: light, dark, or as the reader's screen is (auto)."""
+    dark = f"@media(prefers-color-scheme:dark){{{rules(DARK)}}}" if scheme == "auto" else ""
+    return f"<style>{rules(DARK if scheme == 'dark' else LIGHT)}{dark}</style>"
 
 
 class Look(NamedTuple):
-    """What a page looks like: `held` or a word of WORDS, how far its frame is ahead of the page in the order in which
-    frames were taken, a note below it, a hint, and its edge: `plain`, `bold` or `dashed`."""
+    """What a page looks like: `held` or a word of WORDS, the koid that pays for its frame, what stands beside the frame and below the
+    cell, a hint, whether it is pinned, what the mappings show of it, and whether the last line changed it or one of these."""
 
     kind: str
-    ahead: int
-    note: str
-    hint: str
-    edge: str
+    payer: int = 0
+    tag: str = ""
+    note: str = ""
+    hint: str = ""
+    is_pinned: bool = False
+    ready: tuple = ()
+    is_new: bool = False
+    new_ready: tuple = ()
 
 
 class Cell(NamedTuple):
@@ -64,80 +76,87 @@ def runs_of(pages, marked, look_at):
         cells += [run] if len(run.pages) >= FOLDED else [Cell(range(it, it + 1), run.look) for it in run.pages]
     if len(cells) > MOST_CELLS:
         rest = range(cells[MOST_CELLS].pages.start, pages.stop)
-        cells = [*cells[:MOST_CELLS], Cell(rest, Look("other", 0, "left out", "pages that are left out", "plain"))]
+        cells = [*cells[:MOST_CELLS], Cell(rest, Look("other", hint="pages that are left out"))]
     return cells
 
 
-def text(x, y, words, size=11, more=""):
+def text(x, y, words, size=11, kind="", more=""):
     """Returns a text of a picture."""
-    return f'<text x="{x}" y="{y}" font-size="{size}"{more}>{escape(words)}</text>'
+    kind = f' class="{kind}"' if kind else ""
+    return f'<text x="{x:g}" y="{y:g}" font-size="{size:g}"{kind}{more}>{escape(words)}</text>'
 
 
-def rect(x, y, width, height, fill, more=""):
+def rect(x, y, width, height, kind="", more=""):
     """Returns a rectangle of a picture."""
-    return f'<rect x="{x:g}" y="{y}" width="{width:g}" height="{height}" fill="{fill}"{more}/>'
+    kind = f' class="{kind}"' if kind else ""
+    return f'<rect x="{x:g}" y="{y:g}" width="{width:g}" height="{height:g}"{kind}{more}/>'
 
 
-def filled(x, y, width, order):
-    """Returns a rectangle that is filled as a frame is: one frame has one colour."""
-    pattern = PATTERNS[(order - 1) // len(COLOURS) % len(PATTERNS)]
-    out = rect(x, y, width, HEIGHT, COLOURS[(order - 1) % len(COLOURS)])
-    return out + (rect(x, y, width, HEIGHT, f"url(#{pattern})") if pattern else "")
+def colour_of(koid):
+    """Returns the colour of a VMO, which is the same at each line."""
+    return COLOURS[(koid - 1) % len(COLOURS)]
 
 
-EDGES = {
-    "plain": ' stroke="#555"',
-    "bold": ' stroke="#000" stroke-width="2.5"',
-    "dashed": ' stroke="#555" stroke-dasharray="3 2"',
-}
+def frames_words(numbers):
+    """Returns frames by their numbers, those in a row together."""
+    runs = []
+    for it in numbers:
+        if runs and runs[-1][1] + 1 == it:
+            runs[-1][1] = it
+        else:
+            runs.append([it, it])
+    return ", ".join(f"f{first}" if first == last else f"f{first} to f{last}" for first, last in runs)
 
 
-def fill_of(cell, x, y):
-    """Returns what fills a cell."""
-    width, count = cell.width(), len(cell.pages)
-    if cell.look.kind != "held":
-        return rect(x, y, width, HEIGHT, "#fff") + (rect(x, y, width, HEIGHT, "url(#past)") if cell.look.kind == "past" else "")
-    first = cell.pages.start + cell.look.ahead
-    if count == 1:
-        return filled(x, y, width, first)
-    bands = min(count, BANDS)
-    out = "".join(filled(x + it * width / bands, y, width / bands, first + it) for it in range(bands))
-    return out + rect(x + 8, y + 3, width - 16, HEIGHT - 6, "#fff", ' opacity="0.8"')
-
-
-def label_of(cell):
+def label_of(cell, numbers):
     """Returns the label of a cell: its frame or frames, or what it is in place of one."""
-    count = len(cell.pages)
-    if cell.look.kind != "held":
-        word = WORDS[cell.look.kind]
-        return word if count == 1 else f"{count:,} {word}"
-    first = cell.pages.start + cell.look.ahead
-    return f"f{first}" if count == 1 else f"f{first} to f{first + count - 1}"
+    count, look = len(cell.pages), cell.look
+    if look.kind == "held":
+        words = frames_words(numbers)
+        return words if count == 1 or words.count("f") < 3 else f"{count:,} frames"
+    return ("" if look.kind == "zero" else WORDS[look.kind]) if count == 1 else f"{count:,} {WORDS[look.kind]}"
 
 
-def drawn(cell, x, y, spell):
-    """Draws a cell, with what `spell` makes of a page below it."""
-    width, first, last = cell.width(), cell.pages.start, cell.pages.stop - 1
-    middle = ' text-anchor="middle"'
-    # A label over a colour has a pale edge, so that it is read on each of them.
-    middle += ' paint-order="stroke" stroke="#fff" stroke-width="2.5" stroke-opacity="0.75"' if cell.look.kind == "held" else ""
-    label = label_of(cell)
-    where = spell(first) if first == last else f"{spell(first)} to {spell(last)}"
-    size = 11 if len(label) * 6.6 < width else 9 if len(label) * 5.4 < width else 7.5
-    out = f"<g><title>{escape(f'{where}: {label}, {cell.look.hint}')}</title>{fill_of(cell, x, y)}"
-    out += rect(x, y, width, HEIGHT, "none", EDGES[cell.look.edge])
-    out += text(x + width / 2, y + (14 if cell.look.note else 21), label, size, middle)
-    if cell.look.note:
-        out += text(x + width / 2, y + 28, cell.look.note, 9, middle)
-    return out + "</g>"
+def drawn(cell, x, y, numbers):
+    """Draws a cell, with the numbers of its frames."""
+    width, look = cell.width(), cell.look
+    first, last = cell.pages.start, cell.pages.stop - 1
+    where = f"page {first:,}" if first == last else f"pages {first:,} to {last:,}"
+    shown = frames_words(numbers) if look.kind == "held" else WORDS[look.kind]
+    out = f"<g><title>{escape(f'{where}: {shown}, {look.hint}')}</title>"
+    if look.kind == "held":
+        out += rect(x, y, width, HEIGHT, "", f' rx="3" fill="{colour_of(look.payer)}"')
+    else:
+        dashes = "" if look.kind == "zero" else ' stroke-dasharray="3 3"'
+        out += rect(x + 0.5, y + 0.5, width - 1, HEIGHT - 1, "none", f' rx="3"{dashes}')
+    label = label_of(cell, numbers)
+    both = f"{label} {look.tag}".strip()
+    size = min(11, (width - 4) / max(len(both), 1) / 0.6)
+    out += text(x + width / 2, y + 16, both, round(size, 1), "on" if look.kind == "held" else "dim", ' text-anchor="middle"') if both else ""
+    if look.is_pinned:
+        out += f'<path d="M{x + width - 13:g} {y + 2}h11v11z" class="on"/>'
+    if look.is_new:
+        out += rect(x - 1.5, y - 1.5, width + 3, HEIGHT + 3, "new", ' rx="4"')
+    number = f"{first:,}" if first == last else f"{first:,} to {last:,}"
+    number = f"from {first:,}" if len(number) * 4.9 > width else number
+    return out + text(x + width / 2, y + HEIGHT + 9, f"{number} {look.note}".strip(), 8, "dim", ' text-anchor="middle"') + "</g>"
+
+
+def bar(x, y, width, ready, is_new):
+    """Draws what a mapping shows of the pages of a cell."""
+    out = f"<g><title>{MEANING[ready]}</title>" + rect(x + 0.5, y + 0.5, width - 1, BAR - 1, "bar")
+    if ready != FAULTS:
+        out += rect(x, y, width / 2 if ready == READS else width, BAR, "ink")
+    return out + (rect(x - 1, y - 1, width + 2, BAR + 2, "new") if is_new else "") + "</g>"
 
 
 def in_lines(cells, x, width):
-    """Returns the cells with their places, in lines of a width, and how many lines there are."""
-    places, at, line = [], x, 0
+    """Returns the cells with their places, as lines of a width."""
+    lines, at = [[]], x
     for cell in cells:
-        if at + cell.width() > x + width and at > x:
-            at, line = x, line + 1
-        places.append((cell, at, line))
-        at += cell.width() + 2
-    return places, line + 1
+        if at + cell.width() > x + width and lines[-1]:
+            lines.append([])
+            at = x
+        lines[-1].append((cell, at))
+        at += cell.width() + GAP
+    return lines

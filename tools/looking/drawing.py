@@ -1,144 +1,232 @@
-"""The picture of what there is behind a line: VMOs with their pages, and address spaces with their pieces."""
+"""The picture of what there is behind a line: VMOs with their pages, coloured by who pays, and below each the mappings that show it."""
+import textwrap
 from html import escape
 
 from machine_model import PAGE, SourceMachine, spelled
 from machine_model.answering import counted
 from machine_model.regions import READY_TO_WRITE
 
-from .cells import DEFINED, Look, rect, runs_of, text
-from .paged import SOURCES_LEGEND, source_rows
-from .rows import LEAST_WIDTH, MARGIN, MOST_DEPTH, STEP, WIDTH, Row, row_of, shown_by, text_row, tree_of
+from .cells import FAULTS, MEANING, READS, WRITES, Look, bar, colour_of, rect, runs_of, styles, text
+from .changes import Before
+from .paged import source_marks, source_rows
+from .rows import LABEL, LEAST_WIDTH, MARGIN, STEP, Label, Row, row_of, text_row, tree_of
 from .states import address, names_of, pieces_of, regions_below, roots_of
 from .turns import cut, visible
 
-LEGEND = (
-    "f1, f2, ..: page frames in the order in which they were taken. One frame has one colour.",
-    "pays: other VMOs show the frame too, and this one is charged for it. shared: another one is charged. p1 #2: pinned by p1, in frame 2.",
-    "In address spaces: rw, r: ready for reading and writing, or for reading. faults: the next access takes a page fault.",
-)
+MOST_BARS = 12
+FONT = "system-ui, -apple-system, Segoe UI, DejaVu Sans, sans-serif"
+# What a mark in a picture means. Only those that occur are in its legend.
+LEGEND = {
+    "held": "a frame, coloured by who pays",
+    "more": "{more} show{s} it",
+    "other": "{tag} pays for it",
+    "zero": "zero page, no frame",
+    "pinned": "pinned",
+    **MEANING,
+    "new": "changed by this line",
+}
+SOURCES_LEGEND = {it: LEGEND[it] for it in ("held", "more", "other", "zero", "new")}
+SAMPLE = 22
 
 
-# ---- VMOs
+# ---- what there is, to find what a line changed
 
 
-def vmo_row(machine, vmo, depth):
-    """Returns the row of a VMO."""
-    pins = [(int(name[1:]), it.pages) for name, it in machine.pins.items() if it.vmo is vmo]
-
-    def look_at(page):
-        frame = vmo.pages.get(page)
-        if frame is None:
-            return Look("zero", 0, "", "no frame", "plain")
-        koids = sorted(frame.koids)
-        hint = f"charged to koid {koids[0]}" + (f", shown by {shown_by(frame)}" if len(koids) > 1 else "")
-        note = ("pays" if koids[0] == vmo.koid else "shared") if len(koids) > 1 else ""
-        holds = [f"p{it}" for it, pages in sorted(pins, key=lambda it: it[0]) if page in pages]
-        if holds:
-            note, hint = f"{holds[0]} #{frame.number}", f"{hint}, pinned by {', '.join(holds)} in frame {frame.number}"
-        return Look("held", frame.order - page, note, hint, "bold" if holds else "plain")
-
-    cells = runs_of(range(vmo.count), sorted(vmo.pages), look_at)
-    names = [it["name"] + ("" if it["kind"] == "owner" else f" ({it['kind']})") for it in names_of(machine, vmo)]
-    charged = sum(min(frame.koids) == vmo.koid for frame in vmo.pages.values())
-    parent = f", child of koid {vmo.parent.koid}" if vmo.parent else ""
-    small = [f"koid {vmo.koid}{parent}", f"{counted(vmo.count, 'page')}, {len(vmo.pages):,} held, charged {charged:,}"]
-    return row_of(cells, depth, " ".join(names) or "(no name)", small, lambda page: f"page {page:,}")
-
-
-def vmo_rows(machine):
-    """Yields the rows of all VMOs, each under its parent."""
-    for vmo, depth in tree_of(machine.vmos, lambda it: it.parent and it.parent.koid):
-        yield vmo_row(machine, vmo, depth)
-
-
-# ---- address spaces
-
-
-def piece_row(machine, piece, depth):
-    """Returns the row of a piece of an address space."""
-    pages, (vmo, ahead, rights, cap, region), ready = piece
-    marked = {*ready, *(it - ahead for it in vmo.pages), vmo.count - ahead}
-
-    def look_at(page):
-        if page + ahead >= vmo.count:
-            return Look("past", 0, "", "behind the end of the VMO", "dashed")
-        frame = vmo.pages.get(page + ahead)
-        is_ready = ready.get(page)
-        note = "faults" if is_ready is None else "rw" if is_ready == READY_TO_WRITE else "r"
-        hint = "not ready" if is_ready is None else f"ready for {'reading and writing' if note == 'rw' else 'reading'}"
-        edge = {"faults": "dashed", "r": "plain", "rw": "bold"}[note]
-        return Look("held" if frame else "zero", frame.order - page if frame else 0, note, hint, edge)
-
-    cells = runs_of(pages, sorted(it for it in marked if it in pages), look_at)
-    names = " ".join(it["name"] for it in names_of(machine, vmo)) or "no name"
-    small = [f"{(pages.stop - pages.start) * PAGE:,} bytes from {address(pages.start)}",
-             f"koid {vmo.koid} ({names}) from page {pages.start + ahead:,}, cap {spelled(cap)}"]
-    row = row_of([it._replace(pages=range(it.pages.start + ahead, it.pages.stop + ahead), look=it.look._replace(ahead=it.look.ahead - ahead))
-                  for it in cells], depth, f"{address(pages.start)} {spelled(rights)}", small,
-                 lambda page: f"{address(page - ahead)} shows page {page:,}")
-    return row
-
-
-def space_rows(machine, root):
-    """Yields the rows of an address space: its regions, and below each its pieces."""
-    pieces = pieces_of(root)
-    for region, parent, depth in regions_below(root):
-        x = MARGIN + STEP * min(depth, MOST_DEPTH)
-        what = "region" if parent else "address space"
-        span = f"{address(region.pages.start)} to {address(region.pages.stop)}, allows {spelled(region.rights)}"
-        yield Row(24, text(x, 16, f"{what} {region.name}", 11, ' font-weight="bold"') + text(x + 140, 16, span, 10))
-        for piece in pieces:
-            if piece[1][4] is region:
-                yield piece_row(machine, piece, depth + 1)
-
-
-def rows_of(machine):
-    """Returns the rows of a picture."""
+def marks_of(machine):
+    """Returns what a picture shows, by its places: each held page, each VMO, each mapping and each page that is ready."""
     if isinstance(machine, SourceMachine):
-        return source_rows(machine)
-    rows = [*vmo_rows(machine)] or [Row(24, text_row("no VMO"))]
+        return source_marks(machine)
+    marks = {("page", vmo.koid, page): (frame.slot, frame.payer(), len(frame.koids)) for vmo in machine.vmos for page, frame in vmo.pages.items()}
+    marks |= {("vmo", vmo.koid): machine.label(vmo.koid) for vmo in machine.vmos}
+    for name, pin in machine.pins.items():
+        marks["pin", name] = pin.vmo.koid, pin.pages
+    for root in roots_of(machine):
+        for pages, (_, _, rights, _, region), ready in pieces_of(root):
+            marks["piece", root.name, pages, region.name] = rights
+            marks |= {("ready", root.name, page): it for page, it in ready.items()}
+    return marks
+
+
+# ---- VMOs with their mappings
+
+
+class Piece:
+    """Pages of an address space that show pages of a VMO."""
+
+    def __init__(self, root, piece, before):
+        self.root = root
+        self.pages, (self.vmo, self.ahead, rights, _, region), self.ready = piece
+        self.before = before
+        place = "" if region is root else f" in {root.name}"
+        self.name = f"{region.name}{place} {address(self.pages.start)} {spelled(rights)}"
+        self.is_new = before.is_new("piece", root.name, self.pages, region.name)
+
+    def ends(self):
+        """Returns the pages of the VMO at which this begins or ends to look otherwise."""
+        return {self.pages.start + self.ahead, self.pages.stop + self.ahead, *(it + self.ahead for it in self.ready)}
+
+    def look(self, page):
+        """Returns what is shown of a page of the VMO, or an empty word, and whether the last line changed that."""
+        at = page - self.ahead
+        if at not in self.pages:
+            return "", False
+        ready = self.ready.get(at)
+        return FAULTS if ready is None else WRITES if ready == READY_TO_WRITE else READS, self.before.is_new("ready", self.root.name, at)
+
+
+def pieces_by_vmo(machine, before):
+    """Returns the pieces of all address spaces, by the koids of the VMOs that they show."""
+    pieces = {}
+    for root in roots_of(machine):
+        for piece in pieces_of(root):
+            pieces.setdefault(piece[1][0].koid, []).append(Piece(root, piece, before))
+    return pieces
+
+
+class VmoRow:
+    """The row of a VMO in the making."""
+
+    def __init__(self, machine, vmo, pieces, before):
+        self.machine, self.vmo, self.pieces, self.before = machine, vmo, pieces, before
+        self.pins = sorted(((name, it.pages) for name, it in machine.pins.items() if it.vmo is vmo), key=lambda it: int(it[0][1:]))
+
+    def look_at(self, page):
+        """Returns what a page looks like."""
+        vmo, machine = self.vmo, self.machine
+        ready, new_ready = zip(*(it.look(page) for it in self.pieces)) if self.pieces else ((), ())
+        if page >= vmo.count:
+            return Look("past", hint="behind the end of the VMO", ready=ready, new_ready=new_ready)
+        frame = vmo.pages.get(page)
+        is_new = self.before.is_new("page", vmo.koid, page)
+        if frame is None:
+            return Look("zero", hint="no frame", ready=ready, is_new=is_new, new_ready=new_ready)
+        payer, others = frame.payer(), sorted(frame.koids - {vmo.koid})
+        tag = "" if not others else f"+{len(others)}" if payer == vmo.koid else machine.label(payer)
+        hint = f"{machine.label(payer)} pays" + (f", shown by {', '.join(map(machine.label, others))} too" if others else "")
+        holds = [name for name, pages in self.pins if page in pages]
+        hint += f", pinned by {', '.join(holds)}" if holds else ""
+        is_new = is_new or any(self.before.is_new("pin", it) for it in holds)
+        return Look("held", payer, tag, holds[0] if holds else "", hint, bool(holds), ready, is_new, new_ready)
+
+    def row(self, depth):
+        """Returns the row."""
+        vmo = self.vmo
+        ends = {end for it in self.pieces for end in it.ends()} | {vmo.count}
+        stop = max([vmo.count, *(it.pages.stop + it.ahead for it in self.pieces)])
+        marked = {*vmo.pages, *self.before.changed_pages(vmo.koid), *(page for end in ends for page in (end, end - 1))}
+        cells = runs_of(range(stop), sorted(it for it in marked if 0 <= it < stop), self.look_at)
+        names = [it["name"] + ("" if it["kind"] == "owner" else f" ({it['kind']})") for it in names_of(self.machine, vmo)]
+        pays = sum(frame.payer() == vmo.koid for frame in vmo.pages.values())
+        uses = "" if pays == len(vmo.pages) else f", uses {len(vmo.pages):,}"
+        small = f"pays {pays:,}{uses} of {vmo.count:,} page{'' if vmo.count == 1 else 's'}"
+        label = Label(depth, vmo.koid, " ".join(names) or f"koid {vmo.koid}", small, self.before.is_new("vmo", vmo.koid))
+        shown = self.pieces[:MOST_BARS]
+        row = row_of(cells, label, lambda cell: [vmo.pages[it].slot for it in cell.pages] if cell.look.kind == "held" else [],
+                     [(it.name, it.is_new) for it in shown])
+        left = len(self.pieces) - len(shown)
+        return row if not left else Row(row.height + 12, row.drawn + text(LABEL, row.height, f"and {left:,} mappings more", 9, "dim"), row.right)
+
+
+def space_rows(machine):
+    """Yields a row for each region that no bar names: those made in others, and address spaces in which nothing is mapped."""
+    for root in roots_of(machine):
+        regions = [*regions_below(root)]
+        if len(regions) == 1 and root.mappings:
+            continue
+        for region, parent, depth in regions:
+            what = "region" if parent else "address space"
+            span = f"{address(region.pages.start)} to {address(region.pages.stop)}, allows {spelled(region.rights)}"
+            yield text_row(f"{what} {region.name}: {span}" + ("" if root.mappings or parent else "; nothing is mapped"), x=MARGIN + STEP * min(depth, 6))
+
+
+def rows_of(machine, before=None):
+    """Returns the rows of a picture. What differs from the marks before the last line is marked as changed."""
+    if isinstance(machine, SourceMachine):
+        return source_rows(machine, Before(before, source_marks(machine)))
+    change = Before(before, marks_of(machine))
+    pieces = pieces_by_vmo(machine, change)
+    rows = [VmoRow(machine, vmo, pieces.get(vmo.koid, []), change).row(depth)
+            for vmo, depth in tree_of(machine.vmos, lambda it: it.parent and it.parent.koid)] or [text_row("no VMO")]
+    if change.gone():
+        rows.append(text_row(f"gone: {', '.join(change.gone())}", "new"))
     for name, it in sorted(getattr(machine, "jobs", {}).items()):
         left = counted((it.end - it.next) // PAGE, "page")
-        rows.append(Row(24, text_row(f"job {name}: {it.command} of {it.name} goes on at byte {it.next:,}, {left} left")))
-    for root in roots_of(machine):
-        rows.append(Row(10, rect(MARGIN, 4, WIDTH - 2 * MARGIN, 1, "#999")))
-        rows += space_rows(machine, root)
-    return rows
+        rows.append(text_row(f"job {name}: {it.command} of {it.name} goes on at byte {it.next:,}, {left} left"))
+    return rows + [*space_rows(machine)]
+
+
+# ---- the whole picture
 
 
 def heading_of(turn, machine):
     """Returns the lines above a picture."""
-    reply = f" -> {cut(turn.replies[0], 60)}" if turn.replies else ""
+    reply = f" → {cut(turn.replies[0], 60)}" if turn.replies else ""
     counts = f"{machine.used} of {machine.frames} frames used, {counted(len(machine.vmos), 'VMO')}"
-    return [f"behind line {turn.number}: {cut(visible(turn.line), 70)}{reply}", counts]
+    return [f"after line {turn.number}: {cut(visible(turn.line), 70)}{reply}", counts]
 
 
-def legend_of(machine):
-    """Returns the lines below a picture."""
-    return SOURCES_LEGEND if isinstance(machine, SourceMachine) else LEGEND
+def sample_of(kind, payer, tag):
+    """Draws what a part of the legend explains, as it occurs."""
+    width = SAMPLE
+    if kind in MEANING:
+        return bar(0, -6, width, kind, False)
+    if kind in ("zero", "new"):
+        return rect(0.5, -8.5, width - 1, 11, "new" if kind == "new" else "none", ' rx="2"')
+    box = rect(0, -9, width, 12, "", f' rx="2" fill="{colour_of(payer or 1)}"')
+    if kind in ("more", "other"):
+        return box + text(width / 2, 0, tag, min(9, 30 / len(tag)), "on", ' text-anchor="middle"')
+    return box + (f'<path d="M{width - 10} -8h9v9z" class="on"/>' if kind == "pinned" else "")
 
 
-def picture(rows, heading, legend, title):
-    """Returns a whole picture."""
-    out, y = [], 8
+def legend_rows(rows, words, least):
+    """Returns the rows of the legend: what each mark means that occurs. They are at least so wide."""
+    width = max(least, *(it.right for it in rows))
+    first = {}
+    for kind, payer, tag in sorted(kind for it in rows for kind in it.kinds):
+        first.setdefault(kind, (payer, tag))
+    lines, x = [[]], MARGIN
+    for kind, said in words.items():
+        if kind in first:
+            payer, tag = first[kind]
+            said = said.format(tag=tag, more=counted(int(tag), "more VMO") if kind == "more" else "", s="s" if tag == "+1" else "")
+            length = SAMPLE + 6 + 5.3 * len(said) + 14
+            if x + length > width and lines[-1]:
+                lines.append([])
+                x = MARGIN
+            lines[-1].append(f'<g transform="translate({x:g} 11)">{sample_of(kind, payer, tag)}{text(SAMPLE + 6, 0, said, 10, "dim")}</g>')
+            x += length
+    return [Row(16 if it else 0, "".join(it), width) for it in lines]
+
+
+def all_rows(machine, before=None, least=LEAST_WIDTH):
+    """Returns the rows of a picture with those of its legend, which is at least so wide."""
+    rows = rows_of(machine, before)
+    return rows + legend_rows(rows, SOURCES_LEGEND if isinstance(machine, SourceMachine) else LEGEND, least)
+
+
+def picture(rows, heading, title, scheme="auto"):
+    """Returns a whole picture, light, dark or as the reader's screen is."""
+    width = round(max(it.right for it in rows))
+    out, y = [], 7
     for at, it in enumerate(heading):
-        out.append(text(MARGIN, y + 14, it, 12, ' font-weight="bold"' if at == 0 else ""))
-        y += 18
-    y += 8
+        for line in textwrap.wrap(it, int((width - 2 * MARGIN) / (7 if at == 0 else 5.9)) or 1) or [""]:
+            y += 15
+            out.append(text(MARGIN, y, line, 12 if at == 0 else 11, "" if at == 0 else "dim", ' font-weight="bold"' if at == 0 else ""))
+    y += 12
     for row in rows:
-        out.append(f'<g transform="translate(0 {y})">{row.drawn}</g>')
+        out.append(f'<g transform="translate(0 {y:g})">{row.drawn}</g>')
         y += row.height
-    y += 4
-    for it in legend:
-        out.append(text(MARGIN, y + 10, it, 9, ' fill="#333"'))
-        y += 13
-    width = max(LEAST_WIDTH, *(it.right for it in rows))
-    return (f'<svg xmlns="http://www.w3.org/2000/svg" width="{width}" height="{y + 8}" viewBox="0 0 {width} {y + 8}" '
-            f'font-family="DejaVu Sans Mono, Menlo, Consolas, monospace"><title>{escape(title)}</title><defs>{DEFINED}</defs>'
-            f'<rect width="100%" height="100%" fill="#fff"/>' + "\n".join(out) + "</svg>")
+    said = "; ".join(heading)
+    return (f'<svg xmlns="http://www.w3.org/2000/svg" class="vm" role="img" width="{width}" height="{y + 6:g}" viewBox="0 0 {width} {y + 6:g}" '
+            f'font-family="{FONT}"><title>{escape(title)}</title><desc>{escape(said)}</desc>{styles(scheme)}'
+            f'{rect(0, 0, width, round(y + 6), "back")}' + "\n".join(out) + "</svg>")
 
 
 def draw(turns, asked):
-    """Yields the picture of what there is behind the last turn."""
-    turn, machine = list(turns)[-1]
-    yield picture(rows_of(machine), heading_of(turn, machine), legend_of(machine), f"{asked.file or 'a script'} behind line {turn.number}")
+    """Yields the picture of what there is behind the last turn, with what that changed."""
+    before = None
+    for turn, machine in turns:
+        if turn.number == len(asked.lines) - 1:
+            before = marks_of(machine)
+    yield picture(all_rows(machine, before if before is not None else {}), heading_of(turn, machine),
+                  visible(f"{asked.file or 'a script'} after line {turn.number}"), asked.scheme)

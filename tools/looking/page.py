@@ -5,12 +5,13 @@ import os
 import pathlib
 from html import escape
 
-from .cells import DEFINED
-from .drawing import legend_of, rows_of
-from .rows import WIDTH
+from wording import Trouble
+
+from .cells import styles
+from .drawing import FONT, all_rows, marks_of
 from .texts import Ranks, change_words
-from .trees import has_tree, trees_of
-from .turns import Trouble, cut, visible
+from .trees import has_tree, renumber, tree_after, tree_shown
+from .turns import cut, visible
 
 TEMPLATE = pathlib.Path(__file__).with_name("page.html")
 MOST_LINES = 1000
@@ -26,48 +27,61 @@ class Rows:
         self.rows = {}
         self.states = {}
         self.last = None
+        self.is_plain = False
+        self.marks = {}
 
     def state_of(self, turn, machine):
         """Returns which picture is behind a turn."""
         word = (turn.line.split() or [""])[0]
         is_same = turn.refusal or not turn.replies or word in ASKING
-        if self.last is None or not is_same:
-            rows = tuple(self.rows.setdefault(it, len(self.rows)) for it in rows_of(machine))
-            self.last = self.states.setdefault(rows, len(self.states))
+        if self.last is None or not is_same or not self.is_plain:
+            rows = all_rows(machine, None if is_same and self.last is not None else self.marks)
+            shown = tuple(self.rows.setdefault((it.height, it.drawn), len(self.rows)) for it in rows)
+            width = max(it.right for it in rows)
+            self.last = self.states.setdefault((width, *shown), len(self.states))
+            self.is_plain = bool(is_same)
+            self.marks = self.marks if is_same else marks_of(machine)
         return self.last
 
 
-def record_of(turn, state, ranks):
+def record_of(turn, ranks):
     """Returns what the page has of a turn."""
     return {"number": turn.number, "text": cut(visible(turn.line), MOST_LINE), "reply": [cut(it, MOST_REPLY) for it in turn.replies],
             "refused": turn.refusal is not None, "why": ranks.words(turn) if turn.refusal else "", "change": change_words(turn),
-            "used": turn.used, "state": state}
+            "used": turn.used}
 
 
-def add_trees(records, turns, asked):
-    """Adds to what the page has of each turn which clone tree is behind it, and returns the trees, each once. There are none without
-    vmotree."""
-    drawn = trees_of(turns, asked)
-    if drawn is None:
-        return []
-    trees, following, last = {}, iter(drawn), None
-    for record, turn in zip(records, turns):
-        if has_tree(turn):
-            last = trees.setdefault(next(following), len(trees))
-        record["tree"] = last
-    return [*trees]
+class Trees:
+    """The clone trees after the lines, each drawn once. There are none without vmotree."""
+
+    def __init__(self, asked):
+        self.asked = asked
+        self.lines, self.drawn = [], {}
+        self.tree, self.last = None, None
+
+    def tree_of(self, turn, machine):
+        """Returns which tree there is after a turn, the next one, and gives the frames of the machine their numbers there."""
+        self.lines.append(turn.line)
+        # A command that is refused leaves the tree as it was.
+        if has_tree(turn) and not (turn.refusal and self.tree):
+            self.tree = tree_after(self.lines, self.asked)
+        if self.tree and has_tree(turn):
+            renumber(machine, self.tree)
+            self.last = self.drawn.setdefault(tree_shown(self.tree, machine), len(self.drawn)) if "\n" in self.tree else None
+        return self.last
 
 
 def page(turns, asked):
     """Yields the page of a script."""
-    rows, ranks, lines, shown, machine = Rows(), Ranks(asked.word), [], [], None
+    if len(asked.lines) > MOST_LINES:
+        raise Trouble(2, f"a page has at most {MOST_LINES} lines, and the script has {len(asked.lines)}; --at {MOST_LINES} shows the first, and "
+                         "tools/play any line")
+    rows, trees, ranks, lines, machine = Rows(), Trees(asked), Ranks(asked.word), [], None
     for turn, machine in turns:
-        if len(lines) == MOST_LINES:
-            raise Trouble(2, f"the script has more than {MOST_LINES} lines, which is the most of a page; --at {MOST_LINES} shows these")
-        lines.append(record_of(turn, rows.state_of(turn, machine), ranks))
-        shown.append(turn)
-    data = {"lines": lines, "rows": [*rows.rows], "states": [*rows.states], "frames": machine.frames, "width": WIDTH,
-            "defined": DEFINED, "legend": legend_of(machine), "trees": add_trees(lines, shown, asked)}
+        tree = trees.tree_of(turn, machine)
+        lines.append(record_of(turn, ranks) | {"state": rows.state_of(turn, machine), "tree": tree})
+    data = {"lines": lines, "rows": [*rows.rows], "states": [*rows.states], "frames": machine.frames, "font": FONT,
+            "styles": styles("auto"), "trees": [*trees.drawn]}
     title = f"{os.path.basename(asked.file) if asked.file else 'A script'}, line by line"
     # No text of the script may end the element that the data stands in.
     text = json.dumps(data, separators=(",", ":")).replace("<", "\\u003c")

@@ -1,17 +1,8 @@
 """The same of the machine of page sources: its state, and the rows of its picture."""
 import hashlib
 
-from machine_model.answering import counted
-
 from .cells import Look, runs_of
-from .rows import Row, row_of, shown_by, text_row, tree_of
-
-SOURCES_LEGEND = (
-    "f1, f2, ..: page frames in the order in which they were taken. One frame has one colour.",
-    "clean: the page has the bytes of its source, and may be evicted. changed: it has others. own: a loose VMO has written it.",
-    "absent: the next read supplies the page. parent: the page is shown as the parent has it. zero: it comes from nowhere.",
-)
-
+from .rows import Label, row_of, text_row, tree_of
 
 def names_of(machine, vmo):
     """Returns the names of a VMO in order."""
@@ -45,25 +36,35 @@ def source_state(machine):
             "vmos": [vmo_state(machine, it, page_of) for it in sorted(machine.vmos, key=lambda it: it.koid)]}
 
 
-def vmo_row(machine, vmo, depth):
+def source_marks(machine):
+    """Returns what a picture shows, by its places: each held page, and each VMO."""
+    marks = {("page", vmo.koid, page): (frame.slot, frame.payer(), len(frame.koids), kind_of(vmo, page))
+             for vmo in machine.vmos for page, frame in vmo.held.items()}
+    return marks | {("vmo", vmo.koid): machine.label(vmo.koid) for vmo in machine.vmos}
+
+
+def vmo_row(machine, vmo, depth, change):
     """Returns the row of a VMO."""
 
     def look_at(page):
-        kind = kind_of(vmo, page)
+        kind, is_new = kind_of(vmo, page), change.is_new("page", vmo.koid, page)
         if page not in vmo.held:
-            return Look(kind, 0, "", "no frame", "dashed" if kind == "absent" else "plain")
+            return Look(kind, hint="no frame", is_new=is_new)
         frame = vmo.held[page]
-        return Look("held", frame.order - page, kind, f"{kind}, shown by {shown_by(frame)}", "plain")
+        payer, others = frame.payer(), sorted(frame.koids - {vmo.koid})
+        tag = "" if not others else f"+{len(others)}" if payer == vmo.koid else machine.label(payer)
+        return Look("held", payer, tag, kind, f"{kind}, {machine.label(payer)} pays", is_new=is_new)
 
     seen = vmo.backing.seen if vmo.backing else vmo.link.seen
-    cells = runs_of(range(len(vmo.text)), sorted({*vmo.held, seen}), look_at)
-    comes = f"source {vmo.backing.kind}, seed {vmo.backing.seed}" if vmo.backing else f"loose, child of koid {vmo.link.parent.koid}"
-    small = [f"koid {vmo.koid}, {comes}", f"{counted(len(vmo.text), 'page')}, {len(vmo.held):,} held"]
-    return row_of(cells, depth, " ".join(names_of(machine, vmo)) or "(no name)", small, lambda page: f"page {page:,}")
+    marked = {*vmo.held, seen, *change.changed_pages(vmo.koid)}
+    cells = runs_of(range(len(vmo.text)), sorted(marked), look_at)
+    comes = f"source {vmo.backing.kind}, seed {vmo.backing.seed}" if vmo.backing else f"child of {machine.label(vmo.link.parent.koid)}"
+    label = Label(depth, vmo.koid, " ".join(names_of(machine, vmo)) or f"koid {vmo.koid}", f"{comes}, {len(vmo.held):,} held",
+                  change.is_new("vmo", vmo.koid))
+    return row_of(cells, label, lambda cell: [vmo.held[it].slot for it in cell.pages] if cell.look.kind == "held" else [])
 
 
-def source_rows(machine):
+def source_rows(machine, change):
     """Returns the rows of a picture, each loose VMO under its parent."""
     tree = tree_of(machine.vmos, lambda it: it.link and it.link.parent.koid)
-    rows = [vmo_row(machine, vmo, depth) for vmo, depth in tree]
-    return rows or [Row(24, text_row("no VMO"))]
+    return [vmo_row(machine, vmo, depth, change) for vmo, depth in tree] or [text_row("no VMO")]

@@ -1,52 +1,75 @@
-"""The rows of a picture: a label, and the cells beside it."""
+"""The rows of a picture: a label, and beside it cells with the bars of mappings below them."""
 from typing import NamedTuple
 
-from .cells import HEIGHT, NUMBER, drawn, in_lines, text
+from .cells import BAR, BAR_STEP, HEIGHT, NUMBER, bar, colour_of, drawn, in_lines, rect, text
 from .turns import cut
 
-WIDTH, LEAST_WIDTH, LABEL, MARGIN, STEP = 980, 760, 262, 12, 14
-MOST_DEPTH = 8
-LINE = HEIGHT + NUMBER + 4
+WIDTH, LEAST_WIDTH, LABEL, MARGIN, STEP = 920, 640, 190, 12, 14
+MOST_DEPTH = 6
+SPACE = 4
 
 
 class Row(NamedTuple):
-    """A row of a picture, with its height and its right end. It begins at the height 0."""
+    """A row of a picture, with its height, its right end, and the kinds of marks that are in it. It begins at the height 0."""
 
     height: int
     drawn: str
-    right: int = LEAST_WIDTH
+    right: int = 0
+    kinds: tuple = ()
 
 
-def label_rows(x, bold, small):
-    """Returns the two lines of the label of a row."""
-    most = (LABEL - x) / 6.7
-    out = text(x, 14, cut(bold, int(most)), 11, ' font-weight="bold"')
-    return out + "".join(text(x, 27 + 11 * at, cut(it, int((LABEL - x) / 5.5)), 9) for at, it in enumerate(small))
+class Label(NamedTuple):
+    """What stands beside the cells of a VMO: how far down it is, its koid, what it is called, a line below, and whether it is new."""
+
+    depth: int
+    koid: int
+    bold: str
+    small: str
+    is_new: bool = False
 
 
-def row_of(cells, depth, bold, small, spell):
-    """Returns a row of cells with its label."""
-    places, lines = in_lines(cells, LABEL, WIDTH - LABEL - MARGIN)
-    out = label_rows(MARGIN + STEP * min(depth, MOST_DEPTH), bold, small)
-    for cell, x, line in places:
-        out += drawn(cell, x, line * LINE, spell)
-        first, last = cell.pages.start, cell.pages.stop - 1
-        number = f"{first:,}" if first == last else f"{first:,} to {last:,}"
-        if len(number) * 4.9 > cell.width():
-            number = f"from {first:,}"
-        out += text(x + cell.width() / 2, line * LINE + HEIGHT + 9, number, 8, ' text-anchor="middle" fill="#555"')
-    right = max((x + cell.width() for cell, x, _ in places), default=0) + MARGIN
-    return Row(max(lines * LINE, 27 + 11 * len(small)) + 4, out, right)
+def label_of(label):
+    """Draws a label."""
+    x = MARGIN + STEP * min(label.depth, MOST_DEPTH)
+    out = f'<path d="M{x - 9} -6V12H{x - 2}" class="line"/>' if label.depth else ""
+    out += rect(x, 3, 10, 10, "", f' rx="2" fill="{colour_of(label.koid)}"')
+    bold = cut(label.bold, int((LABEL - x - 16 - 30 * label.is_new) / 7.4))
+    out += text(x + 15, 12, bold, 12, "", ' font-weight="bold"')
+    out += text(x + 22 + 7.6 * len(bold), 12, "new", 10, "new") if label.is_new else ""
+    return out + text(x + 15, 24, cut(label.small, int((LABEL - x - 15) / 4.9)), 9, "dim")
 
 
-def text_row(words):
-    """Returns what is drawn for a row of words."""
-    return text(MARGIN, 16, words)
+def kinds_of(look):
+    """Returns the kinds of marks in a cell and in the bars below it, each with the VMO that pays and what stands beside the frame, where
+    that is told."""
+    kinds = {look.kind, *filter(None, look.ready), *(("pinned",) if look.is_pinned else ())}
+    kinds |= {"new"} if look.is_new or any(look.new_ready) else set()
+    kinds |= {"more" if look.tag.startswith("+") else "other"} if look.tag else set()
+    return {(it, look.payer, look.tag) if it in ("held", "more", "other") else (it, 0, "") for it in kinds}
 
 
-def shown_by(frame):
-    """Says which VMOs show a frame."""
-    return f"koid {', '.join(map(str, sorted(frame.koids)))}"
+def row_of(cells, label, numbers_of, bars=()):
+    """Returns a row of cells with its label, and below the cells a bar for each mapping, whose name is given with whether it is new."""
+    out, y, right = label_of(label), 0, LABEL
+    x = MARGIN + STEP * min(label.depth, MOST_DEPTH) + 15
+    for line in in_lines(cells, LABEL, WIDTH - LABEL - MARGIN):
+        out += "".join(drawn(cell, at, y, numbers_of(cell)) for cell, at in line)
+        right = max(right, line[-1][1] + line[-1][0].width()) if line else right
+        y += HEIGHT + NUMBER
+        for number, (name, is_new) in enumerate(bars):
+            shown = [(cell, at) for cell, at in line if cell.look.ready and cell.look.ready[number]]
+            if shown:
+                out += text(x, y + BAR + 2, cut(name, int((LABEL - x) / 5.1)), 9, "new" if is_new else "dim")
+                out += "".join(bar(at, y + 2, cell.width(), cell.look.ready[number], cell.look.new_ready[number]) for cell, at in shown)
+                y += BAR_STEP
+        y += 2
+    kinds = {it for cell in cells for it in kinds_of(cell.look)} | ({("new", 0, "")} if label.is_new or any(it for _, it in bars) else set())
+    return Row(max(y, 28) + SPACE, out, right + MARGIN, tuple(sorted(kinds)))
+
+
+def text_row(words, kind="dim", x=MARGIN):
+    """Returns a row of words."""
+    return Row(16, text(x, 11, words, 10, kind), round(x + 5.6 * len(words)) + MARGIN)
 
 
 def tree_of(vmos, parent_of):

@@ -1,9 +1,11 @@
 """What happened, as texts: a script with its replies and reasons, a table of costs, and a line of JSON for each turn."""
+import collections
 import csv
 import io
 import json
 import re
 
+from machine_model import SourceMachine
 from machine_model.answering import plural
 from machine_model.tables import key_of, refusals_of
 
@@ -11,7 +13,8 @@ from .turns import MACHINES, cut, visible
 
 LEAST_WIDTH, MOST_WIDTH = 24, 60
 MOST_LINE, MOST_REPLY, MOST_TITLE, MOST_COMMENTS = 120, 120, 60, 4
-COLUMNS = ("line", "commands", "refused", "faults", "taken", "given", "used", "peak", "block")
+COLUMNS = ("line", "commands", "refused", "faults", "taken", "given", "used", "peak", "pays", "block")
+MOST_PAYERS = 6
 
 
 class Ranks:
@@ -72,43 +75,73 @@ def title_of(comments):
     return cut(re.split(r"(?<=[^.])[.:;?] ", f"{text} ")[0].strip(), MOST_TITLE) or "(no comment)"
 
 
-def blocks_of(turns):
-    """Returns a row of costs for each block of commands under a comment."""
-    rows, comments, used = [], [], 0
-    row = None
-    for turn, _ in turns:
+def payers_of(machine):
+    """Returns what each VMO is called that is charged for frames, with how many, in the order of the koids."""
+    held = [vmo.held if isinstance(machine, SourceMachine) else vmo.pages for vmo in machine.vmos]
+    counts = collections.Counter(frame.payer() for frame in {frame for pages in held for frame in pages.values()})
+    return [(machine.label(koid), counts[koid]) for koid in sorted(counts)]
+
+
+def payers_words(machine):
+    """Says the same in a few words."""
+    payers = [f"{name} {count}" for name, count in payers_of(machine)]
+    return ", ".join(payers if len(payers) <= MOST_PAYERS else [*payers[:MOST_PAYERS], ".."]) or "-"
+
+
+class Blocks:
+    """The costs of a script as they come: a row for each block of commands under a comment, with who pays at its end."""
+
+    def __init__(self):
+        self.rows, self.comments, self.row, self.used = [], [], None, 0
+        self.machine = None
+
+    def end_row(self):
+        """Ends the row of a block. The machine is as it was behind the last command."""
+        if self.row:
+            self.row["pays"] = payers_words(self.machine)
+            self.row = None
+
+    def add(self, turn, machine):
+        """Adds a turn."""
+        self.machine = machine
         if not turn.replies:
             if turn.line.strip(" \t\r"):
-                comments.append(turn.line)
-                row = None
-            continue
-        if row is None:
-            row = dict.fromkeys(COLUMNS, 0) | {"line": turn.number, "peak": used, "block": title_of(comments)}
-            rows.append(row)
-            comments.clear()
-        used = turn.used
-        row["commands"] += 1
-        row["refused"] += turn.refusal is not None
-        row["faults"] += turn.faults
-        row["taken"] += turn.taken
-        row["given"] += turn.given
-        row["used"] = used
-        row["peak"] = max(row["peak"], used)
-    return rows
+                self.comments.append(turn.line)
+                self.end_row()
+            return
+        if self.row is None:
+            self.row = dict.fromkeys(COLUMNS, 0) | {"line": turn.number, "peak": self.used, "block": title_of(self.comments)}
+            self.rows.append(self.row)
+            self.comments.clear()
+        self.used = turn.used
+        counts = {"commands": 1, "refused": turn.refusal is not None, "faults": turn.faults, "taken": turn.taken, "given": turn.given}
+        for name, count in counts.items():
+            self.row[name] += count
+        self.row |= {"used": turn.used, "peak": max(self.row["peak"], turn.used)}
+
+
+def blocks_of(turns):
+    """Returns the rows of costs of a script."""
+    blocks = Blocks()
+    for turn, machine in turns:
+        blocks.add(turn, machine)
+    blocks.end_row()
+    return blocks.rows
 
 
 def total_of(rows):
     """Returns the row of all blocks together."""
     total = {it: sum(row[it] for row in rows) for it in ("commands", "refused", "faults", "taken", "given")}
-    return {"line": "", **total, "used": rows[-1]["used"], "peak": max(it["peak"] for it in rows), "block": "all"}
+    return {"line": "", **total, "used": rows[-1]["used"], "peak": max(it["peak"] for it in rows), "pays": rows[-1]["pays"], "block": "all"}
 
 
 def cost(turns, _):
     """Yields the lines of a table of costs."""
     rows = blocks_of(turns)
-    yield " ".join(f"{it:>8}" for it in COLUMNS[:-1]) + f"  {COLUMNS[-1]}"
-    for row in [*rows, *([total_of(rows)] if rows else [])]:
-        yield " ".join(f"{row[it]:>8}" for it in COLUMNS[:-1]) + f"  {row['block']}"
+    rows += [total_of(rows)] if rows else []
+    width = max([len(it["pays"]) for it in rows] or [4])
+    for row in [dict(zip(COLUMNS, COLUMNS)), *rows]:
+        yield " ".join(f"{row[it]:>8}" for it in COLUMNS[:-2]) + f"  {row['pays']:{width}}  {row['block']}"
 
 
 def cost_csv(turns, _):

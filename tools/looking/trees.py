@@ -1,10 +1,12 @@
-"""The clone tree behind each line of a script, with its hidden nodes, as `vmotree` draws it."""
+"""The clone tree behind lines of a script, with its hidden nodes, as `vmotree` draws it."""
 import os
 
 from machine_model.answering import counted
 from programs import run
+from wording import Trouble
 
-from .turns import TOP, Trouble
+from .clone_tree import nodes_of, tree_picture
+from .turns import TOP
 
 BUILT = TOP / "crates" / "vmotree" / "out" / "vmotree"
 MOST_NODES = 200
@@ -17,35 +19,45 @@ def tree_program(asked):
     return asked.tree or (str(BUILT) if os.access(BUILT, os.X_OK) else None)
 
 
-def shortened(tree):
-    """Returns the lines of a tree, cut if they are many. The first one counts."""
-    more = len(tree) - 1 - MOST_NODES
-    return "\n".join(tree if more <= 0 else [*tree[: MOST_NODES + 1], f"# .. and {counted(more, 'node')} more"])
-
-
-def tree_after(program, frames, lines):
-    """Returns the tree after these lines of a script."""
-    ran = run(program, ["--frames", str(frames)], "".join(f"{it}
-" for it in lines).encode())
-    if ran.returncode:
-        raise Trouble(1, f"the program {program!r} ends with status {ran.returncode}")
-    return shortened(ran.stdout.decode(errors="replace").splitlines())
-
-
-def has_tree(turn):
-    """Returns whether a tree is shown behind a turn: its line is a command."""
-    return bool(turn.replies) and turn.replies[0] != "SYNTAX"
-
-
-def trees_of(turns, asked):
-    """Returns the tree behind each turn that has one, in the order of the turns. None without vmotree."""
+def tree_after(lines, asked):
+    """Returns the tree after lines of a script. None without vmotree."""
     program = tree_program(asked)
     if not program:
         return None
-    lines, trees = [it.line for it in turns], []
-    for count, turn in enumerate(turns, 1):
-        if has_tree(turn):
-            # A command that is refused leaves the tree as it was.
-            is_same = turn.refusal and trees
-            trees.append(trees[-1] if is_same else tree_after(program, asked.frames, lines[:count]))
-    return trees
+    ran = run(program, ["--frames", str(asked.frames)], "".join(f"{it}\n" for it in lines).encode())
+    if ran.returncode:
+        raise Trouble(1, f"the program {program!r} ends with status {ran.returncode}")
+    return "\n".join(ran.stdout.decode(errors="replace").splitlines())
+
+
+def renumber(machine, tree):
+    """Gives the frames of a model the numbers that they have in a tree."""
+    vmos = {it.koid: it for it in machine.vmos}
+    for node in nodes_of(tree):
+        pages = vmos[node.koid].pages if node.koid in vmos else {}
+        for page, frame in pages.items():
+            number = node.holder(page)[1]
+            if number is not None:
+                machine.pool.renumber(frame, number)
+
+
+def tree_shown(tree, machine, least=460):
+    """Returns what is shown of a tree: its picture, or its lines if it has more nodes than a picture, cut if they are many."""
+    picture = tree_picture(tree, machine.label, least=least)
+    lines = tree.splitlines()
+    more = len(lines) - 1 - MOST_NODES
+    return picture or "\n".join(lines if more <= 0 else [*lines[: MOST_NODES + 1], f"# .. and {counted(more, 'node')} more"])
+
+
+def has_tree(turn):
+    """Returns whether a tree is drawn behind a turn: its line is a command."""
+    return bool(turn.replies) and turn.replies[0] != "SYNTAX"
+
+
+def draw_tree(turns, asked):
+    """Yields the picture of the clone tree after the last turn."""
+    tree = tree_after(asked.lines, asked)
+    if not tree:
+        raise Trouble(1, "the program vmotree is not built, and no --tree names it" if asked.word == "run" else f"{asked.word} has no clone tree")
+    machine = list(turns)[-1][1]
+    yield tree_picture(tree, machine.label, asked.scheme) or tree

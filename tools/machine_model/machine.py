@@ -1,12 +1,15 @@
 """The plain machine: a VMO is a map of its pages, and a snapshot copies the map."""
+import itertools
 import re
 
-from .answering import Answering, are, counted, misplaced
-from .limits import MOST_PAGES, MOST_PINNED, MOST_READ, PAGE, meet, pages_in, touched
-from .objects import Frame, Name, Pin, Vmo
+from .answering import Answering, counted, misplaced
+from .limits import MOST_PAGES, MOST_PINNED, MOST_READ, PAGE, len_of, meet, pages_in, touched
+from .objects import Frame, FramePool, Name, Pin, Vmo
 from .regions import READY_TO_READ, RegionCommands
 
 MOST_BYTES = MOST_PAGES * PAGE
+# How many VMOs and runs of pages a reason names.
+MOST_SHOWN = 3
 
 
 def past_most(what, size):
@@ -25,6 +28,7 @@ class Machine(RegionCommands, Answering):
     def __init__(self, frames):
         super().__init__()
         self.frames = frames
+        self.pool = FramePool()
         self.used = 0
         # How many frames were ever taken and given back.
         self.taken = 0
@@ -54,8 +58,10 @@ class Machine(RegionCommands, Answering):
         frame = vmo.pages.pop(page, None)
         if frame:
             frame.koids.remove(vmo.koid)
-            self.used -= not frame.koids
-            self.given += not frame.koids
+            if not frame.koids:
+                self.used -= 1
+                self.given += 1
+                self.pool.give_back(frame)
             self.reset(vmo, page)
 
     def own(self, vmo, page):
@@ -65,35 +71,71 @@ class Machine(RegionCommands, Answering):
             self.give_up(vmo, page)
             self.used += 1
             self.taken += 1
-            vmo.pages[page] = Frame(shown, vmo.koid, self.taken)
+            vmo.pages[page] = Frame(shown, vmo.koid, self.pool)
             self.reset(vmo, page)
         return vmo.pages[page]
 
-    def lacks(self, pages):
-        """Returns whether owning the pages, each of a VMO, one after another takes more frames than are free."""
-        need, owned, left = 0, set(), {}
+    @staticmethod
+    def wanting(pages):
+        """Yields those of the pages, each of a VMO, that take a frame if they are owned one after another."""
+        owned, left = set(), {}
         for vmo, page in pages:
             frame = vmo.pages.get(page)
             if (vmo, page) in owned or frame and len(frame.koids) - left.get(frame, 0) == 1:
                 continue
             owned.add((vmo, page))
             left[frame] = left.get(frame, 0) + 1
-            need += 1
-            if need > self.frames - self.used:
-                return True
-        return False
+            yield vmo, page
+
+    def lacks(self, pages):
+        """Returns whether owning the pages, each of a VMO, one after another takes more frames than are free."""
+        return next(itertools.islice(self.wanting(pages), self.frames - self.used, None), None) is not None
 
     def free_words(self):
         """Says how many frames are free."""
-        return f"{counted(self.frames - self.used, 'frame')} {are(self.frames - self.used)} free"
+        free = self.frames - self.used
+        return f"{free or 'none'} {'is' if free < 2 else 'are'} free"
 
-    def lacks_words(self, vmo, pages, which="of the range"):
-        """Says that owning pages of a VMO takes too many frames, if it does. The pages are a range or a list."""
+    def label(self, koid):
+        """Returns what a VMO is called: its first name, or its koid."""
+        names = sorted((it for it, name in self.names.items() if name.vmo.koid == koid), key=lambda it: int(it[1:]))
+        return names[0] if names else f"koid {koid}"
+
+    def want_of(self, vmo, page):
+        """Says why owning a page takes a frame; or nothing, if no other VMO shows the one that it has."""
+        frame = vmo.pages.get(page)
+        if frame is None:
+            return f"of {self.label(vmo.koid)} is zero"
+        others = sorted(frame.koids - {vmo.koid})
+        return f"of {self.label(vmo.koid)} is shared with {', '.join(map(self.label, others[:MOST_SHOWN]))}" if others else ""
+
+    def needs_words(self, need, wants):
+        """Says how many frames a command needs, and which pages want them. They come as ranges of pages, each with why."""
+        runs = []
+        for pages, why in wants:
+            if runs and runs[-1][1] == why and runs[-1][0].stop == pages.start:
+                runs[-1] = range(runs[-1][0].start, pages.stop), why
+            elif why and len(runs) <= MOST_SHOWN:
+                runs.append((pages, why))
+        said = [f"page {it.start} {why}" if len_of(it) == 1 else f"pages {it.start} to {it.stop - 1} {why.replace(' is ', ' are ')}" for it, why in runs[:MOST_SHOWN]]
+        return f"it needs {counted(need, 'frame')}, {self.free_words()}: {', '.join(said)}{', ..' * (len(runs) > MOST_SHOWN)}"
+
+    def wants_of(self, vmo, pages):
+        """Yields pages, each range of them with why owning it takes a frame. The pages are a range or a list in order."""
+        if not isinstance(pages, range):
+            pages = iter(range(it, it + 1) for it in pages)
+        else:
+            ends = sorted({pages.start, pages.stop, *(end for it in vmo.held(pages) for end in (it, it + 1))})
+            pages = (range(first, end) for first, end in zip(ends, ends[1:]))
+        for it in pages:
+            yield it, self.want_of(vmo, it.start)
+
+    def lacks_words(self, vmo, pages):
+        """Says that owning pages of a VMO takes too many frames, if it does. The pages are a range or a list in order."""
         if not self.lacks((vmo, it) for it in pages):
             return ""
-        count = pages.stop - pages.start if isinstance(pages, range) else len(pages)
-        need = count - sum(it in pages and vmo.is_sole(it) for it in vmo.pages)
-        return f"{counted(need, 'page')} {which} {are(need)} not sole, {self.free_words()}"
+        count = len_of(pages) if isinstance(pages, range) else len(pages)
+        return self.needs_words(count - sum(it in pages and vmo.is_sole(it) for it in vmo.pages), self.wants_of(vmo, pages))
 
     def put(self, vmo, offset, written):
         """Writes bytes to pages, which it owns."""
@@ -111,7 +153,7 @@ class Machine(RegionCommands, Answering):
         for vmo in set(vmos):
             if vmo in kept or vmo.mappings:
                 continue
-            for page in list(vmo.pages):
+            for page in sorted(vmo.pages):
                 self.give_up(vmo, page)
             self.vmos.remove(vmo)
             for other in self.vmos:
@@ -157,7 +199,7 @@ class Machine(RegionCommands, Answering):
         self.refuse(
             ("INVALID_ARGS", misplaced(OFFSET=offset) or both),
             ("OUT_OF_RANGE", past_most("OFFSET + SIZE, rounded up to whole pages,", (offset // PAGE + count) * PAGE)),
-            ("NO_MEMORY", lacks and f"of the pages of {parent} that it copies {len(pinned):,} {are(len(pinned))} pinned, {self.free_words()}"),
+            ("NO_MEMORY", lacks and self.needs_words(len(pinned), ((range(it, it + 1), f"of {parent} is pinned") for it in pinned))),
         )
         self.may_lack_host_memory()
         child = self.new_vmo(count, resizable, of.vmo)
@@ -218,7 +260,7 @@ class Machine(RegionCommands, Answering):
             ("BAD_STATE", last >= count and f"page {last} is pinned, the VMO would have {counted(count, 'page')}"),
         )
         it.vmo.count = count
-        for page in [it for it in it.vmo.pages if it >= count]:
+        for page in sorted(page for page in it.vmo.pages if page >= count):
             self.give_up(it.vmo, page)
         for mapping in it.vmo.mappings:
             mapping.ready = {page: ready for page, ready in mapping.ready.items() if page + mapping.ahead < count}
@@ -270,7 +312,7 @@ class Machine(RegionCommands, Answering):
         held = vmo.held(touched(start, length))
         gone = [it for it in held if start <= it * PAGE and (it + 1) * PAGE <= start + length and not self.is_pinned(vmo, it)]
         kept = [it for it in held if it not in gone]
-        self.refuse(("NO_MEMORY", self.lacks_words(vmo, kept, "that it writes zeros to")))
+        self.refuse(("NO_MEMORY", self.lacks_words(vmo, kept)))
         self.may_lack_host_memory(held)
         for page in gone:
             self.give_up(vmo, page)
@@ -314,36 +356,30 @@ class Machine(RegionCommands, Answering):
             ("NO_MEMORY", self.lacks_words(vmo, pages)),
         )
         self.may_lack_host_memory()
-        numbers = self.numbers_told(vmo, pages) or self.numbers_for(vmo, pages, iter(range(self.frames)))
+        told = self.numbers_told(vmo, pages)
         self.pins[pin] = Pin(vmo, pages)
-        for page, it in zip(pages, numbers):
-            self.own(vmo, page).number = it
-        return " ".join(map(str, numbers))
+        frames = [self.own(vmo, page) for page in pages]
+        for frame, number in zip(frames, told):
+            self.pool.renumber(frame, number)
+        for it in frames:
+            it.number = it.slot
+        return " ".join(str(it.slot) for it in frames)
 
     def numbers_told(self, vmo, pages):
-        """Returns the numbers of the frames of pages that are to be pinned as the reply has them, or None if they may not be these."""
+        """Returns the numbers of the frames of pages that are to be pinned as the reply has them, or none if they may not be these:
+        a pinned page keeps its own, and each other one has a number that no pinned page has."""
         if not re.fullmatch("OK( (0|[1-9][0-9]{0,9}))+", self.told):
-            return None
+            return []
         told = [int(it) for it in self.told.split()[1:]]
-        return told if len(told) == len(pages) and self.numbers_for(vmo, pages, iter(told), True) == told else None
-
-    def numbers_for(self, vmo, pages, choices, takes_all=False):
-        """Returns the numbers of the frames of pages that are to be pinned: those of the pages that are pinned, and else what comes
-        first of the choices that no pinned page has. If all are taken, a choice stands for each page."""
+        if len(told) != len(pages):
+            return []
         taken = {it.vmo.pages[page].number for it in self.pins.values() for page in it.pages}
-        numbers = []
-        for page in pages:
-            if self.is_pinned(vmo, page):
-                numbers.append(vmo.pages[page].number)
-                if takes_all:
-                    next(choices)
-                continue
-            number_of = next((it for it in choices if takes_all or it not in taken), None)
-            if number_of is None or number_of in taken or number_of >= self.frames:
-                return None
-            taken.add(number_of)
-            numbers.append(number_of)
-        return numbers
+        for page, number in zip(pages, told):
+            is_pinned = self.is_pinned(vmo, page)
+            if is_pinned and vmo.pages[page].number != number or not is_pinned and (number in taken or number >= self.frames):
+                return []
+            taken.add(number)
+        return told
 
     def vmo_unpin(self, pin):
         """Lets pinned pages go."""

@@ -2,15 +2,60 @@
 from .limits import PAGE, is_inside, meet
 
 
-class Frame:
-    """A page frame: its bytes, the koids of the VMOs that show it, and which frame it is, in the order in which frames were taken.
-    Its number is known while its page is pinned."""
+class FramePool:
+    """The numbers of page frames. The program takes the frame that was given back last, or else the next one that was never taken."""
 
-    def __init__(self, bytes_shown, koid, order):
+    def __init__(self):
+        self.taken = {}
+        self.idle = []
+        self.fresh = 0
+        self.count = 0
+
+    def take(self, frame):
+        """Gives a frame its number."""
+        if not self.idle:
+            self.idle.append(self.fresh)
+            self.fresh += 1
+        frame.slot = self.idle.pop()
+        frame.order = self.count
+        self.count += 1
+        self.taken[frame.slot] = frame
+
+    def give_back(self, frame):
+        """Frees the number of a frame."""
+        del self.taken[frame.slot]
+        self.idle.append(frame.slot)
+
+    def renumber(self, frame, number):
+        """Gives a frame another number, which a reply told. A frame that has it gets the number of this one."""
+        if number == frame.slot:
+            return
+        other = self.taken.get(number)
+        self.idle += range(self.fresh, number + 1)
+        self.fresh = max(self.fresh, number + 1)
+        if other:
+            other.slot = frame.slot
+            self.taken[other.slot] = other
+        else:
+            self.idle.remove(number)
+            self.give_back(frame)
+        frame.slot = number
+        self.taken[number] = frame
+
+
+class Frame:
+    """A page frame: its bytes, the koids of the VMOs that show it, its number in the pool, and how many frames were taken before it.
+    `number` is that in the pool while a pin keeps it, and else None."""
+
+    def __init__(self, bytes_shown, koid, pool):
         self.data = bytearray(bytes_shown)
         self.koids = {koid}
-        self.order = order
         self.number = None
+        pool.take(self)
+
+    def payer(self):
+        """Returns the koid of the VMO that is charged for the frame."""
+        return min(self.koids)
 
 
 class Vmo:

@@ -279,6 +279,13 @@ class RegionCommands:
         self.refuse(*((it, name == it and why) for it in ("NOT_FOUND", "ACCESS_DENIED", "OUT_OF_RANGE")))
         return [(page, it, page + it.ahead) for page, it in pages]
 
+    def lacks_there(self, pages):
+        """Says that owning pages, each of a VMO, takes too many frames, if it does."""
+        if not self.lacks(pages):
+            return ""
+        wants = [(range(page, page + 1), self.want_of(vmo, page)) for vmo, page in self.wanting(pages)]
+        return self.needs_words(len(wants), wants)
+
     def mem_read(self, region, address, length):
         """Returns the faults of a read through entries, and the bytes."""
         pages = self.accessed(self.live_region(region), address, length, "r")
@@ -292,8 +299,7 @@ class RegionCommands:
     def mem_write(self, region, address, written):
         """Writes bytes through entries, and returns the faults."""
         pages = self.accessed(self.live_region(region), address, len(written), "w")
-        lacks = self.lacks((it.vmo, of) for _, it, of in pages)
-        self.refuse(("NO_MEMORY", lacks and f"the pages that it touches take more frames than are free, {self.free_words()}"))
+        self.refuse(("NO_MEMORY", self.lacks_there([(it.vmo, of) for _, it, of in pages])))
         self.may_lack_host_memory(any(it.ready.get(page) != READY_TO_WRITE for page, it, _ in pages))
         faults, done = 0, 0
         for page, it, of in pages:

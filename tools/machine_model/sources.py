@@ -5,7 +5,7 @@ from typing import NamedTuple
 
 from .answering import Answering, counted, misplaced
 from .limits import MOST_READ, PAGE, pages_in, touched
-from .objects import Frame
+from .objects import Frame, FramePool
 
 MOST_BYTES = 1 << 24
 LAST_KIND = 2
@@ -126,6 +126,7 @@ class SourceMachine(Answering):
     def __init__(self, frames):
         super().__init__()
         self.frames = frames
+        self.pool = FramePool()
         self.used = 0
         # How many frames were ever taken and given back.
         self.taken = 0
@@ -141,6 +142,10 @@ class SourceMachine(Answering):
         self.refuse(("BAD_HANDLE", name not in self.names and f"{name} is not open"))
         return self.names[name]
 
+    def label(self, koid):
+        """Returns what a VMO is called: its name, or its koid."""
+        return next((name for name, it in self.names.items() if it.koid == koid), f"koid {koid}")
+
     def add(self, name, text, backing=None, link=None):
         """Adds a VMO with a name, and returns it."""
         it = SourceVmo(self.next, text, backing, link)
@@ -151,10 +156,12 @@ class SourceMachine(Answering):
 
     def give_up(self, vmo, page):
         """Takes the frame of a page from a VMO."""
-        koids = vmo.held.pop(page).koids
-        koids.remove(vmo.koid)
-        self.used -= not koids
-        self.given += not koids
+        frame = vmo.held.pop(page)
+        frame.koids.remove(vmo.koid)
+        if not frame.koids:
+            self.used -= 1
+            self.given += 1
+            self.pool.give_back(frame)
 
     def own(self, vmo, page):
         """Gives a page a frame that no other VMO shows."""
@@ -163,7 +170,7 @@ class SourceMachine(Answering):
                 self.give_up(vmo, page)
             self.used += 1
             self.taken += 1
-            vmo.held[page] = Frame(b"", vmo.koid, self.taken)
+            vmo.held[page] = Frame(b"", vmo.koid, self.pool)
 
     def new_name_row(self, name):
         """Returns the row that refuses a name that is open."""
@@ -172,7 +179,8 @@ class SourceMachine(Answering):
     def lacks_words(self, need, what):
         """Says that pages take more frames than are free, if they do."""
         free = self.frames - self.used
-        return need > free and f"{counted(need, 'page')} {what}, {counted(free, 'frame')} {'is' if free == 1 else 'are'} free"
+        free_words = f"{free or 'none'} {'are' if free > 1 else 'is'} free"
+        return need > free and f"it needs {counted(need, 'frame')}, {free_words}: {counted(need, 'page')} {what}"
 
     def supply_each(self, pages):
         """Supplies absent pages, each of a VMO."""
@@ -184,7 +192,7 @@ class SourceMachine(Answering):
     def prune(self, vmo):
         """Lets a VMO go that has no name and no loose child, and then its parent, if it has none either."""
         while vmo and vmo not in self.names.values() and not vmo.loose:
-            for page in list(vmo.held):
+            for page in sorted(vmo.held):
                 self.give_up(vmo, page)
             self.vmos.remove(vmo)
             parent = vmo.link.parent if vmo.link else None
@@ -251,7 +259,7 @@ class SourceMachine(Answering):
         self.refuse(past_end_row(it, offset, len(written)))
         pages = touched(offset, len(written))
         need = sum(not it.is_sole(page) for page in pages)
-        self.refuse(("NO_MEMORY", self.lacks_words(need, "that it touches are not sole")))
+        self.refuse(("NO_MEMORY", self.lacks_words(need, "that it touches, zero or shared")))
         self.may_lack_host_memory(need)
         for page in pages:
             start, end = max(offset, page * PAGE), min(offset + len(written), (page + 1) * PAGE)

@@ -1,5 +1,5 @@
 """The commands of the shell that begin with a dot. Each yields the lines that it shows."""
-from looking.drawing import heading_of, legend_of, picture, rows_of
+from looking.drawing import all_rows, heading_of, picture
 from looking.paged import source_state
 from looking.states import state_of
 from looking.turns import Turn
@@ -104,7 +104,7 @@ def draw(session, words):
     """Writes a picture."""
     number = len(session.done)
     turn = Turn(number, session.done[-1] if session.done else "", [], 0, 0, 0, 0, None)
-    text = picture(rows_of(session.machine), heading_of(turn, session.machine), legend_of(session.machine), f"behind line {number}")
+    text = picture(all_rows(session.machine), heading_of(turn, session.machine), f"after line {number}")
     write_file(words[0], f"{text}\n".encode())
     yield f"{words[0]}: written"
 
