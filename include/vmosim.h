@@ -38,7 +38,7 @@ struct vmosim {
 enum {
     VMOSIM_DONE = 0,
     VMOSIM_OUT_OF_ROOM = 1,   /* the text is longer than out, which has the front of it */
-    VMOSIM_OUT_OF_MEMORY = 2, /* malloc has too little memory; nothing was done */
+    VMOSIM_OUT_OF_MEMORY = 2, /* malloc has too little memory; nothing was done. No line is told this */
     VMOSIM_OUT_OF_KOIDS = 3,  /* the machine has given all koids below 2^63; nothing was done */
     VMOSIM_CLOSED = 4,        /* the machine is closed; nothing was done */
     VMOSIM_FRAME_COUNT = 5    /* a machine has from 1 to 65,536 page frames; nothing was done */
@@ -61,9 +61,10 @@ enum { VMOSIM_REPLY = 8300 };
 uint8_t vmosim_open(struct vmosim *machine, uint32_t frames);
 
 /* Answers one line, without its line feed, and writes the reply to out: no byte for a comment or a blank line. The bytes of out behind
- * the reply stay as they are. VMOSIM_OUT_OF_ROOM if and only if the reply is longer than room: the line was done then, and a line maps,
- * which changes nothing, may be given again with more room. VMOSIM_OUT_OF_MEMORY comes only where room is more than at the last line that
- * was answered. */
+ * the reply stay as they are. VMOSIM_CLOSED if and only if the machine is closed, and VMOSIM_OUT_OF_KOIDS if and only if it has given all
+ * koids. Of others VMOSIM_OUT_OF_ROOM if and only if the reply is longer than room: the line was done then, and a line maps, which changes
+ * nothing, may be given again with more room. A line takes memory for its command alone, whatever room is; if malloc has too little, the
+ * reply is HOST_MEMORY. */
 struct vmosim_answered vmosim_line(struct vmosim *machine, const uint8_t *line, size_t len, uint8_t *out, size_t room);
 
 /* Closes the machine, and gives its memory back. A closed one stays as it is. */

@@ -1,7 +1,7 @@
 -- What is told of a line, of a script, and of a machine that was not opened.
 use Rattle.std.specs.Prelude.{ℕ, Option, Some, None, Result, Ok, Err}
 use Rattle.held_vm.specs.declared.held.AnswerError.{AnswerError}
-use Rattle.held_vm.specs.declared.held.AnswerError.TheVariants.{OutOfRoom, OutOfMemory, OutOfKoids}
+use Rattle.held_vm.specs.declared.held.AnswerError.TheVariants.{OutOfRoom, OutOfKoids}
 use Rattle.held_vm.specs.declared.told.OpenError.{OpenError}
 use Rattle.held_vm.specs.declared.told.ScriptError.{ScriptError}
 use Rattle.held_vm.specs.declared.told.TheConstants.{DONE, OUT_OF_ROOM, OUT_OF_MEMORY, OUT_OF_KOIDS, CLOSED, FRAME_COUNT}
@@ -12,7 +12,6 @@ abbrev pub line_told : Option (Result ℕ AnswerError) → Answered
 line_told None = record { len = 0; status = CLOSED }
 line_told (Some (Ok n)) = record { len = n; status = DONE }
 line_told (Some (Err OutOfRoom)) = record { len = 0; status = OUT_OF_ROOM }
-line_told (Some (Err OutOfMemory)) = record { len = 0; status = OUT_OF_MEMORY }
 line_told (Some (Err OutOfKoids)) = record { len = 0; status = OUT_OF_KOIDS }
 
 -- of a script

@@ -1,14 +1,14 @@
 //! The machine that is held.
 
-ghost use Rattle.std.specs.Prelude.{◌≡◌, ◌<◌, ◌≤◌, length, IfOk, Err};
-ghost use Rattle.vm_base.specs.declared.limits.TheConstants.{FRAMES, KOIDS};
+ghost use Rattle.std.specs.Prelude.{◌≡◌, ◌≤◌, IfOk};
+ghost use Rattle.vm_base.specs.declared.limits.TheConstants.{FRAMES};
 ghost use Rattle.vm_model.specs.Contents.Content.{nothing};
 ghost use Rattle.vm_model.specs.Machine.Machine.{empty_machine};
 ghost use Rattle.held_vm.specs.Held.{held_machine, state_held, Answers};
 
 use line_server::Interpreter;
 use page_store::PageStore;
-use script_io::BoundedSink;
+use script_io::SliceSink;
 use std::alloc::Global;
 use std::marker::Model;
 use vm_base::{HostMemory, KOIDS};
@@ -19,20 +19,16 @@ use vm_session::VmInterpreter;
 pub enum AnswerError {
     /// The reply is longer than the bytes of the caller. The line was done.
     OutOfRoom,
-    /// The host has too little memory to keep a reply of that length. The line was not done.
-    OutOfMemory,
     /// The machine has given all koids, `KOIDS` of them. The line was not done.
     OutOfKoids,
 }
 
 /// An interpreter of lines with its store of pages, held between lines: the machine of `run` where no other is named. Clauses see the
-/// interpreter, the store, and the length of the longest reply for which there is memory.
+/// interpreter and the store.
 #[derive(Drop)]
 pub struct HeldVm<P: PageStore, I: Interpreter<P> = VmInterpreter> {
     interpreter: I,
     store: P,
-    /// The reply to the last line.
-    reply: BoundedSink,
 }
 
 impl<P: PageStore, I: Interpreter<P>> Model for HeldVm<P, I> {
@@ -40,10 +36,10 @@ impl<P: PageStore, I: Interpreter<P>> Model for HeldVm<P, I> {
 
     ghost Value = { Held P I };
 
-    ghost view = { λ h. record { interpreter = h.interpreter; store = h.store; room = h.reply.room } };
+    ghost view = { λ h. record { interpreter = h.interpreter; store = h.store } };
 
     ghost invariant = { λ h. StandTogether I.Agrees I.rules.IsGood P.content I.state
-        (record { interpreter = h.interpreter; store = h.store; room = h.reply.room }) };
+        (record { interpreter = h.interpreter; store = h.store }) };
 }
 
 impl<P: PageStore> HeldVm<P> {
@@ -61,7 +57,6 @@ impl<P: PageStore> HeldVm<P> {
         Ok(HeldVm {
             interpreter,
             store: filled,
-            reply: BoundedSink::new(alloc),
         })
     }
 }
@@ -84,38 +79,29 @@ impl<P: PageStore, I: Interpreter<P>> HeldVm<P, I> {
     {
         let mut store = store;
         store.fill(frames)?;
-        Ok(HeldVm {
-            interpreter,
-            store,
-            reply: BoundedSink::new(alloc),
-        })
+        Ok(HeldVm { interpreter, store })
     }
 
-    /// Answers a line, without its line feed, and writes the reply to the front of `out`. Returns the length of the reply in bytes.
+    /// Answers a line, without its line feed, and writes the reply to the front of `out`. Returns the length of the reply in bytes. It
+    /// takes no memory but for what the line asks for.
     ///
-    /// `OutOfRoom` if and only if the reply is longer than `out`: the line was done, and `out` has the front of the reply.
-    /// `OutOfMemory` if the host has too little memory, which it is asked for only if `out` is longer than at the last line that was
-    /// answered. `OutOfKoids` if `KOIDS` koids were given. Nothing was done in these two cases, and `out` is as it was.
+    /// `OutOfKoids` if and only if `KOIDS` koids were given: nothing was done, and `out` is as it was. `OutOfRoom` if and only if the
+    /// reply is longer than `out`: the line was done, and `out` has the front of the reply.
     pub fn answer(&mut self, line: &[u8], out: &mut [u8]) -> Result<usize, AnswerError>
         ensures answers { Answers I.rules result line.now (state_held P.content I.state self.old)
             (state_held P.content I.state self.new) out.old out.new }
         ensures good { I.rules.IsGood (state_held P.content I.state self.new) }
-        ensures memory { result ≡ Err AnswerError.OutOfMemory → self.old.room < length out.old }
-        ensures koids { result ≡ Err AnswerError.OutOfKoids → KOIDS ≤ (P.content self.old.store).next }
     {
         if self.store.next_koid().0 >= KOIDS {
             return Err(AnswerError::OutOfKoids);
         }
-        let Ok(()) = self.reply.restart(out.len()) else {
-            return Err(AnswerError::OutOfMemory);
-        };
+        let mut reply = SliceSink::new(out);
         let pushed = self
             .interpreter
-            .answer_line(&mut self.store, &mut self.reply, line);
-        let reply = self.reply.bytes();
-        out[..reply.len()].copy_from_slice(reply);
+            .answer_line(&mut self.store, &mut reply, line);
+        let len = reply.taken();
         match pushed {
-            Ok(()) => Ok(reply.len()),
+            Ok(()) => Ok(len),
             Err(_) => Err(AnswerError::OutOfRoom),
         }
     }

@@ -75,10 +75,6 @@ pub fn tell_line(answer: Option<Result<usize, AnswerError>>) -> Answered
             len: 0,
             status: OUT_OF_ROOM,
         },
-        Some(Err(AnswerError::OutOfMemory)) => Answered {
-            len: 0,
-            status: OUT_OF_MEMORY,
-        },
         Some(Err(AnswerError::OutOfKoids)) => Answered {
             len: 0,
             status: OUT_OF_KOIDS,

@@ -3,3 +3,4 @@ pub mod Ranges
 pub mod Windows
 pub mod FetchingLaws
 pub mod Turns
+pub mod Lending

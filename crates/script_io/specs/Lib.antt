@@ -3,3 +3,4 @@ pub mod Memory
 pub mod Ending
 pub mod Reader
 pub mod Fetching
+pub mod Slices

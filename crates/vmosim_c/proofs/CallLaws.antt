@@ -2,7 +2,7 @@
 use Rattle.std.proofs.Common.{◌≡◌, ℕ, List, Option, Some, None, Result, Ok, Err, refl, sym, ap, subst, ◌∙◌}
 use Rattle.vm_session.specs.Plain.{plain}
 use Rattle.held_vm.specs.declared.held.AnswerError.{AnswerError}
-use Rattle.held_vm.specs.declared.held.AnswerError.TheVariants.{OutOfRoom, OutOfMemory, OutOfKoids}
+use Rattle.held_vm.specs.declared.held.AnswerError.TheVariants.{OutOfRoom, OutOfKoids}
 use Rattle.held_vm.specs.declared.told.TheConstants.{DONE, CLOSED}
 use Rattle.held_vm.specs.declared.told.Answered.{Answered}
 use Rattle.held_vm.specs.Held.{Answers}
@@ -16,7 +16,6 @@ is_whole : (r : Option (Result ℕ AnswerError)) (n : ℕ) → (line_told r).sta
 is_whole None n is same = absurd cc
 is_whole (Some (Ok m)) n is same = ap (λ k. Some (Ok k)) same
 is_whole (Some (Err OutOfRoom)) n is same = absurd cc
-is_whole (Some (Err OutOfMemory)) n is same = absurd cc
 is_whole (Some (Err OutOfKoids)) n is same = absurd cc
 
 done_by : (r : Option (Result ℕ AnswerError)) (n : ℕ) (line : List ℕ) (old new : Option KeptVm) (before after : List ℕ)

@@ -1,21 +1,20 @@
 -- What the serving of a script over the caller's bytes says of one legal run.
-use Rattle.std.proofs.Common.{◌≡◌, ℕ, zero, suc, ◌+◌, ◌≤◌, ◌==◌, ◌⊎◌, inl, inr, Bool, true, false, cond, List, [], ◌∷◌, ◌++◌, length, take, drop, get_or, Option, Some, refl, sym, ap, subst, ◌∙◌, append_assoc, append-nil, take_all, take_at, drop_at, arith}
-use lib.Seq.{drop-length}
-use Rattle.std.specs.Prelude.{slice_get, nat_le, ◌↔◌}
+use Rattle.std.proofs.Common.{◌≡◌, ℕ, zero, suc, ◌+◌, ◌≤◌, ◌==◌, ◌⊎◌, inl, inr, Bool, true, false, cond, List, [], ◌∷◌, ◌++◌, length, take, drop, Option, Some, refl, sym, ap, subst, ◌∙◌, append_assoc, append-nil, take_all, take_at, drop_at, arith}
+use Rattle.std.specs.Prelude.{slice_get, ◌↔◌}
 use Rattle.std.proofs.lemmas.List.{length-append}
 use Rattle.vm_base.proofs.EntryLaws.{some_same}
 use Rattle.vm_model.specs.Contents.Content.{Content}
 use Rattle.vm_model.specs.Machine.Machine.{Machine}
 use Rattle.vm_model.specs.Scripts.Run.{onto_first, lines_of, before_whole, whole_lines, Legal}
 use Rattle.script_io.specs.Faults.{HasFailed}
-use Rattle.script_io.specs.Memory.{Bounded, bounded_faults}
+use Rattle.script_io.specs.Memory.{Lent, lent_bytes, lent_contents, lent_faults}
+use Rattle.script_io.proofs.Lending.{same_name, same_before, is_taken, is_full, lent_full}
 use Rattle.script_io.specs.declared.status.Status.{Status}
-use Rattle.script_io.specs.declared.status.Status.TheVariants.{Done, Usage, ReadFault, WriteFault, ScriptLimit}
+use Rattle.script_io.specs.declared.status.Status.TheVariants.{Done, Usage, HostMemory, ReadFault, WriteFault, ScriptLimit}
 use Rattle.line_server.specs.Answering.{AnsweringRun}
 use Rattle.line_server.specs.Outcome.{AnswersPart, BreaksOff, EndsAs}
 use Rattle.line_server.proofs.RunLaws.{AnsweringRun-more}
 use Rattle.vm_session.specs.Plain.{plain}
-use Rattle.held_vm.proofs.AnswerLaws.{full_by}
 use Rattle.vmosim_c.specs.Kept.{IsRun, IsLongRun}
 
 -- ---- the lines of a script
@@ -40,23 +39,25 @@ whole_lines-front [] behind = (lines_of behind, refl)
 whole_lines-front (b ∷ bytes) behind =
     let rest = whole_lines-front bytes behind in onto_front b (whole_lines bytes) (lines_of (bytes ++ behind)) rest.0 rest.1 (b == 10)
 
--- ---- how serving ends, over a sink of which the first byte is its room
+-- ---- how serving ends, over a sink that had taken nothing
 
 -- what `answered_lines_are_a_legal_run` says
 abbrev RunsAreLegal : Type 0
 RunsAreLegal = (frames : ℕ) (lines : List (List ℕ)) (out : List ℕ) (last : Machine) → AnsweringRun plain (plain.start frames) lines out last ↔ Legal frames lines out last
 
-module _ (legal : RunsAreLegal) (frames limit : ℕ) (script left taken : List ℕ) (room room' : ℕ) (content : Content) where
+module _ (legal : RunsAreLegal) (frames limit : ℕ) (script left : List ℕ) (was now : Lent) (none : was.taken ≡ []) (content : Content) where
   long_part : (lines behind : List (List ℕ)) → lines_of script ≡ lines ++ behind
-      → AnswersPart plain frames lines (Some (room ∷ [])) (Some (room' ∷ taken)) content → (room' ≡ room) × IsLongRun frames script taken
+      → AnswersPart plain frames lines (Some (lent_contents was)) (Some (lent_contents now)) content
+      → (now.name ≡ was.name) × (now.before ≡ was.before) × IsLongRun frames script now.taken
   long_part lines behind front some =
       let apart = item_apart lines some.answered some.line some.next in
       let done = take some.answered lines in
-      let out : taken ≡ some.before ++ some.part = ap (drop 1) some.written in
-      let text : some.before ++ some.text ≡ taken ++ some.rest = ap (λ xs. some.before ++ xs) some.cut
+      let out : now.taken ≡ some.before ++ some.part = is_taken was now (some.before ++ some.part) none some.written in
+      let text : some.before ++ some.text ≡ now.taken ++ some.rest = ap (λ xs. some.before ++ xs) some.cut
       ∙ (sym (append_assoc some.before some.part some.rest) ∙ ap (λ xs. xs ++ some.rest) (sym out)) in
       let run = AnsweringRun-more plain (plain.start frames) some.mid some.last done some.line some.before some.text some.run some.gives in (
-        ap (λ (xs : List ℕ). get_or xs 0 0) some.written,
+        same_name was now (some.before ++ some.part) none some.written,
+        same_before was now (some.before ++ some.part) none some.written,
         record {
           lines = done ++ some.line ∷ [];
           behind = apart.0 ++ behind;
@@ -70,65 +71,76 @@ module _ (legal : RunsAreLegal) (frames limit : ℕ) (script left taken : List �
       )
 
   long_run : length script ≤ limit
-      → BreaksOff (λ lines. AnswersPart plain frames lines (Some (room ∷ [])) (Some (room' ∷ taken)) content) limit (Some script) (Some left)
-      → (room' ≡ room) × IsLongRun frames script taken
+      → BreaksOff (λ lines. AnswersPart plain frames lines (Some (lent_contents was)) (Some (lent_contents now)) content) limit (Some script) (Some left)
+      → (now.name ≡ was.name) × (now.before ≡ was.before) × IsLongRun frames script now.taken
   long_run enough broken = elim broken.answers [
     | inl some ↦
         let parts : length script ≡ length broken.script + length left = ap length broken.given ∙ length-append broken.script left in
         let short : length broken.script ≤ limit = omega (arith, parts, enough) in
         let front = whole_lines-front broken.script left in
         long_part (whole_lines broken.script) front.0 (ap lines_of broken.given ∙ front.1)
-        (subst (λ xs. AnswersPart plain frames (whole_lines xs) (Some (room ∷ [])) (Some (room' ∷ taken)) content) (take_all limit broken.script short) some)
+        (subst (λ xs. AnswersPart plain frames (whole_lines xs) (Some (lent_contents was)) (Some (lent_contents now)) content) (take_all limit broken.script short) some)
     | inr last ↦
         let whole : script ≡ broken.script = broken.given ∙ (ap (λ xs. broken.script ++ xs) last.1 ∙ append-nil broken.script) in
         long_part (lines_of broken.script) [] (ap lines_of whole ∙ sym (append-nil (lines_of broken.script))) last.0
   ]
 
--- ---- of a script that was served into a sink for as many bytes as the caller has, and whose text was copied to their front
-module _ (legal : RunsAreLegal) (frames limit : ℕ) (script source left before bytes copied : List ℕ) (old new : Bounded) (status : Status) (content : Content)
-    (given : source ≡ script) (was : old ≡ record { room = length before; taken = []; faults = 0 })
-    (ends : EndsAs plain status frames limit (Some source) (Some left) (Some (old.room ∷ old.taken)) (Some (new.room ∷ new.taken)) content)
-    (are_taken : bytes ≡ new.taken) (bound : length bytes ≤ new.room) (are_copied : copied ≡ bytes) where
+-- ---- of a script that was served into a sink over the caller's bytes, which are now what the sink leaves
+module _ (legal : RunsAreLegal) (frames limit : ℕ) (script source left before : List ℕ) (name : ℕ) (was now : Lent) (status : Status) (content : Content)
+    (given : source ≡ script) (begun : was ≡ record { name = name; before = before; taken = []; faults = 0 })
+    (ends : EndsAs plain status frames limit (Some source) (Some left) (Some (lent_contents was)) (Some (lent_contents now)) content) where
+  none : was.taken ≡ []
+  none = ap (λ (s : Lent). s.taken) begun
+
+  were : was.before ≡ before
+  were = ap (λ (s : Lent). s.before) begun
+
   as_status : (is : Status) → status ≡ is
-      → EndsAs plain is frames limit (Some script) (Some left) (Some (length before ∷ [])) (Some (new.room ∷ new.taken)) content
-  as_status is same = subst (λ (o : Bounded). EndsAs plain is frames limit (Some script) (Some left) (Some (o.room ∷ o.taken)) (Some (new.room ∷ new.taken)) content) was
-      (subst (λ (xs : List ℕ). EndsAs plain is frames limit (Some xs) (Some left) (Some (old.room ∷ old.taken)) (Some (new.room ∷ new.taken)) content) given
-      (subst (λ (s : Status). EndsAs plain s frames limit (Some source) (Some left) (Some (old.room ∷ old.taken)) (Some (new.room ∷ new.taken)) content) same ends))
+      → EndsAs plain is frames limit (Some script) (Some left) (Some (lent_contents was)) (Some (lent_contents now)) content
+  as_status is same = subst (λ (xs : List ℕ). EndsAs plain is frames limit (Some xs) (Some left) (Some (lent_contents was)) (Some (lent_contents now)) content) given
+      (subst (λ (s : Status). EndsAs plain s frames limit (Some source) (Some left) (Some (lent_contents was)) (Some (lent_contents now)) content) same ends)
 
-  -- the text of the whole script stands at the front of the bytes
-  pub whole_text : status ≡ Done → IsRun (length bytes) frames script before (copied ++ drop (length bytes) before)
-  whole_text is =
-      let done = as_status Done is in
-      let all = done.answers in
-      let whole : done.script ≡ script = sym (done.given ∙ (ap (λ xs. done.script ++ xs) done.ended ∙ append-nil done.script)) in
-      let room : new.room ≡ length before = ap (λ (xs : List ℕ). get_or xs 0 0) all.written in
-      let out : all.out ≡ copied = sym (ap (drop 1) all.written) ∙ (sym are_taken ∙ sym are_copied) in
-      let many : length copied ≡ length bytes = ap length are_copied in
-      let behind = drop (length bytes) before in
-      let added : length (copied ++ behind) ≡ length copied + length behind = length-append copied behind in
-      let front : take (length bytes) (copied ++ behind) ≡ copied = take_at copied behind (length bytes) many in
-      record {
-        last = all.last;
-        bound = omega (arith, added, many);
-        legal = subst (λ xs. Legal frames (lines_of script) xs all.last) (sym front)
-            (subst (λ xs. Legal frames (lines_of xs) copied all.last) whole
-            (subst (λ bs. Legal frames (lines_of done.script) bs all.last) out ((legal frames (lines_of done.script) all.out all.last).0 all.run)));
-        kept = drop_at copied behind (length bytes) many;
-      }
+  -- ---- and of the caller's bytes, which the sink gave back
+  module _ (kept : List ℕ) (kept_name : ℕ) (after : List ℕ) (same : kept_name ≡ now.name) (held : kept ≡ lent_bytes now) (ends_as : name ≡ kept_name → after ≡ kept) where
+    ended : now.name ≡ was.name → after ≡ lent_bytes now
+    ended still = ends_as (sym (still ∙ ap (λ (s : Lent). s.name) begun) ∙ sym same) ∙ held
 
-  -- the text of the script is longer than the bytes, which have the front of it
-  pub long_text : status ≡ WriteFault → length script ≤ limit → HasFailed (bounded_faults old) (bounded_faults new)
-      → IsLongRun frames script (copied ++ drop (length bytes) before) × (length (copied ++ drop (length bytes) before) ≡ length before)
-  long_text is enough failed =
-      let after : List ℕ = copied ++ drop (length bytes) before in
-      let long = long_run legal frames limit script left new.taken (length before) new.room content enough (as_status WriteFault is) in
-      let full = full_by new.room new.taken new.faults (nat_le (length before) 0) (nat_le new.room (length new.taken)) refl
-      (subst (λ (o : Bounded). HasFailed (bounded_faults o) (bounded_faults new)) was failed) in
-      let many : length bytes ≡ length new.taken = ap length are_taken in
-      let same : length bytes ≡ length before = omega (arith, long.0, full, bound, many) in
-      let whole : after ≡ new.taken = ap (λ (n : ℕ). copied ++ drop n before) same
-      ∙ (ap (λ xs. copied ++ xs) (drop-length before) ∙ (append-nil copied ∙ (are_copied ∙ are_taken))) in
-      (subst (IsLongRun frames script) (sym whole) long.1, ap length whole ∙ (sym many ∙ same))
+    -- the text of the whole script stands at the front of the bytes
+    pub whole_run : (n : ℕ) → n ≡ length now.taken → status ≡ Done → IsRun n frames script before after
+    whole_run n many is =
+        let done = as_status Done is in
+        let all = done.answers in
+        let whole : done.script ≡ script = sym (done.given ∙ (ap (λ xs. done.script ++ xs) done.ended ∙ append-nil done.script)) in
+        let out : now.taken ≡ all.out = is_taken was now all.out none all.written in
+        let behind = drop n now.before in
+        let bytes : after ≡ now.taken ++ behind = ended (same_name was now all.out none all.written) ∙ ap (λ k. now.taken ++ drop k now.before) (sym many) in
+        let added : length after ≡ length now.taken + length behind = ap length bytes ∙ length-append now.taken behind in
+        let front : take n after ≡ all.out = ap (take n) bytes ∙ (take_at now.taken behind n (sym many) ∙ out) in
+        record {
+          last = all.last;
+          bound = omega (arith, added, many);
+          legal = subst (λ xs. Legal frames (lines_of script) xs all.last) (sym front)
+              (subst (λ xs. Legal frames (lines_of xs) all.out all.last) whole ((legal frames (lines_of done.script) all.out all.last).0 all.run));
+          kept = ap (drop n) bytes ∙ (drop_at now.taken behind n (sym many) ∙ ap (drop n) (same_before was now all.out none all.written ∙ were));
+        }
+
+    -- the text of the script is longer than the bytes, which have the front of it
+    pub longer_run : status ≡ WriteFault → length script ≤ limit → HasFailed (lent_faults was) (lent_faults now) → length now.taken ≤ length now.before
+        → IsLongRun frames script after × (length after ≡ length before)
+    longer_run is enough failed bound =
+        let long = long_run legal frames limit script left was now none content enough (as_status WriteFault is) in
+        let full = is_full was now (ap (λ (s : Lent). s.faults) begun) failed in
+        let many : length now.taken ≡ length now.before = omega (arith, full, bound) in
+        let whole : after ≡ now.taken = ended long.0 ∙ lent_full now many in
+        (subst (IsLongRun frames script) (sym whole) long.2, ap length whole ∙ (many ∙ ap length (long.1 ∙ were)))
+
+    -- nothing was done
+    pub nothing_done : status ≡ HostMemory → after ≡ before
+    nothing_done is =
+        let nothing = as_status HostMemory is in
+        let written = some_same nothing.written ∙ sym (append-nil (lent_contents was)) in
+        ended (same_name was now [] none written)
+        ∙ (ap (λ xs. xs ++ drop (length xs) now.before) (is_taken was now [] none written) ∙ (same_before was now [] none written ∙ were))
 
 -- no script is served otherwise: its source never fails, and it is no longer than the limit
 pub ends_otherwise : (frames limit : ℕ) (script left : List ℕ) (sink_old sink_new : Option (List ℕ)) (status : Status) (content : Content)

@@ -25,8 +25,8 @@ pub extern "C" fn vmosim_open(alloc: Global, machine: &mut Vmosim, frames: u32) 
 /// Answers a line, without its line feed, and writes the reply to the front of `out`.
 ///
 /// `OUT_OF_ROOM` if and only if the reply is longer than `out`: the line was done, and `out` has the front of the reply. In the other
-/// cases but `DONE` nothing was done: `CLOSED` on a closed machine, `OUT_OF_MEMORY` if the host has too little memory, `OUT_OF_KOIDS`
-/// if all koids were given.
+/// cases but `DONE` nothing was done: `CLOSED` if and only if the machine is closed, and `OUT_OF_KOIDS` if and only if it has given all
+/// koids. A line that wants more memory than the host has is done, and its reply says so.
 #[unsafe(no_mangle)]
 pub extern "C" fn vmosim_line(
     alloc: Global,

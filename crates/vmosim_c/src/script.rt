@@ -4,7 +4,7 @@ ghost use Rattle.vmosim_c.specs.Kept.{AnswersScript};
 
 use cow_forest::CowForest;
 use held_vm::ScriptError;
-use script_io::{BoundedSink, SureSource};
+use script_io::{SliceSink, SureSource};
 use std::alloc::Global;
 use vm_base::FRAMES;
 use vm_session::{Status, answered_lines_are_a_legal_run, serve};
@@ -24,20 +24,16 @@ pub(crate) fn answer_script(
     if frames < 1 || frames > FRAMES {
         return Err(ScriptError::FrameCount);
     }
-    let mut text = BoundedSink::new(alloc);
-    let Ok(()) = text.restart(out.len()) else {
-        return Err(ScriptError::OutOfMemory);
-    };
+    let mut text = SliceSink::new(out);
     let mut source = SureSource::new(script);
     let mut store = CowForest::new(alloc);
     let limit = script.len() as u64;
     let status = serve(alloc, frames, limit, &mut store, &mut source, &mut text);
     // By one call: at the end of the body its tables would be let go, and that proved, one by one.
     drop(store);
-    let bytes = text.bytes();
-    out[..bytes.len()].copy_from_slice(bytes);
+    let len = text.taken();
     match status {
-        Status::Done => Ok(bytes.len()),
+        Status::Done => Ok(len),
         Status::WriteFault => Err(ScriptError::OutOfRoom),
         Status::HostMemory => Err(ScriptError::OutOfMemory),
         Status::Usage | Status::ReadFault | Status::ScriptLimit => unreachable!(),
