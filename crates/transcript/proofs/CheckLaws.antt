@@ -1,7 +1,6 @@
 -- Laws of a checker, by what it waits for.
 use Rattle.std.proofs.Common.{◌≡◌, ◌≢◌, ℕ, zero, suc, ◌+◌, ◌<◌, ◌≤◌, ◌^◌, Bool, true, false, List, [], ◌∷◌, ◌++◌, length, map, take, Option, None, Some, Result, Ok, Err, replicate, refl, sym, ap, subst, ◌∙◌, append_assoc, append-nil, arith}
 use Rattle.std.specs.Prelude.{slice_get, MatchResult}
-use Rattle.std.specs.Global.{Box}
 use Rattle.std.proofs.lemmas.Bool.{both_ways}
 use Rattle.std.proofs.lemmas.List.{length-append, length-replicate}
 use Rattle.vm_base.specs.declared.refusal.HostMemory.{HostMemory}
@@ -263,7 +262,7 @@ listed_never frames checker tells line r is filled phase found off begins =
     let next = listing_never frames _ _ checker.pending.items (reply_for checker.listed) checker.count tells (Answered line) (in_phase frames checker tells Listing is filled phase).1 begins in
     both_ways r off (found (next.2 ∙ ap (λ (l : List ℕ). Some l) (sym (answered_same next.1))))
 
-pub listed_ends : (frames : ℕ) (checker : Checker) (rooms : Box Rooms) (tells : List Told) (line : List ℕ) (lines : ℕ) → IsAt frames checker tells → checker.filled ≡ true → checker.phase ≡ Listing
+pub listed_ends : (frames : ℕ) (checker : Checker) (rooms : Rooms) (tells : List Told) (line : List ℕ) (lines : ℕ) → IsAt frames checker tells → checker.filled ≡ true → checker.phase ≡ Listing
     → slice_get (reply_lines (reply_for checker.listed)) checker.count ≡ Some line → lines ≡ length (reply_lines (reply_for checker.listed)) → checker.count + 1 ≡ lines
     → IsAt frames (record checker { phase = Idle; count = checker.count + 1; rooms = rooms }) (tells ++ Answered line ∷ [])
 listed_ends frames checker rooms tells line lines is filled phase at n last =
@@ -274,7 +273,7 @@ listed_ends frames checker rooms tells line lines is filled phase at n last =
     (subst (λ (ts : List Told). Stands frames (checker_machine_of checker.own.machine) (number_seen checker.own.numbers) ts)
     (sym (told_all ∙ ap (λ (ls : List (List ℕ)). h.1.before ++ Asked checker.pending.items ∷ map Answered ls) whole)) h.1.answered.ends)
 
-pub listed_goes : (frames : ℕ) (checker : Checker) (rooms : Box Rooms) (tells : List Told) (line : List ℕ) (lines : ℕ) → IsAt frames checker tells → checker.filled ≡ true → checker.phase ≡ Listing
+pub listed_goes : (frames : ℕ) (checker : Checker) (rooms : Rooms) (tells : List Told) (line : List ℕ) (lines : ℕ) → IsAt frames checker tells → checker.filled ≡ true → checker.phase ≡ Listing
     → slice_get (reply_lines (reply_for checker.listed)) checker.count ≡ Some line → lines ≡ length (reply_lines (reply_for checker.listed)) → checker.count + 1 ≢ lines
     → IsAt frames (record checker { count = checker.count + 1; rooms = rooms }) (tells ++ Answered line ∷ [])
 listed_goes frames checker rooms tells line lines is filled phase at n more =

@@ -1,6 +1,6 @@
 //! A checker of transcripts, which reads one line after another.
 
-ghost use Rattle.std.specs.Prelude.{◌≡◌, ◌↔◌, ◌^◌, ◌<◌, ◌≤◌, ◌++◌, ◌∷◌, [], ℕ, List, true, codes, length, IsTrue, IfOk, OnOk, MatchResult};
+ghost use Rattle.std.specs.Prelude.{◌≡◌, ◌↔◌, ◌^◌, ◌<◌, ◌≤◌, ◌++◌, ◌∷◌, [], ℕ, List, true, codes, length, IsTrue, MatchResult};
 ghost use Rattle.vm_base.specs.declared.limits.TheConstants.{FRAMES, LINE_BYTES};
 ghost use Rattle.checker_machine.specs.Machine.{checker_machine_of};
 ghost use Rattle.moving_model.specs.Transcript.{Told, Asked, Answered, AreWhole};
@@ -15,6 +15,7 @@ use crate::lines::{is_blank, is_line, reply_in, script_in};
 use crate::numbers::Numbers;
 use crate::rooms::Rooms;
 use crate::verdict::Verdict;
+use arrayvec::ArrayVec;
 use checker_machine::CheckerMachine;
 use reply_text::answer_line_count;
 use std::alloc::Global;
@@ -46,23 +47,22 @@ pub struct Checker {
     own: Own,
     phase: Phase,
     /// The line of the script that waits for its reply.
-    pending: Vec<u8>,
+    pending: ArrayVec<u8, LINE_BYTES>,
     /// The answer of which `count` lines were given.
     listed: Answer<'static>,
     count: u64,
     written: [u8; DATA_BYTES],
-    rooms: Box<Rooms>,
+    rooms: Rooms,
 }
 
 impl Checker {
     /// Makes a checker of transcripts on a machine with `frames` page frames, from 1 to 65,536, that has read no line. It
-    /// takes the memory of the frames at the first line. `HostMemory` if the host has too little memory for the data of a line.
-    pub fn new(alloc: Global, frames: u32) -> Result<Checker, HostMemory>
+    /// takes its memory at the first line.
+    pub fn new(alloc: Global, frames: u32) -> Checker
         requires { 1 ≤ frames × frames ≤ FRAMES }
-        ensures { IfOk result (λ checker. HasRead frames checker []) }
+        ensures { HasRead frames result [] }
     {
-        let rooms = Rooms::new(alloc)?;
-        Ok(Checker {
+        Checker {
             alloc,
             frames,
             filled: false,
@@ -71,12 +71,12 @@ impl Checker {
                 numbers: Numbers::none(alloc),
             },
             phase: Phase::Idle,
-            pending: Vec::new(alloc),
+            pending: ArrayVec::new(),
             listed: Answer::Done,
             count: 0,
             written: [0; DATA_BYTES],
-            rooms,
-        })
+            rooms: Rooms::new(),
+        }
     }
 
     /// Reads the next line of a transcript, without its line feed. `Fine` exactly if a transcript may begin with the lines so far
@@ -92,7 +92,7 @@ impl Checker {
     {
         self.begin()?;
         if let Some(script) = script_in(line) {
-            return self.ask(script);
+            return Ok(self.ask(script));
         }
         match reply_in(line) {
             Some(reply) => self.hear(reply),
@@ -127,37 +127,34 @@ impl Checker {
         Ok(())
     }
 
-    /// Reads a line of the script. `HostMemory` if the host has too little memory to keep it.
-    fn ask(&mut self, script: &[u8]) -> Result<Verdict, HostMemory>
+    /// Reads a line of the script.
+    fn ask(&mut self, script: &[u8]) -> Verdict
         requires filled { self.old.filled ≡ true }
         requires short { length script.now ≤ LINE_BYTES }
-        ensures { (frames : ℕ) (tells : List Told) → IsAt frames self.old tells → MatchResult result
-            (λ verdict. IsJudged frames self.new tells (Asked script.now) verdict) (λ lack. IsAt frames self.new tells) }
+        ensures { (frames : ℕ) (tells : List Told) → IsAt frames self.old tells → IsJudged frames self.new tells (Asked script.now) result }
     {
         match self.phase {
             Phase::Idle => {
-                self.wait_for(script)?;
-                Ok(Verdict::Fine)
+                self.wait_for(script);
+                Verdict::Fine
             }
-            Phase::Due => Ok(Verdict::Illegal),
-            Phase::Listing => Ok(Verdict::Illegal),
+            Phase::Due => Verdict::Illegal,
+            Phase::Listing => Verdict::Illegal,
         }
     }
 
-    /// Waits for the reply to a line of the script, if it is not blank. `HostMemory` if the host has too little memory to keep it.
-    fn wait_for(&mut self, script: &[u8]) -> Result<(), HostMemory>
+    /// Waits for the reply to a line of the script, if it is not blank.
+    fn wait_for(&mut self, script: &[u8])
         requires filled { self.old.filled ≡ true }
         requires idle { self.old.phase ≡ Phase.Idle }
         requires short { length script.now ≤ LINE_BYTES }
-        ensures { (frames : ℕ) (tells : List Told) → IsAt frames self.old tells → MatchResult result
-            (λ _. IsAt frames self.new (tells ++ Asked script.now ∷ [])) (λ lack. IsAt frames self.new tells) }
+        ensures { (frames : ℕ) (tells : List Told) → IsAt frames self.old tells → IsAt frames self.new (tells ++ Asked script.now ∷ []) }
     {
         if is_blank(script) {
-            return Ok(());
+            return;
         }
-        copy(&mut self.pending, script)?;
+        copy(&mut self.pending, script);
         self.phase = Phase::Due;
-        Ok(())
     }
 
     /// Reads a line of a reply.
@@ -187,7 +184,7 @@ impl Checker {
             self.pending.as_slice(),
             reply,
             &mut self.written,
-            self.rooms.as_mut(),
+            &mut self.rooms,
         )?;
         Ok(self.settle(heard))
     }
@@ -221,12 +218,7 @@ impl Checker {
         ensures { (frames : ℕ) (tells : List Told) → IsAt frames self.old tells → IsJudged frames self.new tells (Answered (reply.now ++ codes "\n")) result }
     {
         let lines = answer_line_count(&self.listed);
-        if !is_line(
-            &self.listed,
-            self.count,
-            reply,
-            &mut self.rooms.as_mut().reply,
-        ) {
+        if !is_line(&self.listed, self.count, reply, &mut self.rooms.reply) {
             return Verdict::Illegal;
         }
         self.count += 1;
@@ -237,10 +229,11 @@ impl Checker {
     }
 }
 
-/// Makes a text another one. `HostMemory` if the host has too little memory.
-fn copy(to: &mut Vec<u8>, from: &[u8]) -> Result<(), HostMemory>
-    ensures { OnOk result (to.new.items ≡ from.now) }
+/// Makes a text another one.
+fn copy(to: &mut ArrayVec<u8, LINE_BYTES>, from: &[u8])
+    requires { length from.now ≤ LINE_BYTES }
+    ensures { to.new.items ≡ from.now }
 {
     to.clear();
-    to.extend_from_slice(from).map_err(|_| HostMemory)
+    to.try_extend_from_slice(from).unwrap();
 }

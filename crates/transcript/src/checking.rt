@@ -72,9 +72,7 @@ fn check_on<S: Source, K: Sink>(alloc: Global, frames: u32, source: &mut S, sink
     let Ok(mut lines) = Lines::new(alloc, SCRIPT_BYTES) else {
         return Status::HostMemory;
     };
-    let Ok(mut check) = Check::new(alloc, frames) else {
-        return Status::HostMemory;
-    };
+    let mut check = Check::new(alloc, frames);
     let status = read_and_report(&mut check, &mut lines, source, sink);
     // By one call: at the end of the body its tables would be let go, and that proved, one by one.
     drop(check);
@@ -141,9 +139,6 @@ fn push_report<K: Sink>(check: &Check, sink: &mut K) -> Status
 ///
 /// `HostMemory` if the host has too little memory, `ReadFault` if the source fails, and `ScriptLimit` if it gives more than
 /// `SCRIPT_BYTES` bytes: nothing was written. `WriteFault` if the sink fails. `Usage` for other words, and nothing is touched.
-///
-/// It is not inlined, so the stack has the frames of one word of the program at a time.
-#[inline(never)]
 pub fn run_check<S: Source, K: Sink>(
     alloc: Global,
     words: &[String],

@@ -1,6 +1,6 @@
 //! What is reported of a transcript.
 
-ghost use Rattle.std.specs.Prelude.{◌≡◌, ◌+◌, ◌<◌, ◌≤◌, ◌^◌, ◌++◌, ◌∷◌, [], ℕ, List, codes, decimal, length, take, IfOk, MatchResult};
+ghost use Rattle.std.specs.Prelude.{◌≡◌, ◌+◌, ◌<◌, ◌≤◌, ◌^◌, ◌++◌, ◌∷◌, [], ℕ, List, codes, decimal, length, take, MatchResult};
 ghost use Rattle.vm_base.specs.declared.limits.TheConstants.{FRAMES, LINE_BYTES};
 ghost use Rattle.moving_model.specs.Transcript.{told};
 ghost use Rattle.transcript.specs.Reports.{IsChecked, IsReport, is_asked, report_text};
@@ -37,19 +37,18 @@ pub(crate) struct Check {
 }
 
 impl Check {
-    /// Makes a check of no lines yet. `HostMemory` if the host has too little memory.
-    pub(crate) fn new(alloc: Global, frames: u32) -> Result<Check, HostMemory>
+    /// Makes a check of no lines yet.
+    pub(crate) fn new(alloc: Global, frames: u32) -> Check
         requires { 1 ≤ frames × frames ≤ FRAMES }
-        ensures checked { IfOk result (λ check. IsChecked frames check []) }
-        ensures lines { IfOk result (λ check. check.lines ≡ 0) }
+        ensures checked { IsChecked frames result [] }
+        ensures lines { result.lines ≡ 0 }
     {
-        let checker = Checker::new(alloc, frames)?;
-        Ok(Check {
-            checker,
+        Check {
+            checker: Checker::new(alloc, frames),
             bad: None,
             lines: 0,
             asked: 0,
-        })
+        }
     }
 
     /// Reads one line more. `HostMemory` if the host has too little memory.

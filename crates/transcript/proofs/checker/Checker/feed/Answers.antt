@@ -2,7 +2,7 @@ use Rattle.std.proofs.Common.{◌++◌}
 use Rattle.std.proofs.Math.Nat.{le_trans}
 use Rattle.std.specs.Prelude.{codes}
 use Rattle.moving_model.specs.Transcript.{Asked, Answered}
-use Rattle.transcript.proofs.CheckLaws.{judged_result, none_told, read_length, match_ok, malformed_not_fine}
+use Rattle.transcript.proofs.CheckLaws.{judged_verdict, judged_result, none_told, read_length, match_ok, malformed_not_fine}
 use Rattle.transcript.proofs.checker.Checker.feed.Goals as goal
 
 pub ask-requires-clause-short : goal.ask-requires-clause-short
@@ -12,7 +12,7 @@ pub returns-in-Some : goal.returns-in-Some
 returns-in-Some c = record {
   verdict = λ frames lines read.
       let begun = match_ok c.begin.result c.in_ok-begin.field-0 _ _ c.in_ok-begin.was (c.begin.ensures frames read.tells read.is_at) in
-      judged_result frames c.ask.new.self lines c.args.line.now read.tells (Asked c.in-Some.script.now) c.ask.result read.told_are c.in-Some.ensures.told (c.ask.ensures frames read.tells begun.0);
+      judged_verdict frames c.ask.new.self lines c.args.line.now read.tells (Asked c.in-Some.script.now) c.ask.result read.told_are c.in-Some.ensures.told (c.ask.ensures frames read.tells begun.0);
 }
 
 pub hear-requires-clause-at : goal.hear-requires-clause-at
