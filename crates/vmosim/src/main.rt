@@ -56,8 +56,8 @@ fn main(rt: HostRuntime) -> ExitCode {
         Ok(words) => words,
         Err(status) => return ExitCode::from(code(status)),
     };
-    // The number of words is known only at run time, so the compiler leaves the call.
-    if !touch_stack(words.len() as u8) {
+    // Whether there are words is known only at run time, so the compiler leaves the call.
+    if !touch_stack(u8::from(words.is_empty())) {
         return ExitCode::from(code(Status::HostMemory));
     }
     let functions = [
