@@ -1,7 +1,14 @@
 """Shrinks a script as long as something is wrong with the replies to it."""
+import itertools
+import time
+
 from machine_model.answering import are, counted
 
+from .simplifying import renamed, simpler_lines
 from .trials import cut_at, replay
+
+# How long simpler lines are tried. A try with a kernel that hangs takes as long as a reply may.
+MOST_SECONDS = 60
 
 
 class Shrinking:
@@ -12,6 +19,7 @@ class Shrinking:
         self.best = trial
         self.progress = progress
         self.tries = 0
+        self.end = 0
 
     def lines(self):
         """Returns the lines that are left."""
@@ -43,13 +51,31 @@ class Shrinking:
             at = first
         return len(self.best.turns) < before
 
+    def simplify(self, at):
+        """Puts a simpler line in the place of one, if something is wrong with it too. Returns whether there was such a line."""
+        lines = self.lines()
+        tried = itertools.takewhile(lambda _: time.monotonic() < self.end, simpler_lines(lines[at]))
+        return any(self.holds([*lines[:at], it, *lines[at + 1 :]]) for it in tried)
+
+    def simplify_all(self):
+        """Simplifies each line as long as it can be, from the last to the first. Returns whether one was."""
+        before = self.lines()
+        for at in reversed(range(len(before))):
+            while at < len(self.best.turns) and self.simplify(at):
+                pass
+        return self.lines() != before
+
     def shrink(self):
-        """Leaves out halves, then shorter pieces, and at last single lines as long as one can be left out."""
+        """Leaves out halves, then shorter pieces, and then single lines and simplifies what is left, as long as either can be done.
+        At last names are numbered from 1."""
         self.holds(cut_at(self.best))
         size = len(self.best.turns)
         while size > 1:
             size = (size + 1) // 2
             self.leave_out(size)
-        while self.leave_out(1):
+        self.end = time.monotonic() + MOST_SECONDS
+        while self.leave_out(1) or self.simplify_all():
             pass
+        if renamed(self.lines()) != self.lines():
+            self.holds(renamed(self.lines()))
         return self.best
