@@ -7,6 +7,10 @@ class Before:
     def __init__(self, before, now):
         self.before = now if before is None else before
         self.now = now
+        self.zeroed = {}
+        for place in self.before:
+            if place[0] == "page" and place not in now:
+                self.zeroed.setdefault(place[1], []).append(place[2])
 
     def is_new(self, *place):
         """Returns whether the last line changed what is at a place."""
@@ -18,4 +22,4 @@ class Before:
 
     def changed_pages(self, koid):
         """Returns the pages of a VMO that are zero since the last line."""
-        return [place[2] for place in self.before if place[:2] == ("page", koid) and place not in self.now]
+        return self.zeroed.get(koid, [])

@@ -141,7 +141,7 @@ def corner(x, y, side):
     return f'<path d="M{x if side == "L" else x + CELL:g} {y + CELL:g}v-11l{11 if side == "L" else -11} 11z" class="on"/>'
 
 
-def box(node, payers, label_of):
+def box(node, payers, labels):
     """Draws a node."""
     y, length = TOP + node.level * LEVEL, len(node.cells) * (CELL + GAP) - GAP
     middle = node.left + node.width / 2
@@ -152,7 +152,7 @@ def box(node, payers, label_of):
         above = node.parent.left + node.parent.width / 2
         out += f'<path d="M{middle:g} {y - 20:g}V{y - 30:g}H{above:g}V{y - LEVEL + CELL + 4:g}" class="line"/>'
     out += rect(x - 4, y - 4, length + 8, CELL + 8, "line", ' rx="6"' + (' stroke-dasharray="4 3"' if is_hidden else ""))
-    words = "hidden parent" if is_hidden else label_of(node.koid)
+    words = "hidden parent" if is_hidden else labels[node.koid]
     out += text(middle, y - 8, words, 11, "dim" if is_hidden else "", MIDDLE + (' font-style="italic"' if is_hidden else ' font-weight="bold"'))
     return out + "".join(cell(node, pages, x + at * (CELL + GAP), y, payers) for at, pages in enumerate(node.cells))
 
@@ -177,7 +177,7 @@ def legend(width, y):
     return out, y + 12
 
 
-def tree_picture(tree, label_of=None, scheme="auto", least=460):
+def tree_picture(tree, labels, scheme="auto", least=460):
     """Returns the picture of a tree, or an empty text if it has no node or too many."""
     nodes = nodes_of(tree)
     if not nodes or len(nodes) > MOST_NODES:
@@ -189,7 +189,7 @@ def tree_picture(tree, label_of=None, scheme="auto", least=460):
             place(it, left - it.width)
     width = max(least, left)
     payers = payers_of(nodes)
-    out = "".join(box(it, payers, label_of or (lambda koid: f"VMO {koid}")) for it in nodes)
+    out = "".join(box(it, payers, labels) for it in nodes)
     below, height = legend(width, TOP + (max(it.level for it in nodes) + 1) * LEVEL - 2)
     said = f"The clone tree: {sum(it.koid is not None for it in nodes)} VMOs and {sum(it.koid is None for it in nodes)} hidden parents"
     return (f'<svg xmlns="http://www.w3.org/2000/svg" class="vm" role="img" width="{width:g}" height="{height:g}" viewBox="0 0 {width:g} {height:g}" '

@@ -1,19 +1,21 @@
 """The picture of what there is behind a line: VMOs with their pages, coloured by who pays, and below each the mappings that show it."""
+import functools
 import textwrap
 from html import escape
 
 from machine_model import PAGE, SourceMachine, spelled
 from machine_model.answering import counted
+from machine_model.objects import Frame
 from machine_model.regions import READY_TO_WRITE
 
 from .cells import FAULTS, MEANING, READS, WRITES, Look, bar, colour_of, rect, runs_of, styles, text
 from .changes import Before
 from .paged import source_marks, source_rows
 from .rows import LABEL, LEAST_WIDTH, MARGIN, STEP, Label, Row, row_of, text_row, tree_of
-from .states import address, names_of, pieces_of, regions_below, roots_of
+from .states import address, names_by_koid, pieces_of, regions_below, roots_of
 from .turns import cut, visible
 
-MOST_BARS = 12
+MOST_BARS, MOST_SHARERS = 12, 8
 FONT = "system-ui, -apple-system, Segoe UI, DejaVu Sans, sans-serif"
 # What a mark in a picture means. Only those that occur are in its legend.
 LEGEND = {
@@ -36,8 +38,10 @@ def marks_of(machine):
     """Returns what a picture shows, by its places: each held page, each VMO, each mapping and each page that is ready."""
     if isinstance(machine, SourceMachine):
         return source_marks(machine)
-    marks = {("page", vmo.koid, page): (frame.slot, frame.payer(), len(frame.koids)) for vmo in machine.vmos for page, frame in vmo.pages.items()}
-    marks |= {("vmo", vmo.koid): machine.label(vmo.koid) for vmo in machine.vmos}
+    # Many VMOs may show a frame.
+    labels, payer_of = machine.labels(), functools.cache(Frame.payer)
+    marks = {("page", vmo.koid, page): (frame.slot, payer_of(frame), len(frame.koids)) for vmo in machine.vmos for page, frame in vmo.pages.items()}
+    marks |= {("vmo", vmo.koid): labels[vmo.koid] for vmo in machine.vmos}
     for name, pin in machine.pins.items():
         marks["pin", name] = pin.vmo.koid, pin.pages
     for root in roots_of(machine):
@@ -74,25 +78,37 @@ class Piece:
         return FAULTS if ready is None else WRITES if ready == READY_TO_WRITE else READS, self.before.is_new("ready", self.root.name, at)
 
 
-def pieces_by_vmo(machine, before):
-    """Returns the pieces of all address spaces, by the koids of the VMOs that they show."""
-    pieces = {}
-    for root in roots_of(machine):
-        for piece in pieces_of(root):
-            pieces.setdefault(piece[1][0].koid, []).append(Piece(root, piece, before))
-    return pieces
+class Scene:
+    """What the rows of a picture are drawn from: what VMOs are called, and by their koids their names, pins and pieces, each found in one
+    pass over all."""
+
+    def __init__(self, machine, before):
+        self.before, self.labels, self.names = before, machine.labels(), names_by_koid(machine)
+        self.pins, self.pieces = {}, {}
+        for name, it in sorted(machine.pins.items(), key=lambda it: int(it[0][1:])):
+            self.pins.setdefault(it.vmo.koid, []).append((name, it.pages))
+        for root in roots_of(machine):
+            for piece in pieces_of(root):
+                self.pieces.setdefault(piece[1][0].koid, []).append(Piece(root, piece, before))
+        self.sharers_of = functools.cache(lambda frame: sorted(frame.koids))
+
+    def sharers_words(self, frame, koid):
+        """Says which VMOs show a frame besides one."""
+        others = [self.labels[it] for it in self.sharers_of(frame)[: MOST_SHARERS + 1] if it != koid][:MOST_SHARERS]
+        more = len(frame.koids) - 1 - len(others)
+        return f", shown by {', '.join(others)}{f' and {more:,} more' if more else ''} too" if others else ""
 
 
 class VmoRow:
     """The row of a VMO in the making."""
 
-    def __init__(self, machine, vmo, pieces, before):
-        self.machine, self.vmo, self.pieces, self.before = machine, vmo, pieces, before
-        self.pins = sorted(((name, it.pages) for name, it in machine.pins.items() if it.vmo is vmo), key=lambda it: int(it[0][1:]))
+    def __init__(self, scene, vmo):
+        self.scene, self.vmo, self.before = scene, vmo, scene.before
+        self.pins, self.pieces = scene.pins.get(vmo.koid, []), scene.pieces.get(vmo.koid, [])
 
     def look_at(self, page):
         """Returns what a page looks like."""
-        vmo, machine = self.vmo, self.machine
+        vmo, scene = self.vmo, self.scene
         ready, new_ready = zip(*(it.look(page) for it in self.pieces)) if self.pieces else ((), ())
         if page >= vmo.count:
             return Look("past", hint="behind the end of the VMO", ready=ready, new_ready=new_ready)
@@ -100,9 +116,9 @@ class VmoRow:
         is_new = self.before.is_new("page", vmo.koid, page)
         if frame is None:
             return Look("zero", hint="no frame", ready=ready, is_new=is_new, new_ready=new_ready)
-        payer, others = frame.payer(), sorted(frame.koids - {vmo.koid})
-        tag = "" if not others else f"+{len(others)}" if payer == vmo.koid else machine.label(payer)
-        hint = f"{machine.label(payer)} pays" + (f", shown by {', '.join(map(machine.label, others))} too" if others else "")
+        payer, others = scene.sharers_of(frame)[0], len(frame.koids) - 1
+        tag = "" if not others else f"+{others}" if payer == vmo.koid else scene.labels[payer]
+        hint = f"{scene.labels[payer]} pays{scene.sharers_words(frame, vmo.koid)}"
         holds = [name for name, pages in self.pins if page in pages]
         hint += f", pinned by {', '.join(holds)}" if holds else ""
         is_new = is_new or any(self.before.is_new("pin", it) for it in holds)
@@ -115,8 +131,8 @@ class VmoRow:
         stop = max([vmo.count, *(it.pages.stop + it.ahead for it in self.pieces)])
         marked = {*vmo.pages, *self.before.changed_pages(vmo.koid), *(page for end in ends for page in (end, end - 1))}
         cells = runs_of(range(stop), sorted(it for it in marked if 0 <= it < stop), self.look_at)
-        names = [it["name"] + ("" if it["kind"] == "owner" else f" ({it['kind']})") for it in names_of(self.machine, vmo)]
-        pays = sum(frame.payer() == vmo.koid for frame in vmo.pages.values())
+        names = [it["name"] + ("" if it["kind"] == "owner" else f" ({it['kind']})") for it in self.scene.names[vmo.koid]]
+        pays = sum(self.scene.sharers_of(frame)[0] == vmo.koid for frame in vmo.pages.values())
         uses = "" if pays == len(vmo.pages) else f", uses {len(vmo.pages):,}"
         small = f"pays {pays:,}{uses} of {vmo.count:,} page{'' if vmo.count == 1 else 's'}"
         label = Label(depth, vmo.koid, " ".join(names) or f"koid {vmo.koid}", small, self.before.is_new("vmo", vmo.koid))
@@ -144,9 +160,8 @@ def rows_of(machine, before=None):
     if isinstance(machine, SourceMachine):
         return source_rows(machine, Before(before, source_marks(machine)))
     change = Before(before, marks_of(machine))
-    pieces = pieces_by_vmo(machine, change)
-    rows = [VmoRow(machine, vmo, pieces.get(vmo.koid, []), change).row(depth)
-            for vmo, depth in tree_of(machine.vmos, lambda it: it.parent and it.parent.koid)] or [text_row("no VMO")]
+    scene = Scene(machine, change)
+    rows = [VmoRow(scene, vmo).row(depth) for vmo, depth in tree_of(machine.vmos, lambda it: it.parent and it.parent.koid)] or [text_row("no VMO")]
     if change.gone():
         rows.append(text_row(f"gone: {', '.join(change.gone())}", "new"))
     for name, it in sorted(getattr(machine, "jobs", {}).items()):

@@ -32,18 +32,20 @@ def pages_of(vmo, page_of):
     return pages
 
 
-def names_of(machine, vmo):
-    """Returns the names of a VMO in order, each with what it stands for and what may be done by it."""
-    names = sorted((int(name[1:]), it) for name, it in machine.names.items() if it.vmo is vmo)
-    return [{"name": f"v{number}", "kind": it.kind, "first_page": it.first, "bytes": it.size(), "may_write": it.may_write,
-             "may_resize": it.may_resize} for number, it in names]
+def names_by_koid(machine):
+    """Returns the names of each VMO in order, by its koid: each with what it stands for and what may be done by it."""
+    names = {it.koid: [] for it in machine.vmos}
+    for number, it in sorted((int(name[1:]), it) for name, it in machine.names.items()):
+        names[it.vmo.koid].append({"name": f"v{number}", "kind": it.kind, "first_page": it.first, "bytes": it.size(), "may_write": it.may_write,
+                                   "may_resize": it.may_resize})
+    return names
 
 
-def vmo_state(machine, vmo, page_of):
-    """Returns what a VMO is."""
+def vmo_state(vmo, names, page_of):
+    """Returns what a VMO with these names is."""
     charged = sum(min(frame.koids) == vmo.koid for frame in vmo.pages.values())
     return {"koid": vmo.koid, "parent": vmo.parent.koid if vmo.parent else None, "pages": vmo.count, "resizable": vmo.resizable,
-            "names": names_of(machine, vmo), "charged": charged, "held": pages_of(vmo, page_of)}
+            "names": names, "charged": charged, "held": pages_of(vmo, page_of)}
 
 
 def pieces_of(root):
@@ -102,13 +104,13 @@ def space_state(root):
 
 def state_of(machine):
     """Returns what there is."""
-    page_of = places_of(machine.vmos)
+    page_of, names = places_of(machine.vmos), names_by_koid(machine)
     gone = sorted((it.name for it in machine.regions.values() if not it.is_live), key=lambda it: int(it[1:]))
     pins = [{"pin": f"p{number}", "koid": it.vmo.koid, "page": it.pages.start, "pages": len(it.pages)}
             for number, it in sorted((int(name[1:]), it) for name, it in machine.pins.items())]
     jobs = [{"job": f"j{number}", "command": it.command, "name": it.name, "offset": it.next, "left": (it.end - it.next) // PAGE}
             for number, it in sorted((int(name[1:]), it) for name, it in getattr(machine, "jobs", {}).items())]
-    vmos = [vmo_state(machine, it, page_of) for it in sorted(machine.vmos, key=lambda it: it.koid)]
+    vmos = [vmo_state(it, names[it.koid], page_of) for it in sorted(machine.vmos, key=lambda it: it.koid)]
     return {"frames": machine.frames, "used": machine.used, "next_koid": machine.next, "vmos": vmos, "pins": pins, "jobs": jobs,
             "spaces": [space_state(it) for it in roots_of(machine)], "destroyed_regions": gone}
 

@@ -79,7 +79,8 @@ def payers_of(machine):
     """Returns what each VMO is called that is charged for frames, with how many, in the order of the koids."""
     held = [vmo.held if isinstance(machine, SourceMachine) else vmo.pages for vmo in machine.vmos]
     counts = collections.Counter(frame.payer() for frame in {frame for pages in held for frame in pages.values()})
-    return [(machine.label(koid), counts[koid]) for koid in sorted(counts)]
+    labels = machine.labels()
+    return [(labels[koid], counts[koid]) for koid in sorted(counts)]
 
 
 def payers_words(machine):

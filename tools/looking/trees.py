@@ -43,7 +43,7 @@ def renumber(machine, tree):
 
 def tree_shown(tree, machine, least=460):
     """Returns what is shown of a tree: its picture, or its lines if it has more nodes than a picture, cut if they are many."""
-    picture = tree_picture(tree, machine.label, least=least)
+    picture = tree_picture(tree, machine.labels(), least=least)
     lines = tree.splitlines()
     more = len(lines) - 1 - MOST_NODES
     return picture or "\n".join(lines if more <= 0 else [*lines[: MOST_NODES + 1], f"# .. and {counted(more, 'node')} more"])
@@ -60,4 +60,4 @@ def draw_tree(turns, asked):
     if not tree:
         raise Trouble(1, "the program vmotree is not built, and no --tree names it" if asked.word == "run" else f"{asked.word} has no clone tree")
     machine = list(turns)[-1][1]
-    yield tree_picture(tree, machine.label, asked.scheme) or tree
+    yield tree_picture(tree, machine.labels(), asked.scheme) or tree

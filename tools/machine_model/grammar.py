@@ -1,5 +1,6 @@
 """The grammar of scripts, and why a line is outside it."""
 import difflib
+import functools
 import re
 
 from .limits import LINE_BYTES, MOST_DATA
@@ -151,10 +152,16 @@ def listed(words, last="and"):
     return words[0] if len(words) == 1 else f"{', '.join(words[:-1])} {last} {words[-1]}"
 
 
-def arguments_of(command, forms):
-    """Returns the arguments of a command, each with what reads it and what it expects."""
-    pairs = [(it.split(":") * 2)[:2] for it in forms[command][0].split()]
+@functools.cache
+def arguments_in(form):
+    """Returns the arguments of a form, each with what reads it and what it expects."""
+    pairs = [(it.split(":") * 2)[:2] for it in form.split()]
     return [(name, *TYPES.get(of, TYPES["NUM"])) for name, of in pairs]
+
+
+def arguments_of(command, forms):
+    """Returns the same of a command."""
+    return arguments_in(forms[command][0])
 
 
 def nearest(word, words):

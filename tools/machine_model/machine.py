@@ -4,7 +4,7 @@ import re
 
 from .answering import Answering, counted, misplaced
 from .limits import MOST_PAGES, MOST_PINNED, MOST_READ, PAGE, len_of, meet, pages_in, touched
-from .objects import Frame, FramePool, Name, Pin, Vmo
+from .objects import Frame, FramePool, Labels, Name, Pin, Vmo
 from .regions import READY_TO_READ, RegionCommands
 
 MOST_BYTES = MOST_PAGES * PAGE
@@ -96,10 +96,13 @@ class Machine(RegionCommands, Answering):
         free = self.frames - self.used
         return f"{free or 'none'} {'is' if free < 2 else 'are'} free"
 
+    def labels(self):
+        """Returns what all VMOs are called."""
+        return Labels((name, it.vmo) for name, it in self.names.items())
+
     def label(self, koid):
         """Returns what a VMO is called: its first name, or its koid."""
-        names = sorted((it for it, name in self.names.items() if name.vmo.koid == koid), key=lambda it: int(it[1:]))
-        return names[0] if names else f"koid {koid}"
+        return Labels((name, it.vmo) for name, it in self.names.items() if it.vmo.koid == koid)[koid]
 
     def want_of(self, vmo, page):
         """Says why owning a page takes a frame; or nothing, if no other VMO shows the one that it has."""

@@ -79,6 +79,18 @@ class Vmo:
         return page in self.pages and len(self.pages[page].koids) == 1
 
 
+class Labels(dict):
+    """What VMOs are called, by their koids: each by its first name, or else by its koid. The names come each with its VMO."""
+
+    def __init__(self, names):
+        super().__init__()
+        for name, vmo in sorted(names, key=lambda it: int(it[0][1:]), reverse=True):
+            self[vmo.koid] = name
+
+    def __missing__(self, koid):
+        return f"koid {koid}"
+
+
 class Name:
     """A name of a VMO: its first page, how many pages it has if that is fixed, and what may be done by it."""
 

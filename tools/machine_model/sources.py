@@ -5,7 +5,7 @@ from typing import NamedTuple
 
 from .answering import Answering, counted, misplaced
 from .limits import MOST_READ, PAGE, pages_in, touched
-from .objects import Frame, FramePool
+from .objects import Frame, FramePool, Labels
 
 MOST_BYTES = 1 << 24
 LAST_KIND = 2
@@ -142,9 +142,9 @@ class SourceMachine(Answering):
         self.refuse(("BAD_HANDLE", name not in self.names and f"{name} is not open"))
         return self.names[name]
 
-    def label(self, koid):
-        """Returns what a VMO is called: its name, or its koid."""
-        return next((name for name, it in self.names.items() if it.koid == koid), f"koid {koid}")
+    def labels(self):
+        """Returns what all VMOs are called."""
+        return Labels(self.names.items())
 
     def add(self, name, text, backing=None, link=None):
         """Adds a VMO with a name, and returns it."""
