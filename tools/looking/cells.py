@@ -11,7 +11,7 @@ CELL, FOLD, HEIGHT, GAP, NUMBER, BAR, BAR_STEP = 44, 104, 24, 3, 11, 6, 12
 # they are simulated for each of the three kinds of colour blindness. They stand on white and on black.
 COLOURS = ("#44dddd", "#ffcc44", "#8866ff", "#dd4466", "#dd88ff", "#ccddaa", "#4488aa", "#dd8844")
 # What stands in a cell that shows no frame. A zero page is an empty one.
-WORDS = {"zero": "zero", "past": "past end", "absent": "absent", "parent": "parent", "other": "pages"}
+WORDS = {"zero": "zero", "past": "past end", "absent": "absent", "parent": "parent", "rest": "pages"}
 # What a mapping shows of a page: neither reads nor writes take a fault, reads take none, or the next access faults.
 FAULTS, READS, WRITES = "faults", "reads", "writes"
 MEANING = {WRITES: "mapped, without a fault", READS: "mapped, reads take no fault", FAULTS: "mapped, the next access faults"}
@@ -76,7 +76,7 @@ def runs_of(pages, marked, look_at):
         cells += [run] if len(run.pages) >= FOLDED else [Cell(range(it, it + 1), run.look) for it in run.pages]
     if len(cells) > MOST_CELLS:
         rest = range(cells[MOST_CELLS].pages.start, pages.stop)
-        cells = [*cells[:MOST_CELLS], Cell(rest, Look("other", hint="pages that are left out"))]
+        cells = [*cells[:MOST_CELLS], Cell(rest, Look("rest", hint="pages that are left out"))]
     return cells
 
 
