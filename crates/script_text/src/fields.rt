@@ -147,8 +147,13 @@ pub fn byte_data_into<'a>(word: &[u8], room: &'a mut [u8]) -> Option<LentBytes<'
     if word.is_empty() || word.len() > MOST_DIGITS {
         return None;
     }
+    if word.len() % 2 != 0 {
+        return None;
+    }
     let (decoded, _) = room.split_at_mut(word.len() / 2);
-    hex::decode_to_slice(word, decoded).ok()?;
+    if !hex_digits::decode_to_slice(word, decoded) {
+        return None;
+    }
     Some(LentBytes::new(decoded))
 }
 

@@ -2,7 +2,7 @@
 //! the one canonical line of each command.
 //!
 //! It stands on `vm_base` for names and sets of flags, and on `vm_model` for commands, and for how a line is read and a
-//! command is spelled. Numbers, byte data and permissions are written by `word_text`. Byte data is read by `hex`, the
+//! command is spelled. Numbers, byte data and permissions are written by `word_text`. Byte data is read by `hex_digits`, the
 //! ends of words are found by `memchr`, the words of a line stand in an `arrayvec`, and sets of flags are `bitflags`.
 //! It takes no memory of the host. The layer above hands in one line without its line feed: `read_call` lends byte data
 //! from a buffer of the caller, and `read_line` gives a command with data of its own. The readers of single fields are

@@ -45,7 +45,13 @@ fn digit_count(number: u64) -> usize
     ensures count { result ≡ length (decimal number) }
     ensures short { result ≤ 20 }
 {
-    number.max(1).ilog10() as usize + 1
+    match number {
+        0..=9 => 1,
+        10..=99 => 2,
+        100..=999 => 3,
+        1_000..=9_999 => 4,
+        _ => number.ilog10() as usize + 1,
+    }
 }
 
 /// Writes a number in decimal digits behind a space.
