@@ -9,8 +9,8 @@ use Rattle.vm_base.specs.declared.names.RegionName.{RegionName}
 use Rattle.vm_base.specs.declared.names.PinName.{PinName}
 use Rattle.vm_base.proofs.EntryLaws.{some_same}
 use Rattle.vm_model.specs.declared.command.Command.{Command}
-use Rattle.vm_model.specs.declared.command.Command.TheVariants.{VmoClose, VmoSize, VmoSetSize, VmoRead, VmoWrite, VmoFill, VmoCommit, VmoDecommit, VmoZero, VmoPin, VmoUnpin, VmoInfo, RootCreate, VmarUnmap, VmarProtect, VmarDestroy, Maps, MemRead, MemWrite, Stat}
-use Rattle.vm_model.specs.Language.Reading.{digit, digits, below, has_leading_zero, name_behind, vmo, region, pin, number, byte, byte_data, perm, child_kind, vmo_create, vmo_create_child, of_vmo, of_vmo_range, of_region, of_region_range, vmo_set_size, vmo_write, vmo_fill, vmo_pin, vmo_unpin, vmar_allocate, vmar_map, vmar_protect, mem_write, stat, by_word, commands, command, is_word, is_comment, Blank, Order, Outside, order_or_outside, reading_of_words, words, reading}
+use Rattle.vm_model.specs.declared.command.Command.TheVariants.{VmoClose, VmoSize, VmoRead, VmoCommit, VmoDecommit, VmoZero, VmoPin, VmoUnpin, VmoInfo, RootCreate, VmarUnmap, VmarDestroy, Maps, MemRead, Stat}
+use Rattle.vm_model.specs.Language.Reading.{digit, digits, below, has_leading_zero, name_behind, vmo, region, pin, number, byte, byte_data, perm, child_kind, arg, end, named, ranged, vmo_create, vmo_create_child, vmo_set_size, vmo_write, vmo_fill, vmo_pin, vmar_allocate, vmar_map, vmar_protect, mem_write, by_word, commands, command, is_word, is_comment, Blank, Order, Outside, order_or_outside, reading_of_words, words, reading}
 use Rattle.vm_model.specs.Machine.Given.{GivesName}
 
 -- a command that is read gives a name that there is
@@ -70,81 +70,61 @@ pin_less word name e = go (name_behind 112 word) refl e where
 
 -- ---- commands
 
+-- an argument, then the others
+arg_fine : {A : Type 0} (read : List ℕ → Option A) (next : A → List (List ℕ) → Option Command)
+    → ((w : List ℕ) (value : A) → read w ≡ Some value → (ws : List (List ℕ)) → Fine (next value ws))
+    → (ws : List (List ℕ)) → Fine (arg read next ws)
+arg_fine read next each [] = fine_none
+arg_fine read next each (w ∷ ws) = fine_bind (read w) _ (λ value e. each w value e ws)
+
+end_fine : (c : Command) → GivesName c → (ws : List (List ℕ)) → Fine (end c ws)
+end_fine c h [] = fine_some c h
+end_fine c h (w ∷ ws) = fine_none
+
+named_fine : {A : Type 0} (read : List ℕ → Option A) (make : A → Command)
+    → ((w : List ℕ) (name : A) → read w ≡ Some name → GivesName (make name)) → (ws : List (List ℕ)) → Fine (named read make ws)
+named_fine read make each = arg_fine read _ (λ w name e. end_fine (make name) (each w name e))
+
+ranged_fine : {A : Type 0} (read : List ℕ → Option A) (make : A → ℕ → ℕ → Command)
+    → ((name : A) (at len : ℕ) → GivesName (make name at len)) → (ws : List (List ℕ)) → Fine (ranged read make ws)
+ranged_fine read make each =
+    arg_fine read _ (λ w name e. arg_fine number _ (λ w at e. arg_fine number _ (λ w len e. end_fine (make name at len) (each name at len))))
+
 vmo_create_fine : (ws : List (List ℕ)) → Fine (vmo_create ws)
-vmo_create_fine [] = fine_none
-vmo_create_fine (a ∷ []) = fine_none
-vmo_create_fine (a ∷ b ∷ ws) = fine_bind (vmo a) _ (λ name e. fine_bind (number b) _ (λ size f. fine_where _ _ (vmo_less a name e)))
+vmo_create_fine = arg_fine vmo _ (λ w name e. arg_fine number _ (λ v size f ws. fine_where _ _ (vmo_less w name e)))
 
 vmo_create_child_fine : (ws : List (List ℕ)) → Fine (vmo_create_child ws)
-vmo_create_child_fine (a ∷ b ∷ c ∷ d ∷ e ∷ ws) =
-    fine_bind (vmo a) _ (λ name h. fine_bind (vmo b) _ (λ parent f. fine_bind (child_kind c) _ (λ kind f. fine_bind (number d) _ (λ offset f. fine_bind (number e) _ (λ size f.
-    fine_where _ _ (vmo_less a name h))))))
-vmo_create_child_fine _ = fine_none
-
-of_vmo_fine : (f : VmoName → Command) → ((name : VmoName) → GivesName (f name)) → (ws : List (List ℕ)) → Fine (of_vmo f ws)
-of_vmo_fine f each (a ∷ []) = fine_bind (vmo a) _ (λ name e. fine_some (f name) (each name))
-of_vmo_fine f each _ = fine_none
-
-of_vmo_range_fine : (f : VmoName → ℕ → ℕ → Command) → ((name : VmoName) (offset len : ℕ) → GivesName (f name offset len)) → (ws : List (List ℕ)) → Fine (of_vmo_range f ws)
-of_vmo_range_fine f each (a ∷ b ∷ c ∷ []) =
-    fine_bind (vmo a) _ (λ name e. fine_bind (number b) _ (λ offset e. fine_bind (number c) _ (λ len e. fine_some (f name offset len) (each name offset len))))
-of_vmo_range_fine f each _ = fine_none
-
-of_region_fine : (f : RegionName → Command) → ((name : RegionName) → name.0 < NAMES → GivesName (f name)) → (ws : List (List ℕ)) → Fine (of_region f ws)
-of_region_fine f each (a ∷ []) = fine_bind (region a) _ (λ name e. fine_some (f name) (each name (region_less a name e)))
-of_region_fine f each _ = fine_none
-
-of_region_range_fine : (f : RegionName → ℕ → ℕ → Command) → ((name : RegionName) (addr len : ℕ) → GivesName (f name addr len)) → (ws : List (List ℕ)) → Fine (of_region_range f ws)
-of_region_range_fine f each (a ∷ b ∷ c ∷ []) =
-    fine_bind (region a) _ (λ name e. fine_bind (number b) _ (λ addr e. fine_bind (number c) _ (λ len e. fine_some (f name addr len) (each name addr len))))
-of_region_range_fine f each _ = fine_none
+vmo_create_child_fine =
+    arg_fine vmo _ (λ w name e. arg_fine vmo _ (λ v parent f. arg_fine child_kind _ (λ v kind f. arg_fine number _ (λ v offset f. arg_fine number _ (λ v size f ws.
+    fine_where _ _ (vmo_less w name e))))))
 
 vmo_set_size_fine : (ws : List (List ℕ)) → Fine (vmo_set_size ws)
-vmo_set_size_fine (a ∷ b ∷ []) = fine_bind (vmo a) _ (λ name e. fine_bind (number b) _ (λ size f. fine_some (VmoSetSize name size) tt))
-vmo_set_size_fine _ = fine_none
+vmo_set_size_fine = arg_fine vmo _ (λ w name e. arg_fine number _ (λ w size e. end_fine _ tt))
 
 vmo_write_fine : (ws : List (List ℕ)) → Fine (vmo_write ws)
-vmo_write_fine (a ∷ b ∷ c ∷ []) = fine_bind (vmo a) _ (λ name e. fine_bind (number b) _ (λ offset f. fine_bind (byte_data c) _ (λ bytes f. fine_some (VmoWrite name offset bytes) tt)))
-vmo_write_fine _ = fine_none
+vmo_write_fine = arg_fine vmo _ (λ w name e. arg_fine number _ (λ w offset e. arg_fine byte_data _ (λ w bytes e. end_fine _ tt)))
 
 vmo_fill_fine : (ws : List (List ℕ)) → Fine (vmo_fill ws)
-vmo_fill_fine (a ∷ b ∷ c ∷ d ∷ []) =
-    fine_bind (vmo a) _ (λ name e. fine_bind (number b) _ (λ offset f. fine_bind (number c) _ (λ len f. fine_bind (byte d) _ (λ value f. fine_some (VmoFill name offset len value) tt))))
-vmo_fill_fine _ = fine_none
+vmo_fill_fine = arg_fine vmo _ (λ w name e. arg_fine number _ (λ w offset e. arg_fine number _ (λ w len e. arg_fine byte _ (λ w value e. end_fine _ tt))))
 
 vmo_pin_fine : (ws : List (List ℕ)) → Fine (vmo_pin ws)
-vmo_pin_fine (a ∷ b ∷ c ∷ d ∷ []) =
-    fine_bind (pin a) _ (λ token e. fine_bind (vmo b) _ (λ name f. fine_bind (number c) _ (λ offset f. fine_bind (number d) _ (λ len f. fine_some (VmoPin token name offset len) (pin_less a token e)))))
-vmo_pin_fine _ = fine_none
-
-vmo_unpin_fine : (ws : List (List ℕ)) → Fine (vmo_unpin ws)
-vmo_unpin_fine (a ∷ []) = fine_bind (pin a) _ (λ token e. fine_some (VmoUnpin token) tt)
-vmo_unpin_fine _ = fine_none
+vmo_pin_fine = arg_fine pin _ (λ w token e. ranged_fine vmo (VmoPin token) (λ name offset len. pin_less w token e))
 
 vmar_allocate_fine : (ws : List (List ℕ)) → Fine (vmar_allocate ws)
-vmar_allocate_fine (a ∷ b ∷ c ∷ d ∷ ws) =
-    fine_bind (region a) _ (λ name e. fine_bind (region b) _ (λ parent f. fine_bind (number c) _ (λ offset f. fine_bind (number d) _ (λ len f.
-    fine_where _ _ (region_less a name e)))))
-vmar_allocate_fine _ = fine_none
+vmar_allocate_fine =
+    arg_fine region _ (λ w name e. arg_fine region _ (λ v parent f. arg_fine number _ (λ v offset f. arg_fine number _ (λ v len f ws.
+    fine_where _ _ (region_less w name e)))))
 
 vmar_map_fine : (ws : List (List ℕ)) → Fine (vmar_map ws)
-vmar_map_fine (a ∷ b ∷ c ∷ d ∷ e ∷ f ∷ ws) =
-    fine_bind (region a) _ (λ name h. fine_bind (number b) _ (λ offset h. fine_bind (vmo c) _ (λ source h. fine_bind (number d) _ (λ vmo_offset h. fine_bind (number e) _ (λ len h.
-    fine_bind (perm f) _ (λ allowed h. fine_where _ _ tt))))))
-vmar_map_fine _ = fine_none
+vmar_map_fine =
+    arg_fine region _ (λ w name e. arg_fine number _ (λ w offset e. arg_fine vmo _ (λ w source e. arg_fine number _ (λ w start e. arg_fine number _ (λ w len e.
+    arg_fine perm _ (λ w allowed e ws. fine_where _ _ tt))))))
 
 vmar_protect_fine : (ws : List (List ℕ)) → Fine (vmar_protect ws)
-vmar_protect_fine (a ∷ b ∷ c ∷ d ∷ []) =
-    fine_bind (region a) _ (λ name e. fine_bind (number b) _ (λ addr f. fine_bind (number c) _ (λ len f. fine_bind (perm d) _ (λ allowed f. fine_some (VmarProtect name addr len allowed) tt))))
-vmar_protect_fine _ = fine_none
+vmar_protect_fine = arg_fine region _ (λ w name e. arg_fine number _ (λ w addr e. arg_fine number _ (λ w len e. arg_fine perm _ (λ w allowed e. end_fine _ tt))))
 
 mem_write_fine : (ws : List (List ℕ)) → Fine (mem_write ws)
-mem_write_fine (a ∷ b ∷ c ∷ []) = fine_bind (region a) _ (λ name e. fine_bind (number b) _ (λ addr f. fine_bind (byte_data c) _ (λ bytes f. fine_some (MemWrite name addr bytes) tt)))
-mem_write_fine _ = fine_none
-
-stat_fine : (ws : List (List ℕ)) → Fine (stat ws)
-stat_fine [] = fine_some Stat tt
-stat_fine _ = fine_none
+mem_write_fine = arg_fine region _ (λ w name e. arg_fine number _ (λ w addr e. arg_fine byte_data _ (λ w bytes e. end_fine _ tt)))
 
 -- ---- lines
 
@@ -165,28 +145,28 @@ unfolding command
 command_fine word ws = by_word_fine commands word ws (
     vmo_create_fine ws
     & vmo_create_child_fine ws
-    & of_vmo_fine VmoClose (λ name. tt) ws
-    & of_vmo_fine VmoSize (λ name. tt) ws
+    & named_fine vmo VmoClose (λ w name e. tt) ws
+    & named_fine vmo VmoSize (λ w name e. tt) ws
     & vmo_set_size_fine ws
-    & of_vmo_range_fine VmoRead (λ name offset len. tt) ws
+    & ranged_fine vmo VmoRead (λ name offset len. tt) ws
     & vmo_write_fine ws
     & vmo_fill_fine ws
-    & of_vmo_range_fine VmoCommit (λ name offset len. tt) ws
-    & of_vmo_range_fine VmoDecommit (λ name offset len. tt) ws
-    & of_vmo_range_fine VmoZero (λ name offset len. tt) ws
+    & ranged_fine vmo VmoCommit (λ name offset len. tt) ws
+    & ranged_fine vmo VmoDecommit (λ name offset len. tt) ws
+    & ranged_fine vmo VmoZero (λ name offset len. tt) ws
     & vmo_pin_fine ws
-    & vmo_unpin_fine ws
-    & of_vmo_fine VmoInfo (λ name. tt) ws
-    & of_region_fine RootCreate (λ name h. h) ws
+    & named_fine pin VmoUnpin (λ w token e. tt) ws
+    & named_fine vmo VmoInfo (λ w name e. tt) ws
+    & named_fine region RootCreate region_less ws
     & vmar_allocate_fine ws
     & vmar_map_fine ws
-    & of_region_range_fine VmarUnmap (λ name addr len. tt) ws
+    & ranged_fine region VmarUnmap (λ name addr len. tt) ws
     & vmar_protect_fine ws
-    & of_region_fine VmarDestroy (λ name h. tt) ws
-    & of_region_fine Maps (λ name h. tt) ws
-    & of_region_range_fine MemRead (λ name addr len. tt) ws
+    & named_fine region VmarDestroy (λ w name e. tt) ws
+    & named_fine region Maps (λ w name e. tt) ws
+    & ranged_fine region MemRead (λ name addr len. tt) ws
     & mem_write_fine ws
-    & stat_fine ws
+    & end_fine Stat tt ws
     & tt)
 
 order_same : {c d : Command} → Order c ≡ Order d → c ≡ d

@@ -18,12 +18,12 @@ use Rattle.vm_base.specs.declared.names.VmoName.{VmoName}
 use Rattle.vm_base.specs.declared.names.RegionName.{RegionName}
 use Rattle.vm_model.specs.declared.command.Command.{Command}
 use Rattle.vm_model.specs.declared.command.Command.TheVariants.{VmoRead, VmoWrite, MemRead, MemWrite}
-use Rattle.vm_model.specs.Language.Reading.{words, is_blank, begins_blank, byte_data, vmo, region, number, of_vmo_range, of_region_range, vmo_write, mem_write, command}
+use Rattle.vm_model.specs.Language.Reading.{words, is_blank, begins_blank, byte_data, vmo, region, number, ranged, vmo_write, mem_write, command}
 use Rattle.script_text.specs.Lines.{order_in}
 use Rattle.script_text.specs.inside.Shapes.{only_data, ends_blank, three_words}
 use Rattle.script_text.specs.inside.Groups.{range_of_vmo, range_of_region, vmo_and_number, region_and_number}
 use Rattle.script_text.proofs.GroupLaws.{of_two, joined, behind_two}
-use Rattle.script_text.proofs.ShapeLaws.{steps}
+use Rattle.script_text.proofs.ShapeLaws.{steps, vmo_write-apart, mem_write-apart, vmo_range_by_range, region_range_by_range}
 use Rattle.script_text.proofs.Cutting.{words-blank, words-first, len-solid, len-blank}
 
 -- a line that begins with a word
@@ -93,23 +93,23 @@ module _ (xs ys zs us a b c : List ℕ) (first : words xs ≡ a ∷ words ys) (s
   three-only none = ap three_words (all ∙ ap (λ ws. a ∷ b ∷ c ∷ ws) (none_behind (words us) none))
 
 -- a command of three words, by a field group of them
-pub vmo_range_of_three : (command : VmoName → ℕ → ℕ → Command) (ws : List (List ℕ)) → of_vmo_range command ws
+pub vmo_range_of_three : (command : VmoName → ℕ → ℕ → Command) (ws : List (List ℕ)) → ranged vmo command ws
     ≡ option_and_then (λ (p : VmoName × ℕ × ℕ). Some (command p.0 p.1 p.2))
     (option_and_then (λ (w : List ℕ × List ℕ × List ℕ). range_of_vmo w.0 w.1 w.2) (three_words ws))
 vmo_range_of_three command [] = refl
-vmo_range_of_three command (a ∷ []) = refl
-vmo_range_of_three command (a ∷ b ∷ []) = refl
+vmo_range_of_three command (a ∷ []) = vmo_range_by_range command (a ∷ [])
+vmo_range_of_three command (a ∷ b ∷ []) = vmo_range_by_range command (a ∷ b ∷ [])
 vmo_range_of_three command (a ∷ b ∷ c ∷ []) = steps command (vmo a) (number b) (number c)
-vmo_range_of_three command (a ∷ b ∷ c ∷ d ∷ ds) = refl
+vmo_range_of_three command (a ∷ b ∷ c ∷ d ∷ ds) = vmo_range_by_range command (a ∷ b ∷ c ∷ d ∷ ds)
 
-pub region_range_of_three : (command : RegionName → ℕ → ℕ → Command) (ws : List (List ℕ)) → of_region_range command ws
+pub region_range_of_three : (command : RegionName → ℕ → ℕ → Command) (ws : List (List ℕ)) → ranged region command ws
     ≡ option_and_then (λ (p : RegionName × ℕ × ℕ). Some (command p.0 p.1 p.2))
     (option_and_then (λ (w : List ℕ × List ℕ × List ℕ). range_of_region w.0 w.1 w.2) (three_words ws))
 region_range_of_three command [] = refl
-region_range_of_three command (a ∷ []) = refl
-region_range_of_three command (a ∷ b ∷ []) = refl
+region_range_of_three command (a ∷ []) = region_range_by_range command (a ∷ [])
+region_range_of_three command (a ∷ b ∷ []) = region_range_by_range command (a ∷ b ∷ [])
 region_range_of_three command (a ∷ b ∷ c ∷ []) = steps command (region a) (number b) (number c)
-region_range_of_three command (a ∷ b ∷ c ∷ d ∷ ds) = refl
+region_range_of_three command (a ∷ b ∷ c ∷ d ∷ ds) = region_range_by_range command (a ∷ b ∷ c ∷ d ∷ ds)
 
 -- one word too many for data
 pub data-more : (w : List ℕ) (ws : List (List ℕ)) → (length ws == 0) ≡ false → only_data (w ∷ ws) ≡ None
@@ -224,17 +224,19 @@ none_after_two (Some x) (Some y) = refl
 vmo_write_by_data : (a b : List ℕ) (ws : List (List ℕ)) → vmo_write (a ∷ b ∷ ws)
     ≡ option_and_then (λ name. option_and_then (λ offset. option_and_then (λ bytes. Some (VmoWrite name offset bytes))
     (only_data ws)) (number b)) (vmo a)
-vmo_write_by_data a b [] = sym (none_after_two (vmo a) (number b))
+vmo_write_by_data a b [] = refl
 vmo_write_by_data a b (c ∷ []) = refl
-vmo_write_by_data a b (c ∷ d ∷ ds) = sym (none_after_two (vmo a) (number b))
+vmo_write_by_data a b (c ∷ d ∷ ds) =
+    vmo_write-apart (a ∷ b ∷ c ∷ d ∷ ds) (λ e. absurd (omega (arith, e))) ∙ sym (none_after_two (vmo a) (number b))
 
 -- the command `mem_write` by its last word
 mem_write_by_data : (a b : List ℕ) (ws : List (List ℕ)) → mem_write (a ∷ b ∷ ws)
     ≡ option_and_then (λ name. option_and_then (λ addr. option_and_then (λ bytes. Some (MemWrite name addr bytes))
     (only_data ws)) (number b)) (region a)
-mem_write_by_data a b [] = sym (none_after_two (region a) (number b))
+mem_write_by_data a b [] = refl
 mem_write_by_data a b (c ∷ []) = refl
-mem_write_by_data a b (c ∷ d ∷ ds) = sym (none_after_two (region a) (number b))
+mem_write_by_data a b (c ∷ d ∷ ds) =
+    mem_write-apart (a ∷ b ∷ c ∷ d ∷ ds) (λ e. absurd (omega (arith, e))) ∙ sym (none_after_two (region a) (number b))
 
 -- their words, one behind another
 module _ (xs ys zs a b : List ℕ) (first : words xs ≡ a ∷ words ys) (second : words ys ≡ b ∷ words zs) where
@@ -254,7 +256,7 @@ module _ (xs ys zs a b : List ℕ) (first : words xs ≡ a ∷ words ys) (second
 
 -- what lines that begin with these words say
 pub vmo_read_line : (line behind : List ℕ) → line ≡ codes "vmo_read" ++ behind → begins_blank behind ≡ true
-    → order_in (words line) ≡ of_vmo_range VmoRead (words behind)
+    → order_in (words line) ≡ ranged vmo VmoRead (words behind)
 unfolding command
 vmo_read_line line behind is cut = ap order_in (ap words is ∙ words_vmo_read behind cut)
 
@@ -264,7 +266,7 @@ unfolding command
 vmo_write_line line behind is cut = ap order_in (ap words is ∙ words_vmo_write behind cut)
 
 pub mem_read_line : (line behind : List ℕ) → line ≡ codes "mem_read" ++ behind → begins_blank behind ≡ true
-    → order_in (words line) ≡ of_region_range MemRead (words behind)
+    → order_in (words line) ≡ ranged region MemRead (words behind)
 unfolding command
 mem_read_line line behind is cut = ap order_in (ap words is ∙ words_mem_read behind cut)
 

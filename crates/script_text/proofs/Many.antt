@@ -1,15 +1,19 @@
 -- More arguments than any command has: its flags are words of a list, each at most once, and so no more than the list.
-use Rattle.std.proofs.Common.{◌≡◌, ℕ, ◌<◌, ◌≤◌, Bool, true, false, ◌&&◌, ◌||◌, not, List, [], ◌∷◌, length, refl, ◌∙◌}
+use Rattle.std.proofs.Common.{◌≡◌, ℕ, suc, ◌<◌, ◌≤◌, Bool, true, false, ◌&&◌, ◌||◌, not, List, [], ◌∷◌, length, refl, ◌∙◌}
 use Rattle.std.proofs.Common.{ap, arith}
-use Rattle.std.specs.Prelude.{Option, Some, None, option_and_then, codes, nat_eq, if◌then◌else◌}
+use Rattle.std.specs.Prelude.{Option, Some, None, codes, nat_eq, if◌then◌else◌}
 use Rattle.std.specs.List.{IsDistinct, AllByRecursion}
 use Rattle.std.specs.Cmp.Lexicographic.{pointwise}
 use Rattle.std.proofs.lemmas.Cmp.{nat_list_eq_equiv}
 use Rattle.std.proofs.lemmas.Map.Made.{length-le_from_is_member}
 use Rattle.std.proofs.lemmas.Slice.Eq.{bytes_eq-Decides}
 use Rattle.vm_model.specs.declared.command.Command.{Command}
-use Rattle.vm_model.specs.Language.Reading.{command, flagged, are_flags, stands, is_word, vmo, region, number}
-use Rattle.vm_model.specs.Language.Reading.{child_kind, perm, vmo_create, vmo_create_child, vmar_allocate, vmar_map}
+use Rattle.vm_model.specs.declared.command.Command.TheVariants.{Stat}
+use Rattle.vm_model.specs.Language.Reading.{command, commands, by_word, arg, end, named, ranged, are_flags, stands, is_word}
+use Rattle.vm_model.specs.Language.Reading.{vmo, region, pin, number, child_kind, perm, vmo_create, vmo_create_child, vmo_set_size}
+use Rattle.vm_model.specs.Language.Reading.{vmo_write, vmo_fill, vmo_pin, vmar_allocate, vmar_map, vmar_protect, mem_write}
+use Rattle.script_text.proofs.ShapeLaws.{IsNoneApart, after, end-apart, named-apart, ranged-apart, vmo_set_size-apart, vmo_write-apart}
+use Rattle.script_text.proofs.ShapeLaws.{vmo_fill-apart, vmo_pin-apart, vmar_protect-apart, mem_write-apart}
 use Rattle.script_text.specs.inside.Shapes.{map_flag_words, region_flag_words}
 
 -- three tests that hold
@@ -52,87 +56,94 @@ few_flags : (known ws : List (List ℕ)) → are_flags known ws ≡ true → len
 few_flags known ws e = length-le_from_is_member nat_list_eq_equiv ws known (distinct_flags known ws e)
     (known_flags known ws e)
 
--- more words than there are flags
-flagged-many : (known ws : List (List ℕ)) (c : Command) → length known < length ws → flagged known ws c ≡ None
-flagged-many known ws c h = elim (are_flags known ws) as
+-- nothing is read from more arguments than so many
+abbrev IsNoneAbove : ℕ → (List (List ℕ) → Option Command) → Type 0
+IsNoneAbove n f = (ws : List (List ℕ)) → n < length ws → f ws ≡ None
+
+above : (n m : ℕ) (f : List (List ℕ) → Option Command) → n ≤ m → IsNoneApart n f → IsNoneAbove m f
+above n m f few apart ws h = apart ws (λ e. absurd (omega (arith, few, h, e)))
+
+flags-above : (known ws : List (List ℕ)) (c : Command) → length known < length ws
+    → (if are_flags known ws then Some c else None) ≡ None
+flags-above known ws c h = elim (are_flags known ws) as
     (λ b. are_flags known ws ≡ b → (if b then Some c else None) ≡ None) [
       | true ↦ λ e. absurd (omega (arith, few_flags known ws e, h))
       | false ↦ λ e. refl
     ] refl
 
--- a step that fails, whatever was before it
-after : {A : Type 0} (o : Option A) (f : A → Option Command) → ((x : A) → f x ≡ None) → option_and_then f o ≡ None
-after None f h = refl
-after (Some x) f h = h x
+arg-above : {A : Type 0} (n : ℕ) (read : List ℕ → Option A) (next : A → List (List ℕ) → Option Command)
+    → ((value : A) → IsNoneAbove n (next value)) → IsNoneAbove (suc n) (arg read next)
+arg-above n read next each [] h = refl
+arg-above n read next each (w ∷ ws) h = after (read w) _ (λ value. each value ws (omega (arith, h)))
 
--- a row of the table that gives nothing
-row-none : (b : Bool) (x y : Option Command) → x ≡ None → y ≡ None → (if b then x else y) ≡ None
-row-none true x y e f = e
-row-none false x y e f = f
+vmo_create-above : IsNoneAbove 3 vmo_create
+vmo_create-above = arg-above 2 vmo _ (λ name. arg-above 1 number _ (λ size ws h. flags-above (codes "resizable" ∷ []) ws _ h))
 
-many_for_create : (a b c d e f : List ℕ) (ws : List (List ℕ)) → 4 < length ws
-    → vmo_create (a ∷ b ∷ c ∷ d ∷ e ∷ f ∷ ws) ≡ None
-many_for_create a b c d e f ws h =
-    after (vmo a) _ (λ _. after (number b) _ (λ _.
-    flagged-many (codes "resizable" ∷ []) (c ∷ d ∷ e ∷ f ∷ ws) _ (omega arith)))
+vmo_create_child-above : IsNoneAbove 7 vmo_create_child
+vmo_create_child-above =
+    arg-above 6 vmo _ (λ name. arg-above 5 vmo _ (λ parent. arg-above 4 child_kind _ (λ kind. arg-above 3 number _ (λ offset.
+    arg-above 2 number _ (λ size ws h. flags-above (codes "resizable" ∷ codes "no_write" ∷ []) ws _ h)))))
 
-many_for_child : (a b c d e f : List ℕ) (ws : List (List ℕ)) → 4 < length ws
-    → vmo_create_child (a ∷ b ∷ c ∷ d ∷ e ∷ f ∷ ws) ≡ None
-many_for_child a b c d e f ws h =
-    after (vmo a) _ (λ _. after (vmo b) _
-    (λ _. after (child_kind c) _ (λ _. after (number d) _ (λ _. after (number e) _ (λ _.
-    flagged-many (codes "resizable" ∷ codes "no_write" ∷ []) (f ∷ ws) _ (omega arith))))))
+vmar_allocate-above : IsNoneAbove 9 vmar_allocate
+vmar_allocate-above =
+    arg-above 8 region _ (λ name. arg-above 7 region _ (λ parent. arg-above 6 number _ (λ offset. arg-above 5 number _ (λ len ws h.
+    flags-above region_flag_words ws _ h))))
 
-many_for_allocate : (a b c d e f : List ℕ) (ws : List (List ℕ)) → 4 < length ws
-    → vmar_allocate (a ∷ b ∷ c ∷ d ∷ e ∷ f ∷ ws) ≡ None
-many_for_allocate a b c d e f ws h =
-    after (region a) _ (λ _. after (region b) _ (λ _. after (number c) _ (λ _. after (number d) _ (λ _.
-    flagged-many region_flag_words (e ∷ f ∷ ws) _ (omega arith)))))
+vmar_map-above : IsNoneAbove 10 vmar_map
+vmar_map-above =
+    arg-above 9 region _ (λ name. arg-above 8 number _ (λ offset. arg-above 7 vmo _ (λ source. arg-above 6 number _ (λ start.
+    arg-above 5 number _ (λ len. arg-above 4 perm _ (λ allowed ws h. flags-above map_flag_words ws _ h))))))
 
-many_for_map : (a b c d e f : List ℕ) (ws : List (List ℕ)) → 4 < length ws
-    → vmar_map (a ∷ b ∷ c ∷ d ∷ e ∷ f ∷ ws) ≡ None
-many_for_map a b c d e f ws h =
-    after (region a) _ (λ _. after (number b) _
-    (λ _. after (vmo c) _ (λ _. after (number d) _ (λ _. after (number e) _ (λ _.
-    after (perm f) _ (λ _. flagged-many map_flag_words ws _ h))))))
+-- rows of which none reads these arguments
+by_word-none : (rows : List (List ℕ × (List (List ℕ) → Option Command))) (word : List ℕ) (ws : List (List ℕ))
+    → AllByRecursion (λ row. row.1 ws ≡ None) rows → by_word rows word ws ≡ None
+by_word-none [] word ws all = refl
+by_word-none (row ∷ rows) word ws all = go (is_word word row.0) (by_word-none rows word ws all.1) where
+  go : (b : Bool) → by_word rows word ws ≡ None → (if b then row.1 ws else by_word rows word ws) ≡ None
+  go true rest = all.0
+  go false rest = rest
 
--- each row of the table, on six arguments and more than four behind them
-command_of_six : (word a b c d e f : List ℕ) (ws : List (List ℕ)) → 4 < length ws
-    → command word (a ∷ b ∷ c ∷ d ∷ e ∷ f ∷ ws) ≡ None
-unfolding command
-command_of_six word a b c d e f ws h =
-    row-none (is_word word (codes "vmo_create")) _ _ (many_for_create a b c d e f ws h)
-    (row-none (is_word word (codes "vmo_create_child")) _ _ (many_for_child a b c d e f ws h)
-    (row-none (is_word word (codes "vmo_close")) _ _ refl
-    (row-none (is_word word (codes "vmo_size")) _ _ refl
-    (row-none (is_word word (codes "vmo_set_size")) _ _ refl
-    (row-none (is_word word (codes "vmo_read")) _ _ refl
-    (row-none (is_word word (codes "vmo_write")) _ _ refl
-    (row-none (is_word word (codes "vmo_fill")) _ _ refl
-    (row-none (is_word word (codes "vmo_commit")) _ _ refl
-    (row-none (is_word word (codes "vmo_decommit")) _ _ refl
-    (row-none (is_word word (codes "vmo_zero")) _ _ refl
-    (row-none (is_word word (codes "vmo_pin")) _ _ refl
-    (row-none (is_word word (codes "vmo_unpin")) _ _ refl
-    (row-none (is_word word (codes "vmo_info")) _ _ refl
-    (row-none (is_word word (codes "root_create")) _ _ refl
-    (row-none (is_word word (codes "vmar_allocate")) _ _ (many_for_allocate a b c d e f ws h)
-    (row-none (is_word word (codes "vmar_map")) _ _ (many_for_map a b c d e f ws h)
-    (row-none (is_word word (codes "vmar_unmap")) _ _ refl
-    (row-none (is_word word (codes "vmar_protect")) _ _ refl
-    (row-none (is_word word (codes "vmar_destroy")) _ _ refl
-    (row-none (is_word word (codes "maps")) _ _ refl
-    (row-none (is_word word (codes "mem_read")) _ _ refl
-    (row-none (is_word word (codes "mem_write")) _ _ refl
-    (row-none (is_word word (codes "stat")) _ _ refl refl)))))))))))))))))))))))
+infixr 30 ◌&◌
+◌&◌ : {A B : Type 0} → A → B → A × B
+a & b = (a, b)
+
+module _ (ws : List (List ℕ)) (h : 10 < length ws) where
+  of_name : {A : Type 0} (read : List ℕ → Option A) (make : A → Command) → named read make ws ≡ None
+  of_name read make = above 1 10 (named read make) (omega arith) (named-apart read make) ws h
+
+  of_range : {A : Type 0} (read : List ℕ → Option A) (make : A → ℕ → ℕ → Command) → ranged read make ws ≡ None
+  of_range read make = above 3 10 (ranged read make) (omega arith) (ranged-apart read make) ws h
+
+  none_of_many : AllByRecursion (λ (row : List ℕ × (List (List ℕ) → Option Command)). row.1 ws ≡ None) commands
+  none_of_many =
+      vmo_create-above ws (omega (arith, h))
+      & vmo_create_child-above ws (omega (arith, h))
+      & of_name vmo _
+      & of_name vmo _
+      & above 2 10 vmo_set_size (omega arith) vmo_set_size-apart ws h
+      & of_range vmo _
+      & above 3 10 vmo_write (omega arith) vmo_write-apart ws h
+      & above 4 10 vmo_fill (omega arith) vmo_fill-apart ws h
+      & of_range vmo _
+      & of_range vmo _
+      & of_range vmo _
+      & above 4 10 vmo_pin (omega arith) vmo_pin-apart ws h
+      & of_name pin _
+      & of_name vmo _
+      & of_name region _
+      & vmar_allocate-above ws (omega (arith, h))
+      & vmar_map-above ws h
+      & of_range region _
+      & above 4 10 vmar_protect (omega arith) vmar_protect-apart ws h
+      & of_name region _
+      & of_name region _
+      & of_range region _
+      & above 3 10 mem_write (omega arith) mem_write-apart ws h
+      & above 0 10 (end Stat) (omega arith) (end-apart Stat) ws h
+      & tt
 
 -- a command word and more than ten arguments
 pub command_of_many : (word : List ℕ) (arguments : List (List ℕ)) → 10 < length arguments
     → command word arguments ≡ None
-command_of_many word [] h = absurd (omega arith)
-command_of_many word (a ∷ []) h = absurd (omega arith)
-command_of_many word (a ∷ b ∷ []) h = absurd (omega arith)
-command_of_many word (a ∷ b ∷ c ∷ []) h = absurd (omega arith)
-command_of_many word (a ∷ b ∷ c ∷ d ∷ []) h = absurd (omega arith)
-command_of_many word (a ∷ b ∷ c ∷ d ∷ e ∷ []) h = absurd (omega arith)
-command_of_many word (a ∷ b ∷ c ∷ d ∷ e ∷ f ∷ ws) h = command_of_six word a b c d e f ws (omega arith)
+unfolding command
+command_of_many word arguments h = by_word-none commands word arguments (none_of_many arguments h)

@@ -2,7 +2,7 @@
 //! mappings. They are read word by word, with no list of their words.
 
 ghost use Rattle.std.specs.Prelude.{◌≡◌, ◌≤◌, ◌==◌, ◌++◌, length, option_map, true, IfSome};
-ghost use Rattle.vm_model.specs.Language.Reading.{words, begins_blank, mem_write, of_region_range, of_vmo_range, vmo_write};
+ghost use Rattle.vm_model.specs.Language.Reading.{words, begins_blank, mem_write, ranged, region, vmo, vmo_write};
 ghost use Rattle.vm_model.specs.declared.command.Command.TheVariants.{MemRead, VmoRead};
 ghost use Rattle.vm_model.specs.Machine.Lent.{command_of};
 ghost use Rattle.script_text.specs.inside.Shapes.{only_data, ends_blank, three_words};
@@ -66,7 +66,7 @@ fn three_words(line: &[u8]) -> Option<(&[u8], &[u8], &[u8])>
 #[inline(never)]
 #[tactic(auto, using(crate::proofs::FrequentLaws::vmo_range_of_three))]
 pub fn vmo_read_of<'a>(arguments: &[u8]) -> Option<Call<'a>>
-    ensures { option_map command_of result ≡ of_vmo_range VmoRead (words arguments.now) }
+    ensures { option_map command_of result ≡ ranged vmo VmoRead (words arguments.now) }
 {
     let (name, offset, len) = three_words(arguments)?;
     let (name, offset, len) = range_of_vmo(name, offset, len)?;
@@ -77,7 +77,7 @@ pub fn vmo_read_of<'a>(arguments: &[u8]) -> Option<Call<'a>>
 #[inline(never)]
 #[tactic(auto, using(crate::proofs::FrequentLaws::region_range_of_three))]
 pub fn mem_read_of<'a>(arguments: &[u8]) -> Option<Call<'a>>
-    ensures { option_map command_of result ≡ of_region_range MemRead (words arguments.now) }
+    ensures { option_map command_of result ≡ ranged region MemRead (words arguments.now) }
 {
     let (region, addr, len) = three_words(arguments)?;
     let (region, addr, len) = range_of_region(region, addr, len)?;

@@ -2,10 +2,10 @@
 //! long as its caller wants, so no caller has to shorten its life.
 
 ghost use Rattle.std.specs.Prelude.{◌≡◌, ◌≤◌, length, map, option_map};
-ghost use Rattle.vm_model.specs.Language.Reading.{are_flags, of_region, of_region_range, vmar_allocate, vmar_map};
-ghost use Rattle.vm_model.specs.Language.Reading.{vmar_protect, mem_write, stat};
+ghost use Rattle.vm_model.specs.Language.Reading.{are_flags, end, named, ranged, region, vmar_allocate, vmar_map};
+ghost use Rattle.vm_model.specs.Language.Reading.{vmar_protect, mem_write};
 ghost use Rattle.vm_model.specs.declared.command.Command.TheVariants.{RootCreate, VmarUnmap, VmarDestroy, Maps};
-ghost use Rattle.vm_model.specs.declared.command.Command.TheVariants.{MemRead};
+ghost use Rattle.vm_model.specs.declared.command.Command.TheVariants.{MemRead, Stat};
 ghost use Rattle.vm_model.specs.Machine.Lent.{command_of};
 ghost use Rattle.script_text.specs.inside.Shapes.{map_flag_words, map_flags, one_region, region_caps, region_flag_words};
 ghost use Rattle.script_text.specs.inside.Shapes.{region_flags, region_range};
@@ -37,9 +37,9 @@ fn region_range(arguments: &[&[u8]]) -> Option<(RegionName, u64, u64)>
 }
 
 /// Reads the arguments of `root_create REGION`.
-#[tactic(auto, using(crate::proofs::ShapeLaws::of_region_by_one))]
+#[tactic(auto, using(crate::proofs::ShapeLaws::region_by_one))]
 pub fn root_create<'a>(arguments: &[&[u8]]) -> Option<Call<'a>>
-    ensures { option_map command_of result ≡ of_region RootCreate (map (λ a. a.now) arguments.now) }
+    ensures { option_map command_of result ≡ named region RootCreate (map (λ a. a.now) arguments.now) }
 {
     let region = one_region(arguments)?;
     Some(Call::RootCreate { region })
@@ -154,9 +154,9 @@ fn map_flags(flags: &[&[u8]]) -> MapFlags
 }
 
 /// Reads the arguments of `vmar_unmap REGION ADDR LEN`.
-#[tactic(auto, using(crate::proofs::ShapeLaws::of_region_range_by_range))]
+#[tactic(auto, using(crate::proofs::ShapeLaws::region_range_by_range))]
 pub fn vmar_unmap<'a>(arguments: &[&[u8]]) -> Option<Call<'a>>
-    ensures { option_map command_of result ≡ of_region_range VmarUnmap (map (λ a. a.now) arguments.now) }
+    ensures { option_map command_of result ≡ ranged region VmarUnmap (map (λ a. a.now) arguments.now) }
 {
     let (region, addr, len) = region_range(arguments)?;
     Some(Call::VmarUnmap { region, addr, len })
@@ -180,27 +180,27 @@ pub fn vmar_protect<'a>(arguments: &[&[u8]]) -> Option<Call<'a>>
 }
 
 /// Reads the arguments of `vmar_destroy REGION`.
-#[tactic(auto, using(crate::proofs::ShapeLaws::of_region_by_one))]
+#[tactic(auto, using(crate::proofs::ShapeLaws::region_by_one))]
 pub fn vmar_destroy<'a>(arguments: &[&[u8]]) -> Option<Call<'a>>
-    ensures { option_map command_of result ≡ of_region VmarDestroy (map (λ a. a.now) arguments.now) }
+    ensures { option_map command_of result ≡ named region VmarDestroy (map (λ a. a.now) arguments.now) }
 {
     let region = one_region(arguments)?;
     Some(Call::VmarDestroy { region })
 }
 
 /// Reads the arguments of `maps REGION`.
-#[tactic(auto, using(crate::proofs::ShapeLaws::of_region_by_one))]
+#[tactic(auto, using(crate::proofs::ShapeLaws::region_by_one))]
 pub fn maps<'a>(arguments: &[&[u8]]) -> Option<Call<'a>>
-    ensures { option_map command_of result ≡ of_region Maps (map (λ a. a.now) arguments.now) }
+    ensures { option_map command_of result ≡ named region Maps (map (λ a. a.now) arguments.now) }
 {
     let region = one_region(arguments)?;
     Some(Call::Maps { region })
 }
 
 /// Reads the arguments of `mem_read REGION ADDR LEN`.
-#[tactic(auto, using(crate::proofs::ShapeLaws::of_region_range_by_range))]
+#[tactic(auto, using(crate::proofs::ShapeLaws::region_range_by_range))]
 pub fn mem_read<'a>(arguments: &[&[u8]]) -> Option<Call<'a>>
-    ensures { option_map command_of result ≡ of_region_range MemRead (map (λ a. a.now) arguments.now) }
+    ensures { option_map command_of result ≡ ranged region MemRead (map (λ a. a.now) arguments.now) }
 {
     let (region, addr, len) = region_range(arguments)?;
     Some(Call::MemRead { region, addr, len })
@@ -225,7 +225,7 @@ pub fn mem_write<'a>(arguments: &[&[u8]], room: &'a mut [u8]) -> Option<Call<'a>
 
 /// Reads the arguments of `stat`.
 pub fn stat<'a>(arguments: &[&[u8]]) -> Option<Call<'a>>
-    ensures { option_map command_of result ≡ stat (map (λ a. a.now) arguments.now) }
+    ensures { option_map command_of result ≡ end Stat (map (λ a. a.now) arguments.now) }
 {
     if !arguments.is_empty() {
         return None;

@@ -2,10 +2,10 @@
 //! caller has to shorten its life.
 
 ghost use Rattle.std.specs.Prelude.{◌≡◌, ◌≤◌, length, map, option_map};
-ghost use Rattle.vm_model.specs.Language.Reading.{of_vmo, of_vmo_range, vmo_create, vmo_create_child, vmo_set_size};
-ghost use Rattle.vm_model.specs.Language.Reading.{vmo_write, vmo_fill, vmo_pin, vmo_unpin};
+ghost use Rattle.vm_model.specs.Language.Reading.{named, ranged, pin, vmo, vmo_create, vmo_create_child, vmo_set_size};
+ghost use Rattle.vm_model.specs.Language.Reading.{vmo_write, vmo_fill, vmo_pin};
 ghost use Rattle.vm_model.specs.declared.command.Command.TheVariants.{VmoClose, VmoSize, VmoRead, VmoCommit};
-ghost use Rattle.vm_model.specs.declared.command.Command.TheVariants.{VmoDecommit, VmoZero, VmoInfo};
+ghost use Rattle.vm_model.specs.declared.command.Command.TheVariants.{VmoDecommit, VmoZero, VmoUnpin, VmoInfo};
 ghost use Rattle.vm_model.specs.Machine.Lent.{command_of};
 ghost use Rattle.script_text.specs.inside.Shapes.{one_vmo, vmo_range};
 
@@ -78,18 +78,18 @@ pub fn vmo_create_child<'a>(arguments: &[&[u8]]) -> Option<Call<'a>>
 }
 
 /// Reads the arguments of `vmo_close VMO`.
-#[tactic(auto, using(crate::proofs::ShapeLaws::of_vmo_by_one))]
+#[tactic(auto, using(crate::proofs::ShapeLaws::vmo_by_one))]
 pub fn vmo_close<'a>(arguments: &[&[u8]]) -> Option<Call<'a>>
-    ensures { option_map command_of result ≡ of_vmo VmoClose (map (λ a. a.now) arguments.now) }
+    ensures { option_map command_of result ≡ named vmo VmoClose (map (λ a. a.now) arguments.now) }
 {
     let name = one_vmo(arguments)?;
     Some(Call::VmoClose { name })
 }
 
 /// Reads the arguments of `vmo_size VMO`.
-#[tactic(auto, using(crate::proofs::ShapeLaws::of_vmo_by_one))]
+#[tactic(auto, using(crate::proofs::ShapeLaws::vmo_by_one))]
 pub fn vmo_size<'a>(arguments: &[&[u8]]) -> Option<Call<'a>>
-    ensures { option_map command_of result ≡ of_vmo VmoSize (map (λ a. a.now) arguments.now) }
+    ensures { option_map command_of result ≡ named vmo VmoSize (map (λ a. a.now) arguments.now) }
 {
     let name = one_vmo(arguments)?;
     Some(Call::VmoSize { name })
@@ -108,9 +108,9 @@ pub fn vmo_set_size<'a>(arguments: &[&[u8]]) -> Option<Call<'a>>
 
 /// Reads the arguments of `vmo_read VMO OFFSET LEN`.
 #[inline(always)]
-#[tactic(auto, using(crate::proofs::ShapeLaws::of_vmo_range_by_range))]
+#[tactic(auto, using(crate::proofs::ShapeLaws::vmo_range_by_range))]
 pub fn vmo_read<'a>(arguments: &[&[u8]]) -> Option<Call<'a>>
-    ensures { option_map command_of result ≡ of_vmo_range VmoRead (map (λ a. a.now) arguments.now) }
+    ensures { option_map command_of result ≡ ranged vmo VmoRead (map (λ a. a.now) arguments.now) }
 {
     let (name, offset, len) = vmo_range(arguments)?;
     Some(Call::VmoRead { name, offset, len })
@@ -151,27 +151,27 @@ pub fn vmo_fill<'a>(arguments: &[&[u8]]) -> Option<Call<'a>>
 }
 
 /// Reads the arguments of `vmo_commit VMO OFFSET LEN`.
-#[tactic(auto, using(crate::proofs::ShapeLaws::of_vmo_range_by_range))]
+#[tactic(auto, using(crate::proofs::ShapeLaws::vmo_range_by_range))]
 pub fn vmo_commit<'a>(arguments: &[&[u8]]) -> Option<Call<'a>>
-    ensures { option_map command_of result ≡ of_vmo_range VmoCommit (map (λ a. a.now) arguments.now) }
+    ensures { option_map command_of result ≡ ranged vmo VmoCommit (map (λ a. a.now) arguments.now) }
 {
     let (name, offset, len) = vmo_range(arguments)?;
     Some(Call::VmoCommit { name, offset, len })
 }
 
 /// Reads the arguments of `vmo_decommit VMO OFFSET LEN`.
-#[tactic(auto, using(crate::proofs::ShapeLaws::of_vmo_range_by_range))]
+#[tactic(auto, using(crate::proofs::ShapeLaws::vmo_range_by_range))]
 pub fn vmo_decommit<'a>(arguments: &[&[u8]]) -> Option<Call<'a>>
-    ensures { option_map command_of result ≡ of_vmo_range VmoDecommit (map (λ a. a.now) arguments.now) }
+    ensures { option_map command_of result ≡ ranged vmo VmoDecommit (map (λ a. a.now) arguments.now) }
 {
     let (name, offset, len) = vmo_range(arguments)?;
     Some(Call::VmoDecommit { name, offset, len })
 }
 
 /// Reads the arguments of `vmo_zero VMO OFFSET LEN`.
-#[tactic(auto, using(crate::proofs::ShapeLaws::of_vmo_range_by_range))]
+#[tactic(auto, using(crate::proofs::ShapeLaws::vmo_range_by_range))]
 pub fn vmo_zero<'a>(arguments: &[&[u8]]) -> Option<Call<'a>>
-    ensures { option_map command_of result ≡ of_vmo_range VmoZero (map (λ a. a.now) arguments.now) }
+    ensures { option_map command_of result ≡ ranged vmo VmoZero (map (λ a. a.now) arguments.now) }
 {
     let (name, offset, len) = vmo_range(arguments)?;
     Some(Call::VmoZero { name, offset, len })
@@ -196,7 +196,7 @@ pub fn vmo_pin<'a>(arguments: &[&[u8]]) -> Option<Call<'a>>
 
 /// Reads the arguments of `vmo_unpin PIN`.
 pub fn vmo_unpin<'a>(arguments: &[&[u8]]) -> Option<Call<'a>>
-    ensures { option_map command_of result ≡ vmo_unpin (map (λ a. a.now) arguments.now) }
+    ensures { option_map command_of result ≡ named pin VmoUnpin (map (λ a. a.now) arguments.now) }
 {
     let [token] = arguments else {
         return None;
@@ -205,9 +205,9 @@ pub fn vmo_unpin<'a>(arguments: &[&[u8]]) -> Option<Call<'a>>
 }
 
 /// Reads the arguments of `vmo_info VMO`.
-#[tactic(auto, using(crate::proofs::ShapeLaws::of_vmo_by_one))]
+#[tactic(auto, using(crate::proofs::ShapeLaws::vmo_by_one))]
 pub fn vmo_info<'a>(arguments: &[&[u8]]) -> Option<Call<'a>>
-    ensures { option_map command_of result ≡ of_vmo VmoInfo (map (λ a. a.now) arguments.now) }
+    ensures { option_map command_of result ≡ named vmo VmoInfo (map (λ a. a.now) arguments.now) }
 {
     let name = one_vmo(arguments)?;
     Some(Call::VmoInfo { name })

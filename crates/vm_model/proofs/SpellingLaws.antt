@@ -12,7 +12,7 @@ use Rattle.vm_base.specs.declared.flags.MapFlags.{MapFlags}
 use Rattle.vm_model.specs.declared.command.ChildKind.{ChildKind}
 use Rattle.vm_model.specs.declared.command.Command.{Command}
 use Rattle.vm_model.specs.declared.command.Command.TheVariants.{VmoCreate, VmoChild, VmoClose, VmoSize, VmoSetSize, VmoRead, VmoWrite, VmoFill, VmoCommit, VmoDecommit, VmoZero, VmoPin, VmoUnpin, VmoInfo, RootCreate, VmarAllocate, VmarMap, VmarUnmap, VmarProtect, VmarDestroy, Maps, MemRead, MemWrite, Stat}
-use Rattle.vm_model.specs.Language.Reading.{Order, reading, is_comment, command, are_flags, stands, bit, flagged, of_vmo, of_vmo_range, of_region, of_region_range, vmar_allocate, vmar_map}
+use Rattle.vm_model.specs.Language.Reading.{Order, reading, is_comment, command, are_flags, stands, bit, flags, named, ranged, vmo, region, vmar_allocate, vmar_map}
 use Rattle.vm_model.specs.Language.Text.{data_text, perm_text}
 use Rattle.vm_model.specs.Space.Rights.{has}
 use Rattle.vm_model.specs.Language.Spelling.{set_flags, vmo_word, region_word, pin_word, kind_word, command_words, spelling, has_spelling, IsData, HasRanges}
@@ -89,7 +89,7 @@ size_flags-fields : (resizable : Bool) → Fields 60 (size_flags resizable)
 size_flags-fields true = record { solid = refl; few = omega arith }
 size_flags-fields false = record { solid = refl; few = omega arith }
 
-size_flags-read : (name : VmoName) (size : ℕ) (resizable : Bool) → flagged (codes "resizable" ∷ []) (size_flags resizable) (VmoCreate name size (stands (codes "resizable") (size_flags resizable))) ≡ Some (VmoCreate name size resizable)
+size_flags-read : (name : VmoName) (size : ℕ) (resizable : Bool) → flags (codes "resizable" ∷ []) (λ flag. VmoCreate name size (flag (codes "resizable"))) (size_flags resizable) ≡ Some (VmoCreate name size resizable)
 size_flags-read name size true = refl
 size_flags-read name size false = refl
 
@@ -104,8 +104,8 @@ child_flags-fields false true = record { solid = refl; few = omega arith }
 child_flags-fields false false = record { solid = refl; few = omega arith }
 
 child_flags-read : (name parent : VmoName) (kind : ChildKind) (offset size : ℕ) (resizable no_write : Bool)
-    → flagged (codes "resizable" ∷ codes "no_write" ∷ []) (child_flags resizable no_write)
-    (VmoChild name parent kind offset size (stands (codes "resizable") (child_flags resizable no_write)) (stands (codes "no_write") (child_flags resizable no_write)))
+    → flags (codes "resizable" ∷ codes "no_write" ∷ [])
+    (λ flag. VmoChild name parent kind offset size (flag (codes "resizable")) (flag (codes "no_write"))) (child_flags resizable no_write)
     ≡ Some (VmoChild name parent kind offset size resizable no_write)
 child_flags-read name parent kind offset size true true = refl
 child_flags-read name parent kind offset size true false = refl
@@ -182,21 +182,21 @@ region_flags-spell n m e h =
 
 -- ---- the arguments of several commands
 
-vmo_only : (make : VmoName → Command) (name : VmoName) → name.0 < 2 ^ 32 → Fields 22 (vmo_word name ∷ []) × (of_vmo make (vmo_word name ∷ []) ≡ Some (make name))
+vmo_only : (make : VmoName → Command) (name : VmoName) → name.0 < 2 ^ 32 → Fields 22 (vmo_word name ∷ []) × (named vmo make (vmo_word name ∷ []) ≡ Some (make name))
 vmo_only make name h = (vmo_field name h no_field, rw (vmo-vmo_word name h) refl)
 
-region_only : (make : RegionName → Command) (name : RegionName) → name.0 < 2 ^ 32 → Fields 22 (region_word name ∷ []) × (of_region make (region_word name ∷ []) ≡ Some (make name))
+region_only : (make : RegionName → Command) (name : RegionName) → name.0 < 2 ^ 32 → Fields 22 (region_word name ∷ []) × (named region make (region_word name ∷ []) ≡ Some (make name))
 region_only make name h = (region_field name h no_field, rw (region-region_word name h) refl)
 
 vmo_range : (make : VmoName → ℕ → ℕ → Command) (name : VmoName) (offset len : ℕ) → (name.0 < 2 ^ 32) × (offset < 2 ^ 64) × (len < 2 ^ 64)
-    → Fields 64 (vmo_word name ∷ decimal offset ∷ decimal len ∷ []) × (of_vmo_range make (vmo_word name ∷ decimal offset ∷ decimal len ∷ []) ≡ Some (make name offset len))
+    → Fields 64 (vmo_word name ∷ decimal offset ∷ decimal len ∷ []) × (ranged vmo make (vmo_word name ∷ decimal offset ∷ decimal len ∷ []) ≡ Some (make name offset len))
 vmo_range make name offset len h = (
   vmo_field name h.0 (number_field offset h.1 (number_field len h.2 no_field)),
   rw (vmo-vmo_word name h.0, number-decimal offset h.1, number-decimal len h.2) refl,
 )
 
 region_range : (make : RegionName → ℕ → ℕ → Command) (name : RegionName) (addr len : ℕ) → (name.0 < 2 ^ 32) × (addr < 2 ^ 64) × (len < 2 ^ 64)
-    → Fields 64 (region_word name ∷ decimal addr ∷ decimal len ∷ []) × (of_region_range make (region_word name ∷ decimal addr ∷ decimal len ∷ []) ≡ Some (make name addr len))
+    → Fields 64 (region_word name ∷ decimal addr ∷ decimal len ∷ []) × (ranged region make (region_word name ∷ decimal addr ∷ decimal len ∷ []) ≡ Some (make name addr len))
 region_range make name addr len h = (
   region_field name h.0 (number_field addr h.1 (number_field len h.2 no_field)),
   rw (region-region_word name h.0, number-decimal addr h.1, number-decimal len h.2) refl,

@@ -147,19 +147,28 @@ abbrev pub bit : Bool → ℕ → ℕ
 bit true n = n
 bit false n = 0
 
--- the command, if its flags are these words
-abbrev pub flagged : List (List ℕ) → List (List ℕ) → Command → Option Command
-flagged known ws command = if are_flags known ws then Some command else None
+-- an argument that is read so, and then the others
+abbrev pub arg : {A C : Type 0} → (List ℕ → Option A) → (A → List (List ℕ) → Option C) → List (List ℕ) → Option C
+arg read next [] = None
+arg read next (w ∷ ws) = do
+  value ← read w
+  next value ws
 
--- ---- each command, from its arguments
+-- no more arguments
+abbrev pub end : {C : Type 0} → C → List (List ℕ) → Option C
+end command [] = Some command
+end command _ = None
 
--- `vmo_create VMO SIZE [resizable]`
-abbrev pub vmo_create : List (List ℕ) → Option Command
-vmo_create (a ∷ b ∷ ws) = do
-  name ← vmo a
-  size ← number b
-  flagged (codes "resizable" ∷ []) ws (VmoCreate name size (stands (codes "resizable") ws))
-vmo_create _ = None
+-- flags of this list, each at most once, in any order
+abbrev pub flags : {C : Type 0} → List (List ℕ) → ((List ℕ → Bool) → C) → List (List ℕ) → Option C
+flags known command ws = if are_flags known ws then Some (command (λ flag. stands flag ws)) else None
+
+-- one name, or a name and a range of what it stands for
+abbrev pub named : {A C : Type 0} → (List ℕ → Option A) → (A → C) → List (List ℕ) → Option C
+named read command = arg read (λ name. end (command name))
+
+abbrev pub ranged : {A C : Type 0} → (List ℕ → Option A) → (A → ℕ → ℕ → C) → List (List ℕ) → Option C
+ranged read command = arg read (λ name. arg number (λ at. arg number (λ len. end (command name at len))))
 
 -- `snapshot`, `slice` or `reference`
 unfoldable pub child_kind : List ℕ → Option ChildKind
@@ -169,144 +178,57 @@ child_kind word =
     else (if is_word word (codes "reference") then Some Reference
     else None))
 
+-- ---- each command, from its arguments
+
+-- `vmo_create VMO SIZE [resizable]`
+abbrev pub vmo_create : List (List ℕ) → Option Command
+vmo_create = arg vmo (λ name. arg number (λ size. flags (codes "resizable" ∷ []) (λ has.
+    VmoCreate name size (has (codes "resizable")))))
+
 -- `vmo_create_child VMO PARENT KIND OFFSET SIZE [resizable] [no_write]`
 abbrev pub vmo_create_child : List (List ℕ) → Option Command
-vmo_create_child (a ∷ b ∷ c ∷ d ∷ e ∷ ws) = do
-  name ← vmo a
-  parent ← vmo b
-  kind ← child_kind c
-  offset ← number d
-  size ← number e
-  flagged (codes "resizable" ∷ codes "no_write" ∷ []) ws
-      (VmoChild name parent kind offset size (stands (codes "resizable") ws) (stands (codes "no_write") ws))
-vmo_create_child _ = None
-
--- a command of one VMO
-abbrev pub of_vmo : (VmoName → Command) → List (List ℕ) → Option Command
-of_vmo command (a ∷ []) = do
-  name ← vmo a
-  Some (command name)
-of_vmo command _ = None
-
--- a command of a range of a VMO
-abbrev pub of_vmo_range : (VmoName → ℕ → ℕ → Command) → List (List ℕ) → Option Command
-of_vmo_range command (a ∷ b ∷ c ∷ []) = do
-  name ← vmo a
-  offset ← number b
-  len ← number c
-  Some (command name offset len)
-of_vmo_range command _ = None
-
--- a command of one region
-abbrev pub of_region : (RegionName → Command) → List (List ℕ) → Option Command
-of_region command (a ∷ []) = do
-  name ← region a
-  Some (command name)
-of_region command _ = None
-
--- a command of a range of a region
-abbrev pub of_region_range : (RegionName → ℕ → ℕ → Command) → List (List ℕ) → Option Command
-of_region_range command (a ∷ b ∷ c ∷ []) = do
-  name ← region a
-  addr ← number b
-  len ← number c
-  Some (command name addr len)
-of_region_range command _ = None
+vmo_create_child = arg vmo (λ name. arg vmo (λ parent. arg child_kind (λ kind. arg number (λ offset. arg number (λ size.
+    flags (codes "resizable" ∷ codes "no_write" ∷ []) (λ has.
+    VmoChild name parent kind offset size (has (codes "resizable")) (has (codes "no_write"))))))))
 
 -- `vmo_set_size VMO SIZE`
 abbrev pub vmo_set_size : List (List ℕ) → Option Command
-vmo_set_size (a ∷ b ∷ []) = do
-  name ← vmo a
-  size ← number b
-  Some (VmoSetSize name size)
-vmo_set_size _ = None
+vmo_set_size = arg vmo (λ name. arg number (λ size. end (VmoSetSize name size)))
 
 -- `vmo_write VMO OFFSET DATA`
 abbrev pub vmo_write : List (List ℕ) → Option Command
-vmo_write (a ∷ b ∷ c ∷ []) = do
-  name ← vmo a
-  offset ← number b
-  bytes ← byte_data c
-  Some (VmoWrite name offset bytes)
-vmo_write _ = None
+vmo_write = arg vmo (λ name. arg number (λ offset. arg byte_data (λ bytes. end (VmoWrite name offset bytes))))
 
 -- `vmo_fill VMO OFFSET LEN BYTE`
 abbrev pub vmo_fill : List (List ℕ) → Option Command
-vmo_fill (a ∷ b ∷ c ∷ d ∷ []) = do
-  name ← vmo a
-  offset ← number b
-  len ← number c
-  value ← byte d
-  Some (VmoFill name offset len value)
-vmo_fill _ = None
+vmo_fill = arg vmo (λ name. arg number (λ offset. arg number (λ len. arg byte (λ value. end (VmoFill name offset len value)))))
 
 -- `vmo_pin PIN VMO OFFSET LEN`
 abbrev pub vmo_pin : List (List ℕ) → Option Command
-vmo_pin (a ∷ b ∷ c ∷ d ∷ []) = do
-  token ← pin a
-  name ← vmo b
-  offset ← number c
-  len ← number d
-  Some (VmoPin token name offset len)
-vmo_pin _ = None
-
--- `vmo_unpin PIN`
-abbrev pub vmo_unpin : List (List ℕ) → Option Command
-vmo_unpin (a ∷ []) = do
-  token ← pin a
-  Some (VmoUnpin token)
-vmo_unpin _ = None
+vmo_pin = arg pin (λ token. ranged vmo (VmoPin token))
 
 -- `vmar_allocate REGION PARENT OFFSET LEN [specific] [upper_limit] [can_read] [can_write] [can_execute]`
 abbrev pub vmar_allocate : List (List ℕ) → Option Command
-vmar_allocate (a ∷ b ∷ c ∷ d ∷ ws) = do
-  name ← region a
-  parent ← region b
-  offset ← number c
-  len ← number d
-  flagged (codes "specific" ∷ codes "upper_limit" ∷ codes "can_read" ∷ codes "can_write" ∷ codes "can_execute" ∷ []) ws
-      (VmarAllocate name parent offset len
-      (record { 0 = bit (stands (codes "specific") ws) specific + bit (stands (codes "upper_limit") ws) upper_limit })
-      (record { 0 = bit (stands (codes "can_read") ws) read_right + bit (stands (codes "can_write") ws) write_right + bit (stands (codes "can_execute") ws) execute_right }))
-vmar_allocate _ = None
+vmar_allocate = arg region (λ name. arg region (λ parent. arg number (λ offset. arg number (λ len.
+    flags (codes "specific" ∷ codes "upper_limit" ∷ codes "can_read" ∷ codes "can_write" ∷ codes "can_execute" ∷ []) (λ has.
+    VmarAllocate name parent offset len
+    (record { 0 = bit (has (codes "specific")) specific + bit (has (codes "upper_limit")) upper_limit })
+    (record { 0 = bit (has (codes "can_read")) read_right + bit (has (codes "can_write")) write_right + bit (has (codes "can_execute")) execute_right }))))))
 
 -- `vmar_map REGION OFFSET VMO VMO_OFFSET LEN PERM [specific] [specific_overwrite] [upper_limit] [allow_faults]`
 abbrev pub vmar_map : List (List ℕ) → Option Command
-vmar_map (a ∷ b ∷ c ∷ d ∷ e ∷ f ∷ ws) = do
-  name ← region a
-  offset ← number b
-  source ← vmo c
-  vmo_offset ← number d
-  len ← number e
-  allowed ← perm f
-  flagged (codes "specific" ∷ codes "specific_overwrite" ∷ codes "upper_limit" ∷ codes "allow_faults" ∷ []) ws
-      (VmarMap name offset source vmo_offset len allowed
-      (record { 0 = bit (stands (codes "specific") ws) specific + bit (stands (codes "specific_overwrite") ws) overwrite + bit (stands (codes "upper_limit") ws) upper_limit + bit (stands (codes "allow_faults") ws) allow_faults }))
-vmar_map _ = None
+vmar_map = arg region (λ name. arg number (λ offset. arg vmo (λ source. arg number (λ start. arg number (λ len. arg perm (λ allowed.
+    flags (codes "specific" ∷ codes "specific_overwrite" ∷ codes "upper_limit" ∷ codes "allow_faults" ∷ []) (λ has.
+    VmarMap name offset source start len allowed
+    (record { 0 = bit (has (codes "specific")) specific + bit (has (codes "specific_overwrite")) overwrite + bit (has (codes "upper_limit")) upper_limit + bit (has (codes "allow_faults")) allow_faults }))))))))
 
 -- `vmar_protect REGION ADDR LEN PERM`
 abbrev pub vmar_protect : List (List ℕ) → Option Command
-vmar_protect (a ∷ b ∷ c ∷ d ∷ []) = do
-  name ← region a
-  addr ← number b
-  len ← number c
-  allowed ← perm d
-  Some (VmarProtect name addr len allowed)
-vmar_protect _ = None
+vmar_protect = arg region (λ name. arg number (λ addr. arg number (λ len. arg perm (λ allowed. end (VmarProtect name addr len allowed)))))
 
 -- `mem_write REGION ADDR DATA`
 abbrev pub mem_write : List (List ℕ) → Option Command
-mem_write (a ∷ b ∷ c ∷ []) = do
-  name ← region a
-  addr ← number b
-  bytes ← byte_data c
-  Some (MemWrite name addr bytes)
-mem_write _ = None
-
--- `stat`
-abbrev pub stat : List (List ℕ) → Option Command
-stat [] = Some Stat
-stat _ = None
+mem_write = arg region (λ name. arg number (λ addr. arg byte_data (λ bytes. end (MemWrite name addr bytes))))
 
 -- the first of these readings that has the command word, on the arguments
 abbrev pub by_word : List (List ℕ × (List (List ℕ) → Option Command)) → List ℕ → List (List ℕ) → Option Command
@@ -318,28 +240,28 @@ abbrev pub commands : List (List ℕ × (List (List ℕ) → Option Command))
 commands =
     (codes "vmo_create", vmo_create)
     ∷ (codes "vmo_create_child", vmo_create_child)
-    ∷ (codes "vmo_close", of_vmo VmoClose)
-    ∷ (codes "vmo_size", of_vmo VmoSize)
+    ∷ (codes "vmo_close", named vmo VmoClose)
+    ∷ (codes "vmo_size", named vmo VmoSize)
     ∷ (codes "vmo_set_size", vmo_set_size)
-    ∷ (codes "vmo_read", of_vmo_range VmoRead)
+    ∷ (codes "vmo_read", ranged vmo VmoRead)
     ∷ (codes "vmo_write", vmo_write)
     ∷ (codes "vmo_fill", vmo_fill)
-    ∷ (codes "vmo_commit", of_vmo_range VmoCommit)
-    ∷ (codes "vmo_decommit", of_vmo_range VmoDecommit)
-    ∷ (codes "vmo_zero", of_vmo_range VmoZero)
+    ∷ (codes "vmo_commit", ranged vmo VmoCommit)
+    ∷ (codes "vmo_decommit", ranged vmo VmoDecommit)
+    ∷ (codes "vmo_zero", ranged vmo VmoZero)
     ∷ (codes "vmo_pin", vmo_pin)
-    ∷ (codes "vmo_unpin", vmo_unpin)
-    ∷ (codes "vmo_info", of_vmo VmoInfo)
-    ∷ (codes "root_create", of_region RootCreate)
+    ∷ (codes "vmo_unpin", named pin VmoUnpin)
+    ∷ (codes "vmo_info", named vmo VmoInfo)
+    ∷ (codes "root_create", named region RootCreate)
     ∷ (codes "vmar_allocate", vmar_allocate)
     ∷ (codes "vmar_map", vmar_map)
-    ∷ (codes "vmar_unmap", of_region_range VmarUnmap)
+    ∷ (codes "vmar_unmap", ranged region VmarUnmap)
     ∷ (codes "vmar_protect", vmar_protect)
-    ∷ (codes "vmar_destroy", of_region VmarDestroy)
-    ∷ (codes "maps", of_region Maps)
-    ∷ (codes "mem_read", of_region_range MemRead)
+    ∷ (codes "vmar_destroy", named region VmarDestroy)
+    ∷ (codes "maps", named region Maps)
+    ∷ (codes "mem_read", ranged region MemRead)
     ∷ (codes "mem_write", mem_write)
-    ∷ (codes "stat", stat)
+    ∷ (codes "stat", end Stat)
     ∷ []
 
 -- a command word and its arguments
