@@ -1,9 +1,9 @@
 -- The table of digit values, and the byte of two digits by it.
-use Rattle.std.proofs.Common.{◌≡◌, ℕ, zero, suc, ◌+◌, ◌*◌, ◌<◌, ◌≤◌, List, [], ◌∷◌, length, get_or, false, Option, Some, None, Ok, is_ok, unwrap_or, IfSome, refl, ap, ◌∙◌, Result, Err, take, drop, slice_index, arith}
+use Rattle.std.proofs.Common.{◌≡◌, ℕ, zero, suc, ◌+◌, ◌*◌, ◌/◌, ◌%◌, ◌<◌, ◌≤◌, List, [], ◌∷◌, length, get_or, false, Option, Some, None, Ok, is_ok, unwrap_or, IfSome, refl, ap, ◌∙◌, Result, Err, take, drop, slice_index, codes, arith}
 use Rattle.std.proofs.lemmas.Bool.Decides.{nat_tests}
 use Rattle.hex.proofs.Pairs.{prepend, decode_err}
 use Rattle.hex.specs.declared.error.FromHexError.{FromHexError}
-use Rattle.hex.specs.Hex.{decode_pairs, hex_digit_value, digit_or_error, pair_value, ◌>>=◌}
+use Rattle.hex.specs.Hex.{decode_pairs, lower_digits, hex_digit_value, digit_or_error, pair_value, ◌>>=◌}
 
 -- what the table holds for a byte
 abbrev pub digit_value : ℕ → ℕ
@@ -84,3 +84,44 @@ pub decode-refused : (s out : List ℕ) (i : ℕ) → 2 * i + 1 < length s
     → decode_pairs 0 s ≡ prepend (take i out) (decode_pairs (2 * i) (drop (2 * i) s))
     → is_ok (decode_pairs 0 s) ≡ false
 decode-refused s out i within bad inv = refused-by s out i _ within refl bad inv
+
+-- ---- the digits of a byte
+
+-- the digits of n bytes from c on
+pairs_from : ℕ → ℕ → List ℕ
+pairs_from c zero = []
+pairs_from c (suc n) = slice_index lower_digits (c / 16) ∷ slice_index lower_digits (c % 16) ∷ pairs_from (c + 1) n
+
+pairs_from-at : (n c i : ℕ) → i < n
+    → (get_or (pairs_from c n) (2 * i) 0 ≡ slice_index lower_digits ((c + i) / 16))
+    × (get_or (pairs_from c n) (2 * i + 1) 0 ≡ slice_index lower_digits ((c + i) % 16))
+unfolding pairs_from
+pairs_from-at zero c i within = absurd (omega (arith, within))
+pairs_from-at (suc n) c zero within =
+    let same : c ≡ c + 0 = omega arith in
+    (ap (λ (k : ℕ). slice_index lower_digits (k / 16)) same, ap (λ (k : ℕ). slice_index lower_digits (k % 16)) same)
+pairs_from-at (suc n) c (suc i) within =
+    let next : c + 1 + i ≡ c + suc i = omega arith in
+    let rest = pairs_from-at n (c + 1) i (omega (arith, within)) in
+    let even : 2 * suc i ≡ suc (suc (2 * i)) = omega arith in
+    let odd : 2 * suc i + 1 ≡ suc (suc (2 * i + 1)) = omega arith in (
+      ap (λ (k : ℕ). get_or (pairs_from c (suc n)) k 0) even ∙ rest.0 ∙ ap (λ (k : ℕ). slice_index lower_digits (k / 16)) next,
+      ap (λ (k : ℕ). get_or (pairs_from c (suc n)) k 0) odd ∙ rest.1 ∙ ap (λ (k : ℕ). slice_index lower_digits (k % 16)) next,
+    )
+
+abbrev pub pairs : List ℕ
+pairs = codes "000102030405060708090a0b0c0d0e0f101112131415161718191a1b1c1d1e1f202122232425262728292a2b2c2d2e2f303132333435363738393a3b3c3d3e3f404142434445464748494a4b4c4d4e4f505152535455565758595a5b5c5d5e5f606162636465666768696a6b6c6d6e6f707172737475767778797a7b7c7d7e7f808182838485868788898a8b8c8d8e8f909192939495969798999a9b9c9d9e9fa0a1a2a3a4a5a6a7a8a9aaabacadaeafb0b1b2b3b4b5b6b7b8b9babbbcbdbebfc0c1c2c3c4c5c6c7c8c9cacbcccdcecfd0d1d2d3d4d5d6d7d8d9dadbdcdddedfe0e1e2e3e4e5e6e7e8e9eaebecedeeeff0f1f2f3f4f5f6f7f8f9fafbfcfdfeff"
+
+pairs-digits : pairs ≡ pairs_from 0 256
+unfolding pairs_from
+pairs-digits = refl
+
+-- the digits that stand for a byte
+pub pairs-at : (b : ℕ) → b < 256
+    → (get_or pairs (2 * b) 0 ≡ slice_index lower_digits (b / 16)) × (get_or pairs (2 * b + 1) 0 ≡ slice_index lower_digits (b % 16))
+pairs-at b within =
+    let same : 0 + b ≡ b = omega arith in
+    let at = pairs_from-at 256 0 b within in (
+      ap (λ (l : List ℕ). get_or l (2 * b) 0) pairs-digits ∙ at.0 ∙ ap (λ (k : ℕ). slice_index lower_digits (k / 16)) same,
+      ap (λ (l : List ℕ). get_or l (2 * b + 1) 0) pairs-digits ∙ at.1 ∙ ap (λ (k : ℕ). slice_index lower_digits (k % 16)) same,
+    )

@@ -1,6 +1,6 @@
 //! The words that commands and replies have in common, as text: numbers in decimal, byte data and permissions.
 //!
-//! It stands on `vm_base` for sets of permissions, on `vm_model` for the definitions of the texts, on `hex` for byte
+//! It stands on `vm_base` for sets of permissions, on `vm_model` for the definitions of the texts, on `hex_digits` for byte
 //! data, on `itoa` for numbers, and on `bitflags` for the bits of a set. It takes no memory, and the layers above may
 //! use all of it.
 //!

@@ -86,10 +86,8 @@ pub fn put_data(bytes: &[u8], out: &mut [u8], at: usize) -> usize
     }
     let at = put(b" ", out, at);
     let end = at + 2 * bytes.len();
-    match hex::encode_to_slice(bytes, &mut out[at..end]) {
-        Ok(()) => end,
-        Err(_) => unreachable!(),
-    }
+    hex_digits::encode_to_slice(bytes, &mut out[at..end]);
+    end
 }
 
 /// Writes the letters of a permission's named bits behind a space, or `none` if it has none.

@@ -1,0 +1,11 @@
+use Rattle.std.proofs.Common.{arith}
+use Rattle.hex.proofs.Pairs.{encode_step, encode_done}
+use Rattle.hex.specs.Hex.{lower_digits}
+use Rattle.hex_digits.proofs.encode_to_slice.Goals as goal
+
+pub bytes-preserved : goal.bytes-preserved
+bytes-preserved c =
+    encode_step lower_digits c.args.bytes.now c.bytes.out c.bytes.i _ _ (omega arith) (omega arith) c.digits_of-high.ensures.high c.digits_of-high.ensures.low c.bytes.invariant
+
+pub returns : goal.returns
+returns c = encode_done _ _ _ c.bytes.i (omega arith) (omega arith) c.bytes.invariant
