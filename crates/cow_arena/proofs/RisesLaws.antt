@@ -69,6 +69,24 @@ rises-moved t u k i p side h q steps side_is reaches rises = record {
 pub above-hidden : (t : Tree) → IsForest t.nodes t.lists → (k p h q : ℕ) → IsPageAbove t k p h q → (above : Node) × (t.nodes h ≡ Some above) × (above.koid ≡ None)
 above-hidden t f k p h q step = let below = f.by.below h k step.node step.at step.parent in (below.above, below.at, below.hidden)
 
+-- Rows go, and no page gets one that had none.
+module _ (t : Tree) (slots : Slots) (fewer : (l q : ℕ) → t.slots l q ≡ None → slots l q ≡ None) where
+  abbrev with_fewer : Tree
+  with_fewer = record { nodes = t.nodes; slots = slots; lists = t.lists }
+
+  climbs-fewer : (k p h q : ℕ) → Climbs t k p h q → Climbs with_fewer k p h q
+  climbs-fewer k p h q c = climbs-bare slots c (fewer c.node.list.0 p c.free)
+
+  reach-fewer : (k p : ℕ) (side : Side) (h q : ℕ) → Reaches t k p side h q → Reaches with_fewer k p side h q
+  reach-fewer k p side h q way = reach-each t side h q (λ k p. Reaches with_fewer k p side h q)
+      (λ k p c is. reach-one with_fewer k p side h q (climbs-fewer k p h q c) is)
+      (λ k p j r c _ ih. reach-more with_fewer k p j r side h q (climbs-fewer k p j r c) ih) k p way
+
+  pub rises-fewer : (k p : ℕ) (side : Side) (h q : ℕ) → Rises t k p side h q → Rises with_fewer k p side h q
+  rises-fewer k p side h q = rises-moved t with_fewer k k p side h q
+      (λ j r step. record { node = step.node; at = step.at; inside = step.inside; parent = step.parent; page = step.page }) refl
+      (λ j r step way. reach-fewer j r side h q way)
+
 -- Rows go, and the visible node v gets some.
 module _ (t : Tree) (f : IsForest t.nodes t.lists) (slots : Slots) (v : ℕ) (leaf : Node) (visible : IsVisible t.nodes v leaf)
     (keeps : KeepsBare t.slots slots leaf.list.0) where

@@ -1,6 +1,6 @@
 //! The arena of nodes.
 
-ghost use Rattle.std.specs.Prelude.{◌≡◌, ◌≢◌, ℕ, ◌+◌, ◌≤◌, ◌<◌, ◌^◌, None, Some, is_none, IsSome, IfSome, IsSomeAnd, IfOk, OnOk, OnErr};
+ghost use Rattle.std.specs.Prelude.{◌≡◌, ◌≢◌, ℕ, ◌+◌, ◌≤◌, ◌<◌, ◌^◌, None, Some, is_none, is_some, IsSome, IfSome, IsSomeAnd, IfOk, OnOk, OnErr};
 ghost use Rattle.slab.specs.Slab.{get, ContainsKey, HasRoomFor};
 ghost use Rattle.vm_base.specs.Entries.{with_key, without_key};
 ghost use Rattle.cow_arena.specs.declared.node.Node.{Node};
@@ -162,6 +162,13 @@ impl CowArena {
         ensures below { (k : ℕ) → IsSome (nodes_of self.now k) → k < result }
     {
         self.nodes.capacity()
+    }
+
+    /// Returns whether there is a node with this number.
+    pub fn has(&self, at: NodeId) -> bool
+        ensures { result ≡ is_some (nodes_of self.now at.0) }
+    {
+        self.nodes.contains(at.0)
     }
 
     /// Returns a copy of a node. The function is inlined, so that a caller reads no more of the node than it asks for.

@@ -26,3 +26,4 @@ pub mod RangeLaws
 pub mod RisingLaws
 pub mod ZeroedLaws
 pub mod ReachedLaws
+pub mod SweptLaws

@@ -5,7 +5,8 @@ use Rattle.cow_forest.proofs.Words.{IsVisible, side_in, Tree, walk, frame_shown,
 use Rattle.cow_forest.proofs.Words.{HasNone, IsFirstOrNone, has_row, shows_frame, none_is, is_some, nearer_page}
 use Rattle.cow_arena.proofs.WalkLaws.{walk-past, walk-up}
 use Rattle.cow_split.proofs.CostLaws.{parent-there}
-use Rattle.cow_merge.proofs.PassingLaws.{frame-from, up-less}
+use Rattle.cow_split.proofs.ZeroRowLaws.{frame-from}
+use Rattle.cow_merge.proofs.PassingLaws.{up-less}
 use Rattle.cow_forest.proofs.LookLaws.{page-past}
 
 -- ---- one node

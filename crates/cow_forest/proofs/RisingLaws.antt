@@ -8,7 +8,8 @@ use Rattle.cow_arena.proofs.WalkLaws.{walk-own, walk-past, walk-up}
 use Rattle.cow_arena.proofs.ReachLaws.{walk-ends, hidden-apart}
 use Rattle.cow_split.proofs.RowLaws.{frame-shown}
 use Rattle.cow_split.proofs.CostLaws.{parent-there}
-use Rattle.cow_merge.proofs.PassingLaws.{frame-from, up-less}
+use Rattle.cow_split.proofs.ZeroRowLaws.{frame-from}
+use Rattle.cow_merge.proofs.PassingLaws.{up-less}
 use Rattle.cow_fork.proofs.ZeroLaws.{zeroed-none}
 use Rattle.cow_forest.proofs.LookLaws.{none-from}
 use Rattle.cow_forest.proofs.RangeLaws.{rows-less, page-on, zeroed-then, ready-page, ready-on}

@@ -77,6 +77,7 @@ pub use Rattle.cow_fork.specs.Frames.{bytes_shown, HasFree, HasSole, IsSole}
 pub use Rattle.cow_fork.specs.Sharing.{HasShared}
 pub use Rattle.cow_fork.specs.Snapshots.{is_taken_in, split_row}
 unfoldable pub use Rattle.cow_fork.specs.Snapshots.{split_slots}
+pub use Rattle.cow_fork.specs.Sweeping.{HasSwept}
 pub use Rattle.cow_fork.specs.Zeroing.{HasZeroed}
 unfoldable pub use Rattle.cow_fork.specs.Zeroing.{shown_from}
 pub use Rattle.cow_merge.specs.Merging.{HasGone, HasListOfParent, IsRaised, KeepsPages, WasUnder, with_count}

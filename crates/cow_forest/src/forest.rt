@@ -25,6 +25,7 @@ use crate::looking::{look_at, look_at_counted, next_shown, shown_frame, shows};
 use crate::node_table::NodeTable;
 use crate::owning::own_page;
 use crate::ranges::{PageRun, zero_in_turn, zero_pages};
+use crate::sweeps::{Sweeps, sweep_when_due};
 use crate::tables::{disown, leave_other, make_room, renew_merged};
 use crate::viewing::{elder_for, least_koid_of, lesser_koid_of, viewer_count_of};
 use cow_arena::{CowArena, NodeId};
@@ -58,6 +59,8 @@ pub struct CowForest {
     jumps: JumpTable,
     /// The founders of the hidden nodes. Contracts do not see them.
     founders: FounderTable,
+    /// When the rows that hide no frame are looked for. Contracts do not see it.
+    sweeps: Sweeps,
 }
 
 impl Model for CowForest {
@@ -85,6 +88,7 @@ impl Drop for CowForest {
             vmos: _,
             jumps,
             founders,
+            sweeps: _,
         } = self;
         drop(arena);
         drop(lists);
@@ -111,6 +115,10 @@ impl CowForest {
             vmos: 0,
             jumps: JumpTable::new(alloc),
             founders: FounderTable::new(alloc),
+            sweeps: Sweeps {
+                changes: 0,
+                limit: 0,
+            },
         }
     }
 
@@ -213,6 +221,7 @@ impl CowForest {
     {
         let node = self.nodes.get(v.0);
         let end = first + count;
+        let rows = self.lists.rows();
         zero_pages(
             &self.arena,
             &mut self.lists,
@@ -223,6 +232,7 @@ impl CowForest {
             end,
             steps,
         );
+        self.sweeps.note(rows, &self.lists);
     }
 }
 
@@ -316,6 +326,7 @@ impl PageStore for CowForest {
 
     #[inline(always)]
     fn reserve(&mut self, n: u64) -> Result<(), HostMemory> {
+        sweep_when_due(&self.arena, &mut self.lists, &self.jumps, &mut self.sweeps);
         self.lists.reserve(n)
     }
 
@@ -370,6 +381,7 @@ impl PageStore for CowForest {
         ensures rows { (forest_content self.old).page v.0 page ≡ None → row_count self.new.rows ≡ row_count self.old.rows }
     {
         let node = self.nodes.get(v.0);
+        let rows = self.lists.rows();
         zero_by_jumps(
             &self.arena,
             &mut self.lists,
@@ -378,10 +390,12 @@ impl PageStore for CowForest {
             node,
             page,
         );
+        self.sweeps.note(rows, &self.lists);
     }
 
     fn zero_pages(&mut self, v: Koid, first: PageNo, end: PageNo) {
         let node = self.nodes.get(v.0);
+        let rows = self.lists.rows();
         zero_in_turn(
             &self.arena,
             &mut self.lists,
@@ -394,6 +408,7 @@ impl PageStore for CowForest {
                 in_row: true,
             },
         );
+        self.sweeps.note(rows, &self.lists);
     }
 
     fn count(&self, v: Koid) -> PageNo {
@@ -408,6 +423,7 @@ impl PageStore for CowForest {
     {
         let node = self.nodes.get(v.0);
         if count < self.arena.node(node).count {
+            let rows = self.lists.rows();
             shrink_by_jumps(
                 &mut self.arena,
                 &mut self.lists,
@@ -416,6 +432,7 @@ impl PageStore for CowForest {
                 node,
                 count,
             );
+            self.sweeps.note(rows, &self.lists);
         } else {
             self.arena.set_count(node, count);
         }
@@ -427,6 +444,7 @@ impl PageStore for CowForest {
         ensures rows { row_count self.new.rows ≤ row_count self.old.rows }
     {
         let node = self.nodes.get(v.0);
+        let rows = self.lists.rows();
         retire_pair(&mut self.jumps, &self.arena, node);
         let merged = disown(&mut self.owners, &self.arena, node);
         close_by_jumps(
@@ -438,6 +456,7 @@ impl PageStore for CowForest {
         );
         leave_other(&mut self.owners, &self.arena, merged);
         renew_merged(&mut self.jumps, &self.arena, &self.lists, merged);
+        self.sweeps.note(rows, &self.lists);
         self.nodes.leave(v.0);
         self.vmos -= 1;
     }

@@ -12,6 +12,7 @@ mod looking;
 mod node_table;
 mod owning;
 mod ranges;
+mod sweeps;
 mod tables;
 mod viewing;
 

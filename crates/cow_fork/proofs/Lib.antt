@@ -9,3 +9,4 @@ pub mod SnapshotLaws
 pub mod BitLaws
 pub mod ShareLaws
 pub mod RootLaws
+pub mod SweepLaws

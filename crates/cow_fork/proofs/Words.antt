@@ -1,5 +1,5 @@
 -- What the proofs of this crate cite of the libraries below and of the definitions of the tree.
-pub use Rattle.std.proofs.Common.{◌+◌, ◌-◌, ◌<◌, ap, arith, Bool, cond, false, inl, inr, is_some, IsSome, List, None, Option, refl, Some}
+pub use Rattle.std.proofs.Common.{◌+◌, ◌-◌, ◌<◌, ◌^◌, ap, arith, Bool, cond, false, inl, inr, is_some, IsSome, List, None, Option, refl, Some}
 pub use Rattle.std.proofs.Common.{subst, sym, true, ℕ, ◌↔◌, ◌∙◌, ◌≡◌, ◌≢◌, ◌≤◌, ◌⊎◌}
 pub use Rattle.std.proofs.lemmas.Bool.{and_from, and_parts, both_ways, cases_Bool, cases_eq, cases_lt, cond-false, cond-true, eq-eqb}
 pub use Rattle.std.proofs.lemmas.Bool.{false_from_ne_true, le-leb, leb-true, lt-ltb, ltb-true, not-false, not-true}
@@ -12,6 +12,7 @@ pub use Rattle.vm_base.specs.Entries.{with_key, without_key}
 pub use Rattle.vm_base.specs.Search.{HasNone}
 pub use Rattle.vm_base.specs.declared.names.Koid.{Koid}
 pub use Rattle.vm_base.specs.declared.names.Tag.{Tag}
+pub use Rattle.balanced_tree.specs.Pairs.{IsNext}
 unfoldable pub use Rattle.balanced_tree.specs.Pairs.{with_pair}
 pub use Rattle.balanced_tree.specs.Rows.{Rows}
 pub use Rattle.page_list.specs.Lists.{has_row, row_count, slots_of}
@@ -37,5 +38,6 @@ pub use Rattle.cow_split.specs.declared.answers.Holder.{Holder}
 pub use Rattle.cow_fork.specs.Frames.{bytes_shown, GivesSole, HasFree, HasSole, IsSole, LeavesFrame}
 pub use Rattle.cow_fork.specs.Snapshots.{ArePlain, hidden_row, is_taken_in, split_row}
 unfoldable pub use Rattle.cow_fork.specs.Snapshots.{hidden_slots, split_slots}
+pub use Rattle.cow_fork.specs.Sweeping.{AreNeededIn, HasSwept, IsSwept}
 pub use Rattle.cow_fork.specs.Zeroing.{HasZeroed, IsNeeded}
 unfoldable pub use Rattle.cow_fork.specs.Zeroing.{shown_from}

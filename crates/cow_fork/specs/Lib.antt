@@ -3,3 +3,4 @@ pub mod Forking
 pub mod Zeroing
 pub mod Snapshots
 pub mod Sharing
+pub mod Sweeping

@@ -181,7 +181,7 @@ fn cut_shown(
 }
 
 /// Returns whether a page shows a frame.
-fn has_frame(found: Holder) -> bool
+pub(crate) fn has_frame(found: Holder) -> bool
     ensures { result ≡ is_some (frame_held found) }
 {
     found.frame().is_some()

@@ -2,7 +2,7 @@
 use Rattle.cow_jump.proofs.Words.{◌≡◌, ◌+◌, ℕ, Option, None, Some, sym, subst, ◌∙◌, arith, inl, inr, ◌<◌, Nodes, IsVisible, Tree, Slots}
 use Rattle.cow_jump.proofs.Words.{KeepsBare, IsPartOf, serial_in, IsCurrentJump, IsJump, AreJumps, MayJump, ArePairRetired, Node, IsForest}
 use Rattle.cow_jump.proofs.Words.{Jump, JumpTable}
-use Rattle.cow_arena.proofs.RisesLaws.{rises-bare}
+use Rattle.cow_arena.proofs.RisesLaws.{rises-bare, rises-fewer}
 use Rattle.cow_split.proofs.PartLaws.{bare-part}
 use Rattle.cow_jump.proofs.JumpLaws.{jump-carried}
 
@@ -33,6 +33,16 @@ may-jump_bare t f slots v leaf visible keeps (Some table) can = (can.0, jumps-ba
 pub may-jump_part : (t : Tree) (f : IsForest t.nodes t.lists) (slots : Slots) (v : ℕ) (leaf : Node) (visible : IsVisible t.nodes v leaf) →
     IsPartOf t.slots slots → (jumps : Option JumpTable) → MayJump t jumps → MayJump (record { nodes = t.nodes; slots = slots; lists = t.lists }) jumps
 may-jump_part t f slots v leaf visible part = may-jump_bare t f slots v leaf visible (bare-part t.slots slots leaf.list.0 part)
+
+-- no page got a row that had none
+pub jumps-fewer : (t : Tree) (slots : Slots) → ((l q : ℕ) → t.slots l q ≡ None → slots l q ≡ None) → (next : ℕ) (table : JumpTable) → AreJumps t next table →
+    AreJumps (record { nodes = t.nodes; slots = slots; lists = t.lists }) next table
+jumps-fewer t slots fewer next table are = record {
+  jumps = λ k jump has taken. jump-carried t _ k k jump (λ node at. (node, at, omega arith)) (λ some. some)
+      (λ p node at inside. rises-fewer t slots fewer k p jump.side jump.to.0 (p + jump.shift)) (are.jumps k jump has taken);
+  made = are.made;
+  serials = are.serials;
+}
 
 -- ---- two nodes lose their serial numbers
 

@@ -5,7 +5,7 @@ use Rattle.cow_merge.proofs.Words.{IsSome, IsSomeAnd, refl, sym, ap, subst, ◌�
 use Rattle.cow_merge.proofs.Words.{IfNone, cases_Bool, cases_eq, cases_lt, and_from, le-leb, lt-ltb, Rows, Tag, none_is, some_same, eqb_same}
 use Rattle.cow_merge.proofs.Words.{HasNone, IsFirst, IsFirstOrNone, has_row}
 use Rattle.cow_merge.proofs.Words.{Row, Slot, slots_of, Pool, is_taken, Node, NodeId, Side, Arena, Nodes, nodes_of, IsVisible, link_to}
-use Rattle.cow_merge.proofs.Words.{Slots, Tree, tree_with, Found, walk, frame_in, frame_found, frame_shown, from_side, IsForest, Climbs}
+use Rattle.cow_merge.proofs.Words.{Slots, Tree, tree_with, walk, frame_in, frame_found, frame_shown, IsForest, Climbs}
 use Rattle.cow_merge.proofs.Words.{Arrives, IsPartOf, tree_of, nodes_up, IsPage, Sees, IsExact, IsOnlyOf, all_in_sight, Pages}
 use Rattle.cow_merge.proofs.Words.{leaving_range, HasCutOff, IsLeftBare, CameTo, IsHeldBy, IsSpared, IsParent, ComesNotTo, IsPassing}
 use Rattle.cow_merge.proofs.Words.{IsSparing, IsLeftOut, IsOutside, no_pages, IsNextOutside, Moves}
@@ -15,13 +15,9 @@ use Rattle.cow_split.proofs.CostLaws.{depth-up, depth-some}
 use Rattle.cow_split.proofs.ExactLaws.{exact-seen_alike, seen-carried}
 use Rattle.cow_split.proofs.RowLaws.{frame-shown}
 use Rattle.cow_split.proofs.PartLaws.{part-same, part-none}
+use Rattle.cow_split.proofs.ZeroRowLaws.{frame-from}
 use Rattle.cow_merge.proofs.CountLaws.{outside-other, outside-before}
 use Rattle.cow_merge.proofs.RangeLaws.{arrives-part, cut-was, cut-here, cut-lost, bare-cut}
-
--- what was found from a side has its frame
-pub frame-from : (side : Option Side) (o : Option Found) → frame_found (from_side side o) ≡ frame_found o
-frame-from side None = refl
-frame-from side (Some it) = refl
 
 module _ (t : Tree) (f : IsForest t.nodes t.lists) (v q : ℕ) (skip : Pages) (h list shift to upto tag : ℕ) (shown : frame_shown t v q ≡ Some tag)
     (came : CameTo t v q skip h list shift to upto) where

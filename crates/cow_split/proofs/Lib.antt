@@ -19,3 +19,4 @@ pub mod HolderLaws
 pub mod CutRowLaws
 pub mod NodeLaws
 pub mod RenamedExactLaws
+pub mod ZeroRowLaws

@@ -84,7 +84,7 @@ module _ (t : Tree) (out : ℕ → ℕ → Bool) (in_use : ℕ → Bool) (v p : 
 
 module _ (t : Tree) (out : ℕ → ℕ → Bool) (in_use : ℕ → Bool) (v p : ℕ) (nothing : ShowsNothing t v p) where
   -- whoever sees a frame row does it by another page
-  sees-other : IsForest t.nodes t.lists → (w q : ℕ) (side : Option Side) (k r : ℕ) (node : Node) (tag : Tag) (left right : Bool) →
+  pub sees-other : IsForest t.nodes t.lists → (w q : ℕ) (side : Option Side) (k r : ℕ) (node : Node) (tag : Tag) (left right : Bool) →
       t.nodes k ≡ Some node → t.slots node.list.0 r ≡ Some (Slot.Frame tag left right) → Sees t w q side k r → (w ≡ v) × (q ≡ p) → ⊥
   sees-other forest w q side k r node tag left right at row sees both =
       let ends = walk-ends t forest w q _ sees.found in

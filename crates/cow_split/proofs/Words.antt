@@ -31,7 +31,8 @@ pub use Rattle.cow_arena.specs.Nodes.{Arena, child_on, IsVisible, leads_to, link
 pub use Rattle.cow_arena.specs.Nodes.{sibling_in, side_in, side_of}
 pub use Rattle.cow_arena.specs.Renamed.{IsExchange, renamed, renamed_node}
 pub use Rattle.cow_arena.specs.Walk.{Found, frame_found, frame_in, frame_shown, from_side, Slots, Tree, tree_with, walk}
-pub use Rattle.cow_arena.specs.Ways.{Arrives, Climbs, HadRow, HasRow, IsPartOf, KeepsBare, Reaches, SameFrames}
+pub use Rattle.cow_arena.specs.Ways.{absent_node, Arrives, Climbs, HadRow, HasRow, IsPageAbove, IsPartOf, KeepsBare, on_upwards, own_row}
+pub use Rattle.cow_arena.specs.Ways.{past_window, Reaches, SameFrames}
 pub use Rattle.cow_arena.specs.declared.node.Node.{Node}
 pub use Rattle.cow_arena.specs.declared.node.NodeId.{NodeId}
 pub use Rattle.cow_arena.specs.declared.node.Side.{Side}
