@@ -3,7 +3,7 @@ use Rattle.cow_merge.proofs.Words.{◌≡◌, ◌≢◌, ℕ, ◌+◌, ◌-◌, 
 use Rattle.cow_merge.proofs.Words.{ap, subst, ◌∙◌, arith, is_some, cases_eq, cases_lt, Rows, HasNone, IsFirst, has_row, none_is, Koid, some_same, Row, Slot, slots_of}
 use Rattle.cow_merge.proofs.Words.{Pool, is_taken, Node, NodeId, Side, Arena, nodes_of, link_to, other_side, side_of, side_in, child_on}
 use Rattle.cow_merge.proofs.Words.{IsForest, HasPair, Tree, walk, frame_shown, HasRow, Climbs, Reaches, Arrives, IsPartOf, Holder, tree_of}
-use Rattle.cow_merge.proofs.Words.{holder_of, IsPage, IsExact, Way, IsFamilyOf, no_pages, CameTo, IsPassing, IsOnlyWay, HasCutOff}
+use Rattle.cow_merge.proofs.Words.{holder_of, IsPage, IsExact, Way, IsFamilyOf, no_pages, Pages, CameTo, IsPassing, IsOnlyWay, HasCutOff}
 use Rattle.cow_merge.proofs.Words.{ComesNotTo, IsExactFor, Moves, IsWayWithin, IsEntered, ComesBeside, IsBeside, SeesRowOf, ShowsOnlyOf}
 use Rattle.cow_arena.proofs.ReachLaws.{reach-apart, reach-deeper, reach-once, reach-hidden, side-is, arrives-on}
 use Rattle.cow_split.proofs.CutLaws.{cut-nothing}
@@ -82,6 +82,27 @@ beside-bare {arena} {new} {after} {v} {first} {spared} {h} {above} {base} {to} {
 
 -- ---- a row on the way
 
+-- a page that sees a row of a node comes to no page of the node that has none
+pub not-seen : (arena : Arena) (rows : Rows Row) (f : IsForest (nodes_of arena) arena.lists) (v own : ℕ) (skip : Pages) (h : ℕ) (above : Node) (shift to : ℕ) →
+    nodes_of arena h ≡ Some above → (q : ℕ) → q ≡ own → CameTo (tree_of arena rows) v q skip h above.list.0 shift to to →
+    SeesRowOf (tree_of arena rows) v own h → ⊥
+not-seen arena rows f v own skip h above shift to at q is came sees =
+    by_side came.side (subst (λ x. Arrives t v x came.side h came.page) is came.way)
+  where
+    t : Tree
+    t = tree_of arena rows
+
+    by_side : (side : Option Side) → Arrives t v own side h came.page → ⊥
+    by_side None way =
+        absurd (omega (arith, reach-deeper t f v own sees.side h sees.page sees.way, ap f.rank way.0))
+    by_side (Some u) way =
+        let apart = (reach-apart t f v own u h came.page own sees.side sees.page way sees.way).0 in
+        let page : came.page ≡ sees.page = omega arith in
+        let node : sees.row.node ≡ above = some_same (sym sees.row.at ∙ at) in
+        let row : t.slots above.list.0 came.page ≡ Some sees.slot =
+        ap (t.slots above.list.0) page ∙ (ap (λ (n : Node). t.slots n.list.0 sees.page) (sym node) ∙ sees.row.row) in
+        absurd (let none = came.free came.below in cc)
+
 module _ {arena : Arena} {mid : Rows Row} (new : Rows Row) {between : Pool} (after : Pool) {v first : ℕ} {spared : Option NodeId} {h : ℕ} {above : Node}
     {base to : ℕ} {s : Side} {way : Way} {upto page : ℕ} (was : IsBeside arena mid between v first spared h above base to s way upto)
     (from : way.from ≤ upto) (next : IsFirst (has_row (slots_of mid was.place.node.list.0)) upto way.to page) where
@@ -102,27 +123,6 @@ module _ {arena : Arena} {mid : Rows Row} (new : Rows Row) {between : Pool} (aft
     ]
   ]
 
-  -- a page that sees a row of the parent does not come to a page of it that has none
-  not-seen : (q : ℕ) → q ≡ own → CameTo (tree_of arena mid) v q no_pages h above.list.0 base to to → SeesRowOf (tree_of arena mid) v own h → ⊥
-  not-seen q is came sees = by_side came.side (subst (λ x. Arrives t v x came.side h came.page) is came.way)
-    where
-      t : Tree
-      t = tree_of arena mid
-
-      f : IsForest (nodes_of arena) arena.lists
-      f = was.bare.has.exact.forest
-
-      by_side : (side : Option Side) → Arrives t v own side h came.page → ⊥
-      by_side None way =
-          absurd (omega (arith, reach-deeper t f v own sees.side h sees.page sees.way, ap f.rank way.0))
-      by_side (Some u) way =
-          let apart = (reach-apart t f v own u h came.page own sees.side sees.page way sees.way).0 in
-          let page : came.page ≡ sees.page = omega arith in
-          let node : sees.row.node ≡ above = some_same (sym sees.row.at ∙ was.at) in
-          let row : t.slots above.list.0 came.page ≡ Some sees.slot =
-          ap (t.slots above.list.0) page ∙ (ap (λ (n : Node). t.slots n.list.0 sees.page) (sym node) ∙ sees.row.row) in
-          absurd (let none = came.free came.below in cc)
-
   module _ (step : HasCutOff arena mid new between after v own (ShowsOnlyOf (tree_of arena mid) v own h) was.bare.has.out) where
     pub beside-lost : Moves arena mid new between after v first IsPartOf
     beside-lost = cut-lost step (omega (arith, low)) was.bare.has.only was.bare.within
@@ -141,7 +141,7 @@ module _ {arena : Arena} {mid : Rows Row} (new : Rows Row) {between : Pool} (aft
                 spared q tag was.parent (was.bare.bare q start) showed shown held)
             | inr it ↦
                 let apart : q ≢ own = λ same.
-                not-seen q same it.came (cut-here step q sight same tag (ap (frame_shown (tree_of arena mid) v) (sym same) ∙ showed)) in
+                not-seen arena mid was.bare.has.exact.forest v own no_pages h above base to was.at q same it.came (cut-here step q sight same tag (ap (frame_shown (tree_of arena mid) v) (sym same) ∙ showed)) in
                 inr (record {
                   came = came-on it.came step.part (λ less. part-none (slots_of mid) (slots_of new) step.part above.list.0 it.came.page (it.came.free less));
                   beside = λ p is start less.

@@ -13,6 +13,7 @@ pub mod SeenLaws
 pub mod UncoverLaws
 pub mod BesideLaws
 pub mod WitnessLaws
+pub mod FewLaws
 pub mod KeptWaysLaws
 pub mod JumpingLaws
 pub mod SharingLaws

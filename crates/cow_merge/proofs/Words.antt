@@ -61,4 +61,4 @@ pub use Rattle.cow_merge.specs.inside.Lifting.{AreLifted, is_row_of_frame, IsAsi
 pub use Rattle.cow_merge.specs.inside.Lifting.{SeesRow, TellsSeen}
 pub use Rattle.cow_merge.specs.inside.Sharing.{AreReached, AreShared, IsDown, IsReached}
 pub use Rattle.cow_merge.specs.inside.Uncovering.{IsUncovering, without_bits}
-pub use Rattle.cow_merge.specs.inside.Witness.{ComesBeside, IsBeside, IsEntered, IsWayWithin, SeesRowOf, ShowsOnlyOf}
+pub use Rattle.cow_merge.specs.inside.Witness.{ComesBeside, IsBeside, IsEntered, IsOneMore, IsWayWithin, SeesRowOf, ShowsOnlyOf}

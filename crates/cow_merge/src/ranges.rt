@@ -20,7 +20,7 @@ ghost use Rattle.cow_merge.specs.inside.Lifting.{IsFamilyOf};
 ghost use Rattle.cow_merge.specs.Ranges.{IsOutside, no_pages, IsNextOutside, bare_of, is_split, HasGiven, Moves, IsLeftBare, IsPassing, IsOnItsWayUp, IsSparing, IsOnlyWay, HasCutOff, ComesNotTo, IsLeftOut, IsExactFor};
 
 use crate::places::{Arrival, Family, Span};
-use crate::witness::leave_out_beside;
+use crate::witness::{Rest, cut_few, leave_out_beside};
 use cow_arena::{CowArena, NodeId, Side};
 use cow_jump::JumpTable;
 use cow_split::{Cut, RowAbove, cut_row};
@@ -137,7 +137,7 @@ fn leave_out_further(
     ensures lost { Moves arena.now lists.old lists.new frames.old frames.new family.leaf.0 span.first IsPartOf }
     ensures kept { (above : Node) → nodes_of arena.now family.hidden.0 ≡ Some above → slots_of lists.new above.list.0 ≡ slots_of lists.old above.list.0 }
 {
-    let skip = leave_out_beside(arena, lists, frames, jumps, family, span);
+    let beside = leave_out_beside(arena, lists, frames, jumps, family, span);
     let above = arena.node(family.hidden);
     let arrival = Arrival {
         leaf: family.leaf,
@@ -145,6 +145,8 @@ fn leave_out_further(
         node: above,
         side: above.side_of(family.leaf),
     };
+    let rest = Rest { span, skip: beside };
+    let skip = cut_few(arena, lists, frames, jumps, arrival, rest);
     cut_upwards(arena, lists, frames, arrival, span, skip);
 }
 

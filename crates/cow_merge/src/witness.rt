@@ -1,6 +1,6 @@
 //! Pages of a VMO's node that go out of sight at once, since another VMO, below the sibling, shows them too.
 
-ghost use Rattle.std.specs.Prelude.{◌≡◌, ◌+◌, ◌^◌, ◌<◌, ◌≤◌, ℕ, Bool, Option, None, Some, IsSome, IsSomeAnd, option_copied};
+ghost use Rattle.std.specs.Prelude.{◌≡◌, ◌+◌, ◌^◌, ◌<◌, ◌≤◌, ℕ, Bool, Option, None, Some, IsSome, IsSomeAnd, IfSome, option_copied};
 ghost use Rattle.page_list.specs.Lists.{slots_of};
 ghost use Rattle.cow_arena.specs.declared.node.Node.{Node};
 ghost use Rattle.cow_arena.specs.declared.node.NodeId.{NodeId};
@@ -13,10 +13,10 @@ ghost use Rattle.frame_pool.specs.Pool.{is_taken};
 ghost use Rattle.cow_jump.specs.Jumps.{MayJump};
 ghost use Rattle.cow_arena.specs.Ways.{IsPartOf};
 ghost use Rattle.cow_merge.specs.inside.Lifting.{IsFamilyOf};
-ghost use Rattle.cow_merge.specs.Ranges.{no_pages, Moves, IsPassing, IsOnItsWayUp, IsExactFor, HasCutOff};
-ghost use Rattle.cow_merge.specs.inside.Witness.{IsGoingDown, IsBeside, IsEntered, ShowsOnlyOf};
+ghost use Rattle.cow_merge.specs.Ranges.{IsOutside, no_pages, Moves, IsPassing, IsOnItsWayUp, IsExactFor, HasCutOff};
+ghost use Rattle.cow_merge.specs.inside.Witness.{IsGoingDown, IsBeside, IsEntered, IsOneMore, ShowsOnlyOf};
 
-use crate::places::{Family, Span, Window};
+use crate::places::{Arrival, Family, Span, Window};
 use crate::ranges::{Pages, cut_off, next_below};
 use cow_arena::{CowArena, NodeId};
 use cow_jump::{JumpTable, above_with};
@@ -29,6 +29,9 @@ use vm_base::PageNo;
 /// from the rows above one by one, which is slower.
 pub(crate) const MOST_NODES: u64 = 64;
 
+/// The most pages without a witness that are cut off one by one. More pages are cut off on one way over all nodes above.
+pub(crate) const FEW_PAGES: u64 = 4;
+
 /// The way down from the sibling, as far as it has come. The pages `from` to below `to` of node `at` lie in its window.
 /// They come to the pages of the leaf's parent that are `shift` pages further on, past no row above the node.
 #[derive(Clone, Copy)]
@@ -37,6 +40,13 @@ pub(crate) struct Way {
     pub(crate) shift: PageNo,
     pub(crate) from: PageNo,
     pub(crate) to: PageNo,
+}
+
+/// What is left of the pages of a VMO's node: those of the span that are not passed over.
+#[derive(Clone, Copy)]
+pub(crate) struct Rest {
+    pub(crate) span: Span,
+    pub(crate) skip: Pages,
 }
 
 /// Leaves pages of a VMO's node out of sight that another VMO shows too, and answers these pages. Afterwards they show
@@ -187,6 +197,94 @@ fn cut_under(
         cut_page(arena, lists, frames, jumps, window, own);
         from = page + 1;
     }
+}
+
+/// Cuts pages that have no witness off one by one, if there are jumps and the pages are few. They are those of the rest
+/// that go on above the parent, to which they have come. Each page goes up to its row by jumps, so the call does not pass
+/// every node above. It answers the pages to pass over from then on: those passed over before, and those cut off.
+pub(crate) fn cut_few(
+    arena: &CowArena,
+    lists: &mut PageLists,
+    frames: &mut FramePool,
+    jumps: Option<&JumpTable>,
+    start: Arrival,
+    rest: Rest,
+) -> Pages
+    requires passing { IsOnItsWayUp arena.now lists.old frames.old start.leaf.0 rest.span.first rest.skip start.node rest.span.shift rest.span.to rest.span.to }
+    requires start { nodes_of arena.now start.at.0 ≡ Some start.node }
+    requires jumps { MayJump (tree_of arena.now lists.old) (option_copied jumps) }
+    ensures passing { (spared : Option NodeId) →
+        IsPassing arena.now lists.old frames.old start.leaf.0 rest.span.first rest.skip spared start.node rest.span.shift rest.span.to rest.span.to →
+        IsPassing arena.now lists.new frames.new start.leaf.0 rest.span.first result spared start.node rest.span.shift rest.span.to rest.span.to }
+    ensures lost { Moves arena.now lists.old lists.new frames.old frames.new start.leaf.0 rest.span.first IsPartOf }
+    ensures kept { slots_of lists.new start.node.list.0 ≡ slots_of lists.old start.node.list.0 }
+{
+    let span = rest.span;
+    let end = span.to.min(start.node.seen).saturating_sub(span.shift);
+    let mut done = from_on(rest.skip, span.first);
+    if jumps.is_none() || !are_few(done, span.first, end) {
+        return rest.skip;
+    }
+    let window = Window {
+        leaf: start.leaf,
+        hidden: start.at,
+        shift: span.shift,
+    };
+    let mut left = FEW_PAGES;
+    while left > 0 {
+        let Some((own, more)) = one_more(done, span.first, end) else {
+            return done;
+        };
+        cut_page(arena, lists, frames, jumps, window, own);
+        done = more;
+        left -= 1;
+    }
+    done
+}
+
+/// Returns the pages of `pages` from `first` on. If there are none, both ends are at or past `first`.
+fn from_on(pages: Pages, first: PageNo) -> Pages
+    ensures { (q : ℕ) → first ≤ q → IsOutside pages q → IsOutside result q }
+{
+    Pages {
+        from: pages.from.max(first),
+        to: pages.to.max(first),
+    }
+}
+
+/// Reports whether at most `FEW_PAGES` pages from `first` to below `end` are outside `pages`.
+fn are_few(pages: Pages, first: PageNo, end: PageNo) -> bool {
+    let before = pages.from.saturating_sub(first);
+    let behind = end.saturating_sub(pages.to);
+    before.saturating_add(behind) <= FEW_PAGES
+}
+
+/// Returns a page beside `pages` that is from `first` to below `end`, and `pages` with this page: the page before them, or
+/// else the page behind them.
+fn one_more(pages: Pages, first: PageNo, end: PageNo) -> Option<(PageNo, Pages)>
+    ensures { IfSome result (λ more. IsOneMore first pages more.0 more.1) }
+{
+    if first < pages.from {
+        let page = pages.from - 1;
+        return Some((
+            page,
+            Pages {
+                from: page,
+                to: pages.to,
+            },
+        ));
+    }
+    if first <= pages.to && pages.to < end {
+        let to = pages.to + 1;
+        return Some((
+            pages.to,
+            Pages {
+                from: pages.from,
+                to,
+            },
+        ));
+    }
+    None
 }
 
 /// Cuts a page of a VMO's node off from the row above that it sees, and gives the frame back if no other VMO shows it.

@@ -1,5 +1,5 @@
 -- A way down from the sibling of a VMO's node that goes. Another VMO shows the pages of the way too.
-use Rattle.std.specs.Prelude.{◌≡◌, ◌⊎◌, ℕ, ◌+◌, ◌<◌, ◌≤◌, ◌^◌, false, Option, None, Some}
+use Rattle.std.specs.Prelude.{◌≡◌, ◌≢◌, ◌⊎◌, ℕ, ◌+◌, ◌<◌, ◌≤◌, ◌^◌, false, Option, None, Some}
 use Rattle.std.specs.Option.{option_or}
 use Rattle.balanced_tree.specs.Rows.{Rows}
 use Rattle.page_list.specs.declared.row.Row.{Row}
@@ -14,7 +14,8 @@ use Rattle.cow_arena.specs.Walk.{Tree, frame_shown}
 use Rattle.cow_arena.specs.Ways.{HasRow, Reaches, Arrives}
 use Rattle.cow_split.specs.Trees.{tree_of}
 use Rattle.cow_merge.specs.declared.witness.Way.{Way}
-use Rattle.cow_merge.specs.Ranges.{no_pages, CameTo, IsLeftBare, IsParent, IsSpared}
+use Rattle.cow_merge.specs.declared.ranges.Pages.{Pages}
+use Rattle.cow_merge.specs.Ranges.{no_pages, CameTo, IsLeftBare, IsOutside, IsParent, IsSpared}
 
 -- The pages of a way lie in the window of its node, and belong to pages of the leaf from `first` on. The leaf's pages
 -- come to pages of its parent `base` further on, below `to`.
@@ -84,3 +85,8 @@ pub record SeesRowOf (t : Tree) (v p h : ℕ) : Type 0 where
 -- page p of v shows no frame but one of node h
 abbrev pub ShowsOnlyOf : Tree → (v p h : ℕ) → Type 0
 ShowsOnlyOf t v p h = (tag : ℕ) → frame_shown t v p ≡ Some tag → SeesRowOf t v p h
+
+-- the page is not before `first`, and what is outside these pages is outside `more` too, unless it is the page
+pub record IsOneMore (first : ℕ) (pages : Pages) (page : ℕ) (more : Pages) : Type 0 where
+  pub low : first ≤ page
+  pub outside : (q : ℕ) → IsOutside pages q → q ≢ page → IsOutside more q

@@ -4,16 +4,29 @@ use Rattle.cow_merge.proofs.Words.{no_pages, IsPassing}
 use Rattle.cow_merge.proofs.PassedLaws.{bare-up}
 use Rattle.cow_merge.proofs.ranges.leave_out_further.Goals as goal
 use Rattle.cow_merge.proofs.RangeLaws.{lost-then}
+use Rattle.cow_merge.proofs.JumpingLaws.{jumps-left}
 
 pub node-above-requires : goal.node-above-requires
 node-above-requires c = ap is_some c.requires.family.family.parent_at
+
+pub cut_few-skip-requires : goal.cut_few-skip-requires
+cut_few-skip-requires c =
+    let under = c.requires.passing c.node-above.result c.node-above.ensures in
+    let beside = c.leave_out_beside-beside.ensures.passing under.spared c.node-above.result c.node-above.ensures under.passing in
+    record {
+      passing = record { spared = under.spared; passing = beside };
+      start = c.node-above.ensures;
+      jumps = jumps-left beside.bare.has c.leave_out_beside-beside.ensures.lost _ c.requires.jumps;
+    }
 
 pub cut_upwards-requires-clause-passing : goal.cut_upwards-requires-clause-passing
 cut_upwards-requires-clause-passing c =
     let under = c.requires.passing c.node-above.result c.node-above.ensures in
     record {
       spared = under.spared;
-      passing = (c.leave_out_beside-skip.ensures.passing under.spared c.node-above.result c.node-above.ensures under.passing);
+      passing =
+          c.cut_few-skip.ensures.passing under.spared
+          (c.leave_out_beside-beside.ensures.passing under.spared c.node-above.result c.node-above.ensures under.passing);
     }
 
 pub cut_upwards-requires-clause-way : goal.cut_upwards-requires-clause-way
@@ -32,12 +45,13 @@ cut_upwards-requires-clause-way c = λ less.
 pub returns : goal.returns
 returns c = record {
   sparing = λ spared above at was.
-      c.cut_upwards.ensures.sparing spared (c.leave_out_beside-skip.ensures.passing spared c.node-above.result c.node-above.ensures
+      c.cut_upwards.ensures.sparing spared (c.cut_few-skip.ensures.passing spared
+      (c.leave_out_beside-beside.ensures.passing spared c.node-above.result c.node-above.ensures
       (subst (λ (n : Node). IsPassing c.args.arena.now c.args.lists.now c.args.frames.now c.args.family.leaf.0 c.args.span.first no_pages spared n c.args.span.shift c.args.span.to c.args.span.to)
-      (some_same (sym at ∙ c.node-above.ensures)) was));
+      (some_same (sym at ∙ c.node-above.ensures)) was)));
   kept = λ above at.
       let same : c.node-above.result ≡ above = some_same (sym c.node-above.ensures ∙ at) in
       subst (λ (n : Node). slots_of c.cut_upwards.new.lists n.list.0 ≡ slots_of c.args.lists.now n.list.0) same
-      (c.cut_upwards.ensures.kept ∙ c.leave_out_beside-skip.ensures.kept c.node-above.result c.node-above.ensures);
-  lost = lost-then c.leave_out_beside-skip.ensures.lost c.cut_upwards.ensures.lost;
+      (c.cut_upwards.ensures.kept ∙ (c.cut_few-skip.ensures.kept ∙ c.leave_out_beside-beside.ensures.kept c.node-above.result c.node-above.ensures));
+  lost = lost-then (lost-then c.leave_out_beside-beside.ensures.lost c.cut_few-skip.ensures.lost) c.cut_upwards.ensures.lost;
 }
