@@ -1,10 +1,12 @@
 -- A range of a region's list is vacant where no entry of the region is on its pages.
-use Rattle.std.proofs.Common.{subst, ◌≡◌, ℕ, ◌+◌, ◌<◌, Bool, false, IsTrue, ◌↔◌, Option, None, Some, sym, ap, ◌∙◌, arith}
-use Rattle.std.proofs.lemmas.Bool.{false_from_ne_true, both_ways, eqb-true, eq-eqb}
+use Rattle.std.proofs.Common.{subst, ◌≡◌, ◌≢◌, ℕ, ◌+◌, ◌<◌, ◌≤◌, Bool, false, IsTrue, ◌↔◌, Option, None, Some, inl, inr, sym, ap, ◌∙◌, arith}
+use Rattle.std.proofs.lemmas.Bool.{cases_lt, false_from_ne_true, both_ways, eqb-true, eq-eqb}
 use Rattle.vm_base.specs.declared.limits.TheConstants.{NAMES, PAGES_END}
 use Rattle.vm_base.specs.declared.names.RegionName.{RegionName}
-use Rattle.vm_base.proofs.EntryLaws.{passes-some, passes_found}
-use Rattle.vm_base.proofs.SearchLaws.{any_from_found, none_from_at}
+use Rattle.vm_base.specs.Entries.{passes}
+use Rattle.vm_base.specs.Search.{HasNone}
+use Rattle.vm_base.proofs.EntryLaws.{passes-none, passes-some, passes_found}
+use Rattle.vm_base.proofs.SearchLaws.{any_from_found, eqb_apart, none_from, none_from_at}
 use Rattle.pair_map.specs.declared.stretch_row.Extent.{Extent}
 use Rattle.balanced_tree.specs.Gaps.{IsFirstGapOrNone}
 use Rattle.balanced_tree.proofs.GapLaws.{first_gap-same}
@@ -12,7 +14,7 @@ use Rattle.pair_map.specs.Maps.{IsOpen}
 use Rattle.vm_model.specs.declared.space.Entry.{Entry}
 use Rattle.vm_model.specs.Space.Table.{mapping_from, is_in, has_entry}
 use Rattle.mapping_set.specs.declared.piece.Piece.{Piece}
-use Rattle.mapping_set.specs.Pieces.{list_number, table_in, ArePieces, AreListed}
+use Rattle.mapping_set.specs.Pieces.{list_number, table_in, ArePieces, AreListed, IsHeld}
 use Rattle.mapping_set.specs.inside.Taken.{pieces_in}
 use Rattle.mapping_set.specs.Tables.{places_in, IsBare, IsClear}
 use Rattle.mapping_set.proofs.TableLaws.{table_in-found, table_in-at}
@@ -77,17 +79,46 @@ module _ {V : Type 0} (pieces : ℕ → ℕ → Option Piece) (h : ArePieces pie
         absurd cc;
   }
 
-  -- the lowest gap of the list is the lowest one among the entries of the region
-  pub gap_of-list : (from count limit : ℕ) (answer : Option ℕ) → IsFirstGapOrNone (λ p. IsOpen list p count) from count limit answer
-      → IsFirstGapOrNone (λ p. has_entry (table_in pieces) root region p (p + count) ≡ false) from count limit answer
-  gap_of-list from count limit answer = first_gap-same from count limit answer (λ p. has_no-open p count) (λ p. open-has_no p count)
-
   -- no page has an entry of a region with an empty list
   pub no_entry-none : ((p : ℕ) → list p ≡ None) → has_entry (table_in pieces) root region 0 PAGES_END ≡ false
   no_entry-none none =
       let end : 0 + PAGES_END ≡ PAGES_END = omega arith in
       ap (has_entry (table_in pieces) root region 0) (sym end)
       ∙ has_no-open 0 PAGES_END (record { free = λ q p e low high covers. absurd (let is = covers.is in let gone = none p in cc) })
+
+-- ---- a search among the pieces of an address space
+
+-- a range is a gap where the pages before `at` have no entry of the region, and those from there on have none
+pub gap-here : (table : ℕ → ℕ → Option Entry) (root region start at count : ℕ) → HasNone (λ p. passes (is_in region) (table root p)) start at
+    → ((p : ℕ) → at ≤ p → p < start + count → table root p ≡ None) → has_entry table root region start (start + count) ≡ false
+unfolding has_entry
+gap-here table root region start at count bare none = none_from _ start (start + count) (λ p low high. elim (cases_lt p at) [
+  | inl before ↦ bare p low before
+  | inr behind ↦ passes-none (is_in region) (table root p) (none p behind high)
+])
+
+module _ (pieces : ℕ → ℕ → Option Piece) (root region at last : ℕ) (x : Piece) (held : IsHeld pieces root at last x) where
+  -- a range that begins before the end of a piece of the region, and ends behind its first page, is no gap
+  pub held-met : x.entry.region.0 ≡ region → (p count : ℕ) → 1 ≤ count → p ≤ last → x.first < p + count → has_entry (table_in pieces) root region p (p + count) ≡ false → ⊥
+  unfolding has_entry
+  held-met region_is p count some high meets none = elim (cases_lt p x.first) [
+    | inl before ↦ has x.first (omega arith) meets (omega arith) (omega (arith, held.sound.some))
+    | inr behind ↦ has p (omega arith) (omega arith) behind (omega (arith, held.sound.last_is))
+  ]
+    where
+      has : (q : ℕ) → p ≤ q → q < p + count → x.first ≤ q → q < x.first + x.count → ⊥
+      has q from below low less =
+          both_ways _ (none_from_at _ p (p + count) q none from below)
+          (passes-some (is_in region) (table_in pieces root q) _ (held.entries q low less) ∙ eq-eqb x.entry.region.0 region region_is)
+
+  -- up to the end of a piece of another region, no page has an entry of the region
+  pub held-other : x.entry.region.0 ≢ region → (p : ℕ) → at ≤ p → p ≤ last → passes (is_in region) (table_in pieces root p) ≡ false
+  held-other apart p low high = elim (cases_lt p x.first) [
+    | inl before ↦ passes-none (is_in region) (table_in pieces root p) (held.free p low before)
+    | inr behind ↦
+        passes-some (is_in region) (table_in pieces root p) _ (held.entries p behind (omega (arith, held.sound.last_is)))
+        ∙ eqb_apart x.entry.region.0 region apart
+  ]
 
 -- ---- what is taken in a region
 

@@ -144,11 +144,10 @@ ends-table table root x shown page end low mid high =
 -- ---- the set
 
 -- the fields as they are made
-sets : (b : Inside) (pieces : ℕ → ℕ → Option Piece) (lists index : ℕ → ℕ → Option (Extent Unit)) → ArePieces pieces → AreListed pieces lists → AreListed pieces index
-    → values_of b.pieces ≡ pieces → extents_of b.lists ≡ lists → pieces_in (extents_of b.taken) ≡ index → AreMappings b
-sets b pieces lists index are listed indexed is_pieces is_lists is_index = record {
+sets : (b : Inside) (pieces : ℕ → ℕ → Option Piece) (index : ℕ → ℕ → Option (Extent Unit)) → ArePieces pieces → AreListed pieces index
+    → values_of b.pieces ≡ pieces → pieces_in (extents_of b.taken) ≡ index → AreMappings b
+sets b pieces index are indexed is_pieces is_index = record {
   pieces = subst ArePieces (sym is_pieces) are;
-  lists = subst (λ (m : ℕ → ℕ → Option Piece). AreListed m (extents_of b.lists)) (sym is_pieces) (subst (AreListed pieces) (sym is_lists) listed);
   taken = subst (λ (m : ℕ → ℕ → Option Piece). AreListed m (pieces_in (extents_of b.taken))) (sym is_pieces) (subst (AreListed pieces) (sym is_index) indexed);
 }
 
@@ -162,9 +161,6 @@ module _ (a : Inside) (h : AreMappings a) (now : Mappings) (seen : mappings_of a
     (l : ℕ) (l_is : l ≡ list_number x.entry.region.0 root) (apart : StandApart (extents_of a.taken)) where
   abbrev values : ℕ → ℕ → Option Piece
   values = values_of a.pieces
-
-  abbrev lists : ℕ → ℕ → Option (Extent Unit)
-  lists = extents_of a.lists
 
   abbrev taken : ℕ → ℕ → Option (Extent (Option RegionName))
   taken = extents_of a.taken
@@ -205,14 +201,7 @@ module _ (a : Inside) (h : AreMappings a) (now : Mappings) (seen : mappings_of a
   in-index : (e : Extent Unit) × (pieces_in taken l x.first ≡ Some e) × (e.count ≡ x.count)
   in-index = let found = h.taken.listed root last x is_x in (found.0, ap (λ k. pieces_in taken k x.first) l_is ∙ found.1, found.2)
 
-  -- its extents
-  pub in-lists : IsExtent (lists l) x.first (last + 1)
-  in-lists =
-      let found = h.lists.listed root last x is_x in
-      let count = found.2 in
-      let ends = sound_x.last_is in
-      record { extent = found.0; is = ap (λ k. lists k x.first) l_is ∙ found.1; ends = omega arith }
-
+  -- its extent
   pub in-taken : IsExtent (taken l) x.first (last + 1)
   in-taken =
       let found = piece-found taken l x.first in-index.0 in-index.1 in
@@ -248,10 +237,9 @@ module _ (a : Inside) (h : AreMappings a) (now : Mappings) (seen : mappings_of a
     -- its last pages stay
     pub keep-tail : (y : Piece) → y ≡ rear → (b : Inside)
         → values_of b.pieces ≡ with_pair values root last (Some y)
-        → extents_of b.lists ≡ with_pair (with_pair lists l x.first None) l page (Some (record { count = last + 1 - page; value = tt }))
         → extents_of b.taken ≡ with_pair (with_pair taken l x.first None) l page (Some (record { count = last + 1 - page; value = None }))
         → LosesPages now b root x.first page
-    keep-tail y y_is b is_pieces is_lists is_taken =
+    keep-tail y y_is b is_pieces is_taken =
         let ends = sound_x.last_is in
         let same = in-index.2 in
         let index = piece-split taken apart l x.first in-index.0 in-index.1 None refl page (last + 1 - page) (omega arith) (omega arith) (extents_of b.taken) is_taken in
@@ -259,11 +247,9 @@ module _ (a : Inside) (h : AreMappings a) (now : Mappings) (seen : mappings_of a
         is_pieces ∙ (ap (λ (z : Piece). with_pair values root last (Some z)) y_is ∙ sym (with_pair-over values root last None (Some rear))) in
         let e : Extent Unit = record { count = last + 1 - page; value = tt } in
         record {
-          are = sets b _ _ _ (ArePieces-back values h.pieces root last x is_x last rear rear_sound (omega arith) (omega arith))
-              (AreListed-back values h.pieces root last x is_x last rear rear_sound (omega arith) (omega arith) lists h.lists e (omega arith))
+          are = sets b _ _ (ArePieces-back values h.pieces root last x is_x last rear rear_sound (omega arith) (omega arith))
               (AreListed-back values h.pieces root last x is_x last rear rear_sound (omega arith) (omega arith) (pieces_in taken) h.taken e (omega arith))
               new
-              (is_lists ∙ ap (λ k. with_pair (with_pair lists k x.first None) k page (Some e)) l_is)
               (index.0 ∙ ap (λ k. with_pair (with_pair (pieces_in taken) k x.first None) k page (Some e)) l_is);
           table = ap table_in new ∙ (table_in-back values h.pieces root last x is_x last rear rear_sound (omega arith) (omega arith)
               ∙ (rear-table ∙ ap (λ (m : Mappings). with_pages (table_of m) root x.first page (λ p. None)) seen));
@@ -273,10 +259,9 @@ module _ (a : Inside) (h : AreMappings a) (now : Mappings) (seen : mappings_of a
     -- its first pages stay
     pub keep-head : (y : Piece) → y ≡ front → (b : Inside) → (count : ℕ) → count ≡ page - x.first
         → values_of b.pieces ≡ with_pair (with_pair values root last None) root (page - 1) (Some y)
-        → extents_of b.lists ≡ with_pair lists l x.first (Some (record { count = count; value = tt }))
         → extents_of b.taken ≡ with_pair taken l x.first (Some (record { count = count; value = None }))
         → LosesPages now b root page (last + 1)
-    keep-head y y_is b count count_is is_pieces is_lists is_taken =
+    keep-head y y_is b count count_is is_pieces is_taken =
         let ends = sound_x.last_is in
         let same = in-index.2 in
         let some = sound_x.some in
@@ -285,11 +270,9 @@ module _ (a : Inside) (h : AreMappings a) (now : Mappings) (seen : mappings_of a
         is_pieces ∙ ap (λ (z : Piece). with_pair (with_pair values root last None) root (page - 1) (Some z)) y_is in
         let e : Extent Unit = record { count = count; value = tt } in
         record {
-          are = sets b _ _ _ (ArePieces-back values h.pieces root last x is_x (page - 1) front front_sound (omega arith) (omega arith))
-              (AreListed-back values h.pieces root last x is_x (page - 1) front front_sound (omega arith) (omega arith) lists h.lists e count_is)
+          are = sets b _ _ (ArePieces-back values h.pieces root last x is_x (page - 1) front front_sound (omega arith) (omega arith))
               (AreListed-back values h.pieces root last x is_x (page - 1) front front_sound (omega arith) (omega arith) (pieces_in taken) h.taken e count_is)
               new
-              (is_lists ∙ (ap (λ k. with_pair lists k x.first (Some e)) l_is ∙ sym (with_pair-over lists (list_number x.entry.region.0 root) x.first None (Some e))))
               (index.0 ∙ (ap (λ k. with_pair (pieces_in taken) k x.first (Some e)) l_is ∙ sym (with_pair-over (pieces_in taken) (list_number x.entry.region.0 root) x.first None (Some e))));
           table = ap table_in new ∙ (table_in-back values h.pieces root last x is_x (page - 1) front front_sound (omega arith) (omega arith)
               ∙ (front-table ∙ ap (λ (m : Mappings). with_pages (table_of m) root page (last + 1) (λ p. None)) seen));
@@ -299,10 +282,9 @@ module _ (a : Inside) (h : AreMappings a) (now : Mappings) (seen : mappings_of a
   -- both its ends stay
   pub keep-ends : (page end : ℕ) → x.first < page → page ≤ end → end ≤ last → (y z : Piece) → y ≡ piece_until x page → z ≡ piece_from x end → (b : Inside)
       → values_of b.pieces ≡ with_pair (with_pair values root last (Some z)) root (page - 1) (Some y)
-      → extents_of b.lists ≡ with_pair (with_pair lists l x.first (Some (record { count = page - x.first; value = tt }))) l end (Some (record { count = last + 1 - end; value = tt }))
       → extents_of b.taken ≡ with_pair (with_pair taken l x.first (Some (record { count = page - x.first; value = None }))) l end (Some (record { count = last + 1 - end; value = None }))
       → LosesPages now b root page end
-  keep-ends page end low mid high y z y_is z_is b is_pieces is_lists is_taken =
+  keep-ends page end low mid high y z y_is z_is b is_pieces is_taken =
       let ends = sound_x.last_is in
       let same = in-index.2 in
       let index = piece-split taken apart l x.first in-index.0 in-index.1 (Some (record { count = page - x.first; value = None })) refl end (last + 1 - end) (omega arith) (omega arith) (extents_of b.taken) is_taken in
@@ -313,11 +295,9 @@ module _ (a : Inside) (h : AreMappings a) (now : Mappings) (seen : mappings_of a
       let d : Extent Unit = record { count = page - x.first; value = tt } in
       let e : Extent Unit = record { count = last + 1 - end; value = tt } in
       record {
-        are = sets b _ _ _ (ArePieces-both values h.pieces root last x is_x page end low mid high)
-            (AreListed-both values h.pieces root last x is_x page end low mid high lists h.lists d e refl refl)
+        are = sets b _ _ (ArePieces-both values h.pieces root last x is_x page end low mid high)
             (AreListed-both values h.pieces root last x is_x page end low mid high (pieces_in taken) h.taken d e refl refl)
             new
-            (is_lists ∙ ap (λ k. with_pair (with_pair lists k x.first (Some d)) k end (Some e)) l_is)
             (index.0 ∙ ap (λ k. with_pair (with_pair (pieces_in taken) k x.first (Some d)) k end (Some e)) l_is);
         table = ap table_in new ∙ (table_in-both values h.pieces root last x is_x page end low mid high
             ∙ (ends-table (table_in values) root x shown page end low mid (omega arith) ∙ ap (λ (m : Mappings). with_pages (table_of m) root page end (λ p. None)) seen));
@@ -350,7 +330,7 @@ module _ (a : Inside) (h : AreMappings a) (now : Mappings) (seen : mappings_of a
   is_new : values_of b.pieces ≡ with_pair (with_pair (values_of a.pieces) root last None) root last (Some other)
   is_new = is_pieces ∙ (ap (λ (z : Piece). with_pair (values_of a.pieces) root last (Some z)) y_is ∙ sym (with_pair-over (values_of a.pieces) root last None (Some other)))
 
-  -- its extents stay
+  -- its extent stays
   still_listed : (list : ℕ → ℕ → Option (Extent Unit)) → AreListed (values_of a.pieces) list → AreListed (with_pair (with_pair (values_of a.pieces) root last None) root last (Some other)) list
   still_listed list g =
       let found = g.listed root last x is_held in
@@ -358,10 +338,10 @@ module _ (a : Inside) (h : AreMappings a) (now : Mappings) (seen : mappings_of a
       (with_pair-over list (list_number x.entry.region.0 root) x.first None (Some found.0) ∙ with_pair-kept list (list_number x.entry.region.0 root) x.first (Some found.0) found.1)
       (AreListed-back (values_of a.pieces) h.pieces root last x is_held last other sound_other (omega arith) (omega arith) list g found.0 found.2)
 
-  pub restricted-set : extents_of b.lists ≡ extents_of a.lists → extents_of b.taken ≡ extents_of a.taken → AreMappings b
-  restricted-set is_lists is_taken =
-      sets b _ _ _ (ArePieces-back (values_of a.pieces) h.pieces root last x is_held last other sound_other (omega arith) (omega arith))
-      (still_listed (extents_of a.lists) h.lists) (still_listed (pieces_in (extents_of a.taken)) h.taken) is_new is_lists (ap pieces_in is_taken)
+  pub restricted-set : extents_of b.taken ≡ extents_of a.taken → AreMappings b
+  restricted-set is_taken =
+      sets b _ _ (ArePieces-back (values_of a.pieces) h.pieces root last x is_held last other sound_other (omega arith) (omega arith))
+      (still_listed (pieces_in (extents_of a.taken)) h.taken) is_new (ap pieces_in is_taken)
 
   pub restricted-table : (at : ℕ) → x.first ≡ at → table_of (mappings_of b) ≡ with_pages (table_of now) root at (last + 1) (with_perm perm (table_of now root))
   restricted-table at begins =

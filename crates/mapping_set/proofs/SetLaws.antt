@@ -18,9 +18,6 @@ module _ (a : Inside) (h : AreMappings a) (now : Mappings) (seen : mappings_of a
   abbrev values : ℕ → ℕ → Option Piece
   values = values_of a.pieces
 
-  abbrev lists : ℕ → ℕ → Option (Extent Unit)
-  lists = extents_of a.lists
-
   abbrev index : ℕ → ℕ → Option (Extent Unit)
   index = pieces_in (extents_of a.taken)
 
@@ -43,12 +40,7 @@ module _ (a : Inside) (h : AreMappings a) (now : Mappings) (seen : mappings_of a
     pub absent : values n (x.first + x.count - 1) ≡ None
     absent = ap (λ k. values k (x.first + x.count - 1)) n_is ∙ none_there values h.pieces root (x.first + x.count - 1) x sound bare_inside
 
-    pub free : IsOpen (lists l) x.first x.count
-    free =
-        subst (λ k. IsOpen (lists k) x.first x.count) (sym l_is)
-        (open_there values h.pieces root (x.first + x.count - 1) x sound bare_inside lists h.lists)
-
-    pub free-index : IsOpen (index l) x.first x.count
+    free-index : IsOpen (index l) x.first x.count
     free-index =
         subst (λ k. IsOpen (index k) x.first x.count) (sym l_is)
         (open_there values h.pieces root (x.first + x.count - 1) x sound bare_inside index h.taken)
@@ -64,19 +56,12 @@ module _ (a : Inside) (h : AreMappings a) (now : Mappings) (seen : mappings_of a
       put_is : values_of b.pieces ≡ with_pair values root (x.first + x.count - 1) (Some x)
       put_is = put ∙ ap (λ k. with_pair values k (x.first + x.count - 1) (Some x)) n_is
 
-      -- a list of pieces has one more
-      listed-more : (list new : ℕ → ℕ → Option (Extent Unit)) → AreListed values list → (e : Extent Unit) → e.count ≡ x.count → new ≡ with_pair list l x.first (Some e) → AreListed (values_of b.pieces) new
-      listed-more list new g e count_is more =
-          subst (λ m. AreListed m new) (sym put_is) (subst (AreListed (with_pair values root (x.first + x.count - 1) (Some x)))
-          (sym (more ∙ ap (λ k. with_pair list k x.first (Some e)) l_is))
-          (AreListed-more values h.pieces root (x.first + x.count - 1) x sound bare_inside list g e count_is))
-
-      pub AreMappings-more : (e : Extent Unit) → e.count ≡ x.count → extents_of b.lists ≡ with_pair lists l x.first (Some e)
-          → pieces_in (extents_of b.taken) ≡ with_pair index l x.first (Some e) → AreMappings b
-      AreMappings-more e count_is list taken = record {
+      pub AreMappings-more : (e : Extent Unit) → e.count ≡ x.count → pieces_in (extents_of b.taken) ≡ with_pair index l x.first (Some e) → AreMappings b
+      AreMappings-more e count_is taken = record {
         pieces = subst ArePieces (sym put_is) (ArePieces-more values h.pieces root (x.first + x.count - 1) x sound bare_inside);
-        lists = listed-more lists (extents_of b.lists) h.lists e count_is list;
-        taken = listed-more index (pieces_in (extents_of b.taken)) h.taken e count_is taken;
+        taken = subst (λ m. AreListed m (pieces_in (extents_of b.taken))) (sym put_is) (subst (AreListed (with_pair values root (x.first + x.count - 1) (Some x)))
+            (sym (taken ∙ ap (λ k. with_pair index k x.first (Some e)) l_is))
+            (AreListed-more values h.pieces root (x.first + x.count - 1) x sound bare_inside index h.taken e count_is));
       }
 
       pub table-more : table_of (mappings_of b) ≡ with_piece (table_of now) root x
@@ -103,16 +88,11 @@ module _ (a : Inside) (h : AreMappings a) (now : Mappings) (seen : mappings_of a
       taken_is : values_of b.pieces ≡ with_pair values root last None
       taken_is = taken ∙ ap (λ k. with_pair values k last None) n_is
 
-      listed-less : (list new : ℕ → ℕ → Option (Extent Unit)) → AreListed values list → new ≡ with_pair list l x.first None → AreListed (values_of b.pieces) new
-      listed-less list new g less =
-          subst (λ m. AreListed m new) (sym taken_is) (subst (AreListed (with_pair values root last None))
-          (sym (less ∙ ap (λ k. with_pair list k x.first None) l_is)) (AreListed-less values h.pieces root last x is_root list g))
-
-      pub AreMappings-less : extents_of b.lists ≡ with_pair lists l x.first None → pieces_in (extents_of b.taken) ≡ with_pair index l x.first None → AreMappings b
-      AreMappings-less list index_less = record {
+      pub AreMappings-less : pieces_in (extents_of b.taken) ≡ with_pair index l x.first None → AreMappings b
+      AreMappings-less less = record {
         pieces = subst ArePieces (sym taken_is) (ArePieces-less values h.pieces root last x is_root);
-        lists = listed-less lists (extents_of b.lists) h.lists list;
-        taken = listed-less index (pieces_in (extents_of b.taken)) h.taken index_less;
+        taken = subst (λ m. AreListed m (pieces_in (extents_of b.taken))) (sym taken_is) (subst (AreListed (with_pair values root last None))
+            (sym (less ∙ ap (λ k. with_pair index k x.first None) l_is)) (AreListed-less values h.pieces root last x is_root index h.taken));
       }
 
       pub table-less : (y : Piece) → values_of now.pieces root last ≡ Some y → table_of (mappings_of b) ≡ without_piece (table_of now) root y

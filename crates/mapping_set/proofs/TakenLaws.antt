@@ -1,9 +1,9 @@
 -- What is taken in the regions: pieces and places are extents of one list, apart from one another.
 use Rattle.std.proofs.Common.{◌≡◌, ℕ, ◌+◌, ◌<◌, ◌≤◌, Option, None, Some, IsSome, is_some, Bool, true, false, inl, inr, refl, sym, ap, ◌∙◌, arith}
-use Rattle.std.proofs.lemmas.Bool.{cases_order}
+use Rattle.std.proofs.lemmas.Bool.{cases_lt, cases_order}
 use Rattle.vm_base.specs.declared.names.RegionName.{RegionName}
-use Rattle.vm_base.proofs.EntryLaws.{some_same}
-use Rattle.balanced_tree.specs.Pairs.{with_pair}
+use Rattle.vm_base.proofs.EntryLaws.{some_is, some_same}
+use Rattle.balanced_tree.specs.Pairs.{with_pair, IsNext}
 use Rattle.pair_map.specs.declared.stretch_row.Extent.{Extent}
 use Rattle.pair_map.specs.Maps.{Covers, IsOpen, StandApart}
 use Rattle.mapping_set.specs.inside.Taken.{piece_by, piece_at, pieces_in, IsMeeting}
@@ -256,6 +256,31 @@ place-not_piece taken l first some = by (places_in taken l first) refl some wher
 
 pub piece-there : (taken : ℕ → ℕ → Option (Extent (Option RegionName))) (l first : ℕ) (e : Extent Unit) → pieces_in taken l first ≡ Some e → IsSome (taken l first)
 piece-there taken l first e is = ap is_some (piece-found taken l first e is).1
+
+-- ---- the first piece of a list
+
+module _ (taken : ℕ → ℕ → Option (Extent (Option RegionName))) (l from : ℕ) (passed : (p : ℕ) → p < from → pieces_in taken l p ≡ None) where
+  -- what is passed where no extent begins from there on
+  pub passed-all : IsNext (taken l) from None → (p : ℕ) → pieces_in taken l p ≡ None
+  passed-all next p = elim (cases_lt p from) [
+    | inl low ↦ passed p low
+    | inr high ↦ (none-taken taken l p (next.none refl p high)).0
+  ]
+
+  -- what is passed with a place
+  pub passed-place : (first : ℕ) (x : Extent (Option RegionName)) → IsNext (taken l) from (Some first) → taken l first ≡ Some x → is_some x.value ≡ true
+      → (p : ℕ) → p < first + 1 → pieces_in taken l p ≡ None
+  passed-place first x next is place p less =
+      let name = some_is x.value place in
+      elim (cases_lt p from) [
+        | inl low ↦ passed p low
+        | inr high ↦ elim (cases_lt p first) [
+          | inl before ↦ (none-taken taken l p ((next.least first refl).2 p high before)).0
+          | inr behind ↦
+              let same : p ≡ first = omega arith in
+              ap (pieces_in taken l) same ∙ (as-place taken l first x name.0 is name.1).0
+        ]
+      ]
 
 -- nothing is taken
 pub pieces_in-none : (taken : ℕ → ℕ → Option (Extent (Option RegionName))) → taken ≡ (λ l p. None) → pieces_in taken ≡ (λ l p. None)

@@ -15,7 +15,7 @@ ghost use Rattle.mapping_set.specs.Tables.{IsBare, IsBareFrom, IsFull, IsNextPie
 ghost use Rattle.mapping_set.specs.Tables.{IsOneOf, IsRestOf, IsPieceWithin};
 
 use crate::piece::Piece;
-use crate::taken::{clear_places, free_place, hold_place};
+use crate::taken::{clear_places, first_piece, free_place, hold_place};
 use pair_map::{ExtentMap, PairMap};
 use std::alloc::Global;
 use std::marker::Model;
@@ -29,8 +29,6 @@ use vm_model::Entry;
 pub struct MappingSet {
     /// Each piece by its root region and its last page.
     pieces: PairMap<Piece>,
-    /// The pages of each piece, in the list of its region.
-    lists: ExtentMap<()>,
     /// The pages that are taken in each region, in the region's list: those of each piece, with no name, and the places
     /// that the callers noted, each with the name of a region.
     taken: ExtentMap<Option<RegionName>>,
@@ -65,7 +63,6 @@ impl MappingSet {
     {
         MappingSet {
             pieces: PairMap::new(alloc),
-            lists: ExtentMap::new(alloc),
             taken: ExtentMap::new(alloc),
         }
     }
@@ -79,9 +76,6 @@ impl MappingSet {
         ensures places { places_of self.new ≡ places_of self.old }
     {
         let Ok(()) = self.pieces.reserve(n as usize) else {
-            return Err(HostMemory);
-        };
-        let Ok(()) = self.lists.reserve(n as usize) else {
             return Err(HostMemory);
         };
         let Ok(()) = self.taken.reserve(n as usize) else {
@@ -136,7 +130,8 @@ impl MappingSet {
     }
 
     /// Returns the lowest page from `from` on such that it and the next ones, `count` in all, have no entry that
-    /// belongs to the region, and end at the limit or before. `None` if and only if there is none.
+    /// belongs to the region, and end at the limit or before. `None` if and only if there is none. It passes the pieces of
+    /// the address space from `from` on, one by one. `first_clear` makes one search.
     pub fn first_gap(
         &self,
         root: RegionName,
@@ -150,8 +145,21 @@ impl MappingSet {
         ensures { IsFirstGapOrNone (λ p. has_entry (table_of self.now) root.0 region.0 p (p + count) ≡ false)
             from count limit result }
     {
-        self.lists
-            .first_gap(list_number(region, root), from, count, limit)
+        let mut start = from;
+        let mut at = from;
+        'search: while count <= limit && start <= limit - count {
+            let Some((last, piece)) = self.held(root, at) else {
+                return Some(start);
+            };
+            if start + count <= piece.first {
+                return Some(start);
+            }
+            if piece.entry.region.0 == region.0 {
+                start = last + 1;
+            }
+            at = last + 1;
+        }
+        None
     }
 
     /// Notes that `count` pages from `first` on are those of a region `name` in `region`. From then on they are taken
@@ -325,7 +333,6 @@ impl MappingSet {
         let list = list_number(piece.entry.region, root);
         self.pieces
             .insert(u64::from(root.0), piece.first + piece.count - 1, piece);
-        self.lists.insert(list, piece.first, piece.count, ());
         self.taken.insert(list, piece.first, piece.count, None);
     }
 
@@ -342,7 +349,6 @@ impl MappingSet {
     {
         let piece = self.pieces.remove(u64::from(root.0), last);
         let list = list_number(piece.entry.region, root);
-        self.lists.remove(list, piece.first);
         self.taken.remove(list, piece.first);
         piece
     }
@@ -353,8 +359,8 @@ impl MappingSet {
         ensures { MatchOption result (has_entry (table_of self.now) root.0 region.0 0 PAGES_END ≡ false)
             (IsOfRegion (values_of self.now.pieces) root.0 region.0) }
     {
-        let (first, extent) = self.lists.next(list_number(region, root), 0)?;
-        Some(first + extent.count - 1)
+        let (first, count) = first_piece(&self.taken, list_number(region, root))?;
+        Some(first + count - 1)
     }
 
     /// Cuts the piece that has both the page `page` and the one before it in two, if there is one. The entries stay.
@@ -437,7 +443,6 @@ impl MappingSet {
         self.pieces.replace(root.0 as u64, last, piece.from(end));
         self.pieces
             .insert(root.0 as u64, page - 1, piece.until(page));
-        self.lists.split(list, piece.first, last + 1, page, end, ());
         self.taken
             .split(list, piece.first, last + 1, page, end, None);
     }
@@ -456,7 +461,6 @@ impl MappingSet {
         let count = page - piece.first;
         self.pieces
             .replace_at(root.0 as u64, last, page - 1, piece.until(page));
-        self.lists.shorten(list, piece.first, count, ());
         self.taken.shorten(list, piece.first, count, None);
     }
 
@@ -472,7 +476,6 @@ impl MappingSet {
         let _apart = self.taken.len();
         let list = list_number(piece.entry.region, root);
         self.pieces.replace(root.0 as u64, last, piece.from(page));
-        self.lists.advance(list, piece.first, last + 1, page, ());
         self.taken.advance(list, piece.first, last + 1, page, None);
     }
 

@@ -1,6 +1,6 @@
 //! What is taken in each region: pieces, and the places that the callers noted, as extents of one list.
 
-ghost use Rattle.std.specs.Prelude.{◌≡◌, ◌+◌, ◌≤◌, true, false, None, Some, IsSome};
+ghost use Rattle.std.specs.Prelude.{◌≡◌, ℕ, ◌+◌, ◌≤◌, true, false, None, Some, IsSome};
 ghost use Rattle.std.specs.Option.{MatchOption};
 ghost use Rattle.balanced_tree.specs.Pairs.{with_pair};
 ghost use Rattle.pair_map.specs.Maps.{extents_of, spare_of, IsOpen};
@@ -51,6 +51,23 @@ fn is_place(taken: &ExtentMap<Option<RegionName>>, list: u64, first: PageNo) -> 
         Some(extent) => extent.value.is_some(),
         None => false,
     }
+}
+
+/// Returns the first page of the first piece of a list, and the number of its pages. `None` if and only if the list has no
+/// piece. It passes each place before that piece.
+pub(crate) fn first_piece(taken: &ExtentMap<Option<RegionName>>, list: u64) -> Option<(PageNo, u64)>
+    ensures { MatchOption result ((p : ℕ) → pieces_in (extents_of taken.now) list p ≡ None)
+        (λ pair. pieces_in (extents_of taken.now) list pair.0 ≡ Some (record { count = pair.1; value = tt })) }
+{
+    let _apart = taken.len();
+    let mut from = 0;
+    'search: while let Some((first, extent)) = taken.next(list, from) {
+        if extent.value.is_none() {
+            return Some((first, extent.count));
+        }
+        from = first + 1;
+    }
+    None
 }
 
 /// Takes each place that has one of `count` pages from `first` on out of a list. No piece of the list has one of these

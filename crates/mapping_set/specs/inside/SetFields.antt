@@ -7,9 +7,8 @@ use Rattle.mapping_set.specs.Tables.{Mappings}
 use Rattle.mapping_set.specs.inside.Taken.{pieces_in}
 
 abbrev pub mappings_of : Inside → Mappings
-mappings_of a = record { pieces = a.pieces; spare = min (min a.pieces.spare a.lists.spare) a.taken.spare; taken = a.taken }
+mappings_of a = record { pieces = a.pieces; spare = min a.pieces.spare a.taken.spare; taken = a.taken }
 
 pub record AreMappings (a : Inside) : Type 0 where
   pub pieces : ArePieces (values_of a.pieces)
-  pub lists : AreListed (values_of a.pieces) (extents_of a.lists)
   pub taken : AreListed (values_of a.pieces) (pieces_in (extents_of a.taken))

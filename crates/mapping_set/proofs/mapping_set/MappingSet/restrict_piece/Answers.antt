@@ -10,12 +10,12 @@ use Rattle.mapping_set.proofs.mapping_set.MappingSet.restrict_piece.Goals as goa
 pub invariant_of-self : goal.invariant_of-self
 invariant_of-self c =
     restricted-set _ c.self.invariant _ c.self.view_is c.args.root.0 c.in-Some.last c.in-Some.piece c.in-Some.ensures.is c.args.perm c.with_perm.result c.with_perm.ensures
-    (record { pieces = c.replace.new.self; lists = c.self.inside.lists; taken = c.self.inside.taken }) c.replace.ensures.values refl refl
+    (record { pieces = c.replace.new.self; taken = c.self.inside.taken }) c.replace.ensures.values refl
 
 pub returns-clause-table : goal.returns-clause-table
 returns-clause-table c =
     restricted-table _ c.self.invariant _ c.self.view_is c.args.root.0 c.in-Some.last c.in-Some.piece c.in-Some.ensures.is c.args.perm c.with_perm.result c.with_perm.ensures
-    (record { pieces = c.replace.new.self; lists = c.self.inside.lists; taken = c.self.inside.taken }) c.replace.ensures.values c.args.at
+    (record { pieces = c.replace.new.self; taken = c.self.inside.taken }) c.replace.ensures.values c.args.at
     (begins_there _ c.args.root.0 c.args.at c.in-Some.last c.in-Some.piece c.in-Some.ensures c.requires.begins c.requires.some)
 
 replaced : (c : goal.After-replace) → values_of c.replace.new.self ≡ with_pair (values_of c.args.self.now.pieces) c.args.root.0 c.in-Some.last (Some c.with_perm.result)

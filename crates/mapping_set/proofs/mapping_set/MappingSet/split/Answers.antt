@@ -1,6 +1,6 @@
 use Rattle.std.proofs.Common.{◌-◌, Some, ap, ◌∙◌, arith}
 use Rattle.balanced_tree.specs.Pairs.{with_pair}
-use Rattle.mapping_set.proofs.PartLaws.{LosesPages, last-page, pages-end, absent-within, in-lists, in-taken, keep-ends}
+use Rattle.mapping_set.proofs.PartLaws.{LosesPages, last-page, pages-end, absent-within, in-taken, keep-ends}
 use Rattle.mapping_set.proofs.mapping_set.MappingSet.split.Goals as goal
 
 pub from-requires-clause-page : goal.from-requires-clause-page
@@ -19,17 +19,14 @@ insert-requires-clause-absent c =
     _ _ c.replace.ensures.values (c.args.page - 1) (omega (arith, order.0)) (omega (arith, order.0, order.1, order.2))
 
 pub split-requires-clause-extent : goal.split-requires-clause-extent
-split-requires-clause-extent c = in-lists _ c.self.invariant _ c.self.view_is c.args.root.0 c.args.last c.args.piece c.requires.piece _ c.list_number-list.ensures.number c.len-apart.ensures.apart
+split-requires-clause-extent c = in-taken _ c.self.invariant _ c.self.view_is c.args.root.0 c.args.last c.args.piece c.requires.piece _ c.list_number-list.ensures.number c.len-apart.ensures.apart
 
-pub split-requires-2-clause-extent : goal.split-requires-2-clause-extent
-split-requires-2-clause-extent c = in-taken _ c.self.invariant _ c.self.view_is c.args.root.0 c.args.last c.args.piece c.requires.piece _ c.list_number-list.ensures.number c.len-apart.ensures.apart
-
-made : (c : goal.After-split-2) → LosesPages c.args.self.now (record { pieces = c.insert.new.self; lists = c.split.new.self; taken = c.split-2.new.self }) c.args.root.0 c.args.page c.args.end
+made : (c : goal.After-split) → LosesPages c.args.self.now (record { pieces = c.insert.new.self; taken = c.split.new.self }) c.args.root.0 c.args.page c.args.end
 made c =
     let order = c.requires.order in
     keep-ends _ c.self.invariant _ c.self.view_is c.args.root.0 c.args.last c.args.piece c.requires.piece _ c.list_number-list.ensures.number c.len-apart.ensures.apart
     c.args.page c.args.end order.0 order.1 order.2 c.until.result c.from.result c.until.ensures c.from.ensures _ (c.insert.ensures.values ∙ ap (λ m. with_pair m c.args.root.0 (c.args.page - 1) (Some c.until.result)) c.replace.ensures.values)
-    c.split.ensures.extents c.split-2.ensures.extents
+    c.split.ensures.extents
 
 pub invariant_of-self : goal.invariant_of-self
 invariant_of-self c = (made c).are

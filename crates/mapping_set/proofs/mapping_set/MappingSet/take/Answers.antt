@@ -4,8 +4,8 @@ use Rattle.mapping_set.proofs.SetLaws.{whole, last_is, in-index, AreMappings-les
 use Rattle.mapping_set.proofs.TakenLaws.{piece-less, piece-there}
 use Rattle.mapping_set.proofs.mapping_set.MappingSet.take.Goals as goal
 
-pub remove-requires-2 : goal.remove-requires-2
-remove-requires-2 c =
+pub remove-requires : goal.remove-requires
+remove-requires c =
     let found = in-index _ c.self.invariant _ c.self.view_is c.args.root.0 _ _ c.from.ensures c.remove-piece.result c.list_number-list.ensures.number
     c.args.last c.remove-piece.ensures.value in
     piece-there _ _ _ found.0 found.1
@@ -15,13 +15,13 @@ invariant_of-self c =
     let found = in-index _ c.self.invariant _ c.self.view_is c.args.root.0 _ _ c.from.ensures c.remove-piece.result c.list_number-list.ensures.number
     c.args.last c.remove-piece.ensures.value in
     AreMappings-less _ c.self.invariant _ c.self.view_is c.args.root.0 _ _ c.from.ensures c.remove-piece.result c.list_number-list.ensures.number
-    c.args.last c.remove-piece.ensures.value (record { pieces = c.remove-piece.new.self; lists = c.remove.new.self; taken = c.remove-2.new.self }) c.remove-piece.ensures.values c.remove.ensures.extents
-    (piece-less _ _ _ _ found.0 found.1 c.remove-2.ensures.extents).0
+    c.args.last c.remove-piece.ensures.value (record { pieces = c.remove-piece.new.self; taken = c.remove.new.self }) c.remove-piece.ensures.values
+    (piece-less _ _ _ _ found.0 found.1 c.remove.ensures.extents).0
 
 pub returns-clause-table : goal.returns-clause-table
 returns-clause-table c =
     table-less _ c.self.invariant _ c.self.view_is c.args.root.0 _ _ c.from.ensures c.remove-piece.result c.list_number-list.ensures.number
-    c.args.last c.remove-piece.ensures.value (record { pieces = c.remove-piece.new.self; lists = c.remove.new.self; taken = c.remove-2.new.self }) c.remove-piece.ensures.values
+    c.args.last c.remove-piece.ensures.value (record { pieces = c.remove-piece.new.self; taken = c.remove.new.self }) c.remove-piece.ensures.values
 
 pub returns-clause-shown : goal.returns-clause-shown
 returns-clause-shown c =
@@ -37,4 +37,4 @@ pub returns-clause-places : goal.returns-clause-places
 returns-clause-places c =
     let found = in-index _ c.self.invariant _ c.self.view_is c.args.root.0 _ _ c.from.ensures c.remove-piece.result c.list_number-list.ensures.number
     c.args.last c.remove-piece.ensures.value in
-    (piece-less _ _ _ _ found.0 found.1 c.remove-2.ensures.extents).1 ∙ ap places_of c.self.view_is
+    (piece-less _ _ _ _ found.0 found.1 c.remove.ensures.extents).1 ∙ ap places_of c.self.view_is
