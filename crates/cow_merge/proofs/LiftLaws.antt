@@ -5,7 +5,7 @@ use Rattle.cow_merge.proofs.Words.{with_pair, passes, Tag, some_same, eqb_is, Sl
 use Rattle.cow_merge.proofs.Words.{other_side, side_of, child_on, side_in, Slots, Tree, Found, walk, frame_in, frame_found, frame_shown}
 use Rattle.cow_merge.proofs.Words.{IsForest, Climbs, Reaches, Arrives, SameElsewhere, with_row, reached_from, IsPage, Sees, IsSeenFrom}
 use Rattle.cow_merge.proofs.Words.{ShowsSame, Denies, AreSplitBits, IsExact, IsOnlyOf, with_frame, without_frame, IsInSight, IsMoved}
-use Rattle.cow_merge.proofs.Words.{IsAside}
+use Rattle.cow_merge.proofs.Words.{IsAside, IsReachedBelow}
 use Rattle.cow_arena.proofs.WalkLaws.{link_same}
 use Rattle.cow_arena.proofs.ReachLaws.{reach-cases, reach-last, reach-after, reach-hidden, reach-deeper, climbs-same, child-there}
 use Rattle.cow_arena.proofs.ReachLaws.{side-of-child, found-of-reach, walk-ends, walk-arrives, hidden-apart, arrives-or-not}
@@ -449,8 +449,7 @@ module _ (t : Tree) (f : IsForest t.nodes t.lists) (k h s : ℕ) (leaf parent si
         ]
 
     -- some side of a hidden sibling sees the row
-    below-seen : sibling.koid ≡ None → (side : Side) → IsSeenFrom t out side h q →
-        (below : Side) × (reached_from (with_row t parent.list.0 q None) None below s to ≡ true)
+    below-seen : sibling.koid ≡ None → (side : Side) → IsSeenFrom t out side h q → IsReachedBelow (with_row t parent.list.0 q None) s to
     below-seen none side seen =
         let way = (walk-ends t f seen.v seen.p _ seen.sees.found).way in
         let other = sight-apart t f k h s leaf parent sibling family visible out q aside seen.v seen.p (Some side) seen.in_sight way in
@@ -458,8 +457,7 @@ module _ (t : Tree) (f : IsForest t.nodes t.lists) (k h s : ℕ) (leaf parent si
         let here : it.0 ≡ to = omega (arith, (climbs-same t f s it.0 h q to h q it.3 (on-up t.slots free)).1) in
         by_side it.1 (subst (λ r. Arrives t seen.v seen.p it.1 s r) here it.2)
       where
-        by_side : (from : Option Side) → Arrives t seen.v seen.p from s to →
-            (below : Side) × (reached_from (with_row t parent.list.0 q None) None below s to ≡ true)
+        by_side : (from : Option Side) → Arrives t seen.v seen.p from s to → IsReachedBelow (with_row t parent.list.0 q None) s to
         by_side None way = absurd (hidden-apart t f s seen.v sibling seen.sees.page.node family.sibling_at none seen.sees.page.visible (sym way.0))
         by_side (Some below) way =
             let sees : Sees both seen.v seen.p (Some below) s to = record {
@@ -483,14 +481,16 @@ module _ (t : Tree) (f : IsForest t.nodes t.lists) (k h s : ℕ) (leaf parent si
         by_row (Slot.Frame tag left right) is e =
             by_bits left right (exact.bits h q parent tag left right family.parent_at (hidden t f k h s leaf parent sibling family visible) is)
 
+    pub frame-reached : sibling.koid ≡ None → (tag : ℕ) → frame_in was ≡ Some tag → IsReachedBelow (with_row t parent.list.0 q None) s to
+    frame-reached none tag frame = let from = is-seen tag frame in below-seen none from.0 from.1
+
     module _ (bits : IsMoved (with_row t parent.list.0 q None) s to sibling was now) where
       own-bits : sibling.koid ≡ None → (tag : Tag) (left right : Bool) → Some now ≡ Some (Slot.Frame tag left right) →
           AreSplitBits filled out s to left right
       own-bits none tag left right e =
           let is : now ≡ Slot.Frame tag left right = some_same e in
           let split = bits.split tag left right is none in
-          let from = is-seen tag.0 (sym frames ∙ ap frame_in is) in
-          let below = below-seen none from.0 from.1 in
+          let below = frame-reached none tag.0 (sym frames ∙ ap frame_in is) in
           record {
             left_bit = denies Side.Left left split.0;
             right_bit = denies Side.Right right split.1;

@@ -10,7 +10,7 @@ use Rattle.cow_merge.proofs.Words.{reached_from, IsPage, IsSeenFrom, ShowsSame, 
 use Rattle.cow_merge.proofs.Words.{leaving_out, without_frame, split_on, answer_on, slots_from, answer_from, slots_after, answer_after}
 use Rattle.cow_merge.proofs.Words.{cut_slots, cut_answer, frame_left, Backlink, Pool, taken_frames, is_taken, links_of, bit_on}
 use Rattle.cow_merge.proofs.Words.{leaving_range, AreLinked, IsLeftOut, IsHeldBy, IsSparing, Accounts, Moves, HasGiven, IsInSight}
-use Rattle.cow_merge.proofs.Words.{IsNotFrom, IsAside, AreLifted, IsLifting, IsBefore, IsFamilyOf, SeesRow, IsMoved, TellsSeen}
+use Rattle.cow_merge.proofs.Words.{IsNotFrom, IsAside, AreLifted, IsLifting, IsBefore, IsFamilyOf, SeesRow, IsMoved, IsReachedBelow, TellsSeen}
 use Rattle.cow_merge.proofs.Words.{is_row_of_frame, KeepsFamily}
 use Rattle.cow_arena.proofs.RisesSplicedLaws.{below-same, below-then, below-fewer, below-gone, below-moved}
 use Rattle.cow_arena.proofs.ReachLaws.{side-is, side-of-child, reach-one, reach-on, reach-through, found-of-reach, walk-ends}
@@ -23,7 +23,7 @@ use Rattle.cow_split.proofs.ExactLaws.{cases_place}
 use Rattle.cow_split.proofs.CutLaws.{exact-cut, cut-shows, page-over}
 use Rattle.cow_merge.proofs.PassingLaws.{range-exact}
 use Rattle.cow_merge.proofs.SpliceLaws.{family-apart}
-use Rattle.cow_merge.proofs.LiftLaws.{lists-apart, leaf-step, hidden, not-below, dropped-shows, dropped-exact, moved-shows, moved-exact}
+use Rattle.cow_merge.proofs.LiftLaws.{lists-apart, leaf-step, hidden, not-below, dropped-shows, dropped-exact, moved-shows, moved-exact, frame-reached}
 use Rattle.cow_merge.proofs.RangeLaws.{moves-as, moves-then, moves-same, accounts-part}
 
 -- a slot that has a frame, by the test
@@ -294,44 +294,54 @@ module _ (t : Tree) (k h s : ℕ) (leaf parent sibling : Node) (family : AreFami
                   ∙ subst (λ x. still.slots sibling.list.0 x ≡ None) here (subst (λ (n : Node). still.slots n.list.0 r ≡ None) same step.free);
             })
 
-    -- a row that the sibling sees moves
-    pub row-moved : (now : Slot) → SeesRow t.slots sibling q →
-        IsMoved (with_row t parent.list.0 q None) s (q - sibling.first) sibling row now →
-        IsCut t k leaf q (with_pair (with_pair t.slots parent.list.0 q None) sibling.list.0 (q - sibling.first) (Some now)) out still.now in_use None
-    row-moved now sees bits = record {
-      exact = subst (λ (x : Slots). IsExact (record t { slots = with_pair x sibling.list.0 (q - sibling.first) (Some now) }) still.now (without_frame in_use None)) still.same
-          (moved-exact u f k h s leaf parent sibling family visible q (q - sibling.first) still.there now still.at free sees.inside to_page frames
-          still.now (without_frame in_use None) still.is_cut.exact still.is_cut.only still.is_cut.aside bits_there);
-      only = still.is_cut.only;
-      aside = still.is_cut.aside;
-      more = still.is_cut.more;
-      shows = λ w p page sight.
-          sym (ap (λ (x : Slots). frame_shown (record t { slots = with_pair x sibling.list.0 (q - sibling.first) (Some now) }) w p) still.same)
-          ∙ (moved-shows u f k h s leaf parent sibling family visible q (q - sibling.first) still.there now still.at free sees.inside to_page frames
-          still.now still.is_cut.aside w p (page-over t still.slots w p page) sight
-          ∙ still.is_cut.shows w p page sight);
-    }
-      where
-        to_page : q ≡ sibling.first + (q - sibling.first)
-        to_page = omega (arith, sees.from)
+    -- a row that the sibling sees
+    module _ (sees : SeesRow t.slots sibling q) where
+      to_page : q ≡ sibling.first + (q - sibling.first)
+      to_page = omega (arith, sees.from)
 
-        free : still.slots sibling.list.0 (q - sibling.first) ≡ None
-        free =
-            let apart = lists-apart t f k h s leaf parent sibling family visible in
-            still.beside sibling.list.0 (q - sibling.first) (λ list. apart (sym list)) ∙ sees.free
+      free : still.slots sibling.list.0 (q - sibling.first) ≡ None
+      free =
+          let apart = lists-apart t f k h s leaf parent sibling family visible in
+          still.beside sibling.list.0 (q - sibling.first) (λ list. apart (sym list)) ∙ sees.free
 
-        frames : frame_in now ≡ frame_in still.there
-        frames = bits.frame ∙ sym still.frame
+      -- it is reached from some side of a hidden sibling
+      pub row-reached : (tag : ℕ) → frame_in row ≡ Some tag → sibling.koid ≡ None →
+          IsReachedBelow (with_row t parent.list.0 q None) s (q - sibling.first)
+      row-reached tag frame none =
+          subst (λ (x : Slots). IsReachedBelow (record t { slots = x }) s (q - sibling.first)) still.same
+          (frame-reached u f k h s leaf parent sibling family visible q (q - sibling.first) still.there still.there still.at free sees.inside to_page refl
+          still.now (without_frame in_use None) still.is_cut.exact still.is_cut.only still.is_cut.aside none tag (still.frame ∙ frame))
 
-        bits_there : IsMoved (with_row u parent.list.0 q None) s (q - sibling.first) sibling still.there now
-        bits_there = record {
-          frame = frames;
-          plain = bits.plain;
-          split = subst (λ (x : Slots). (tag : Tag) (left right : Bool) → now ≡ Slot.Frame tag left right → sibling.koid ≡ None →
-              (left ≡ not (reached_from (record t { slots = x }) None Side.Left s (q - sibling.first)))
-              × (right ≡ not (reached_from (record t { slots = x }) None Side.Right s (q - sibling.first))))
-              (sym still.same) bits.split;
-        }
+      -- it moves
+      pub row-moved : (now : Slot) →
+          IsMoved (with_row t parent.list.0 q None) s (q - sibling.first) sibling row now →
+          IsCut t k leaf q (with_pair (with_pair t.slots parent.list.0 q None) sibling.list.0 (q - sibling.first) (Some now)) out still.now in_use None
+      row-moved now bits = record {
+        exact = subst (λ (x : Slots). IsExact (record t { slots = with_pair x sibling.list.0 (q - sibling.first) (Some now) }) still.now (without_frame in_use None)) still.same
+            (moved-exact u f k h s leaf parent sibling family visible q (q - sibling.first) still.there now still.at free sees.inside to_page frames
+            still.now (without_frame in_use None) still.is_cut.exact still.is_cut.only still.is_cut.aside bits_there);
+        only = still.is_cut.only;
+        aside = still.is_cut.aside;
+        more = still.is_cut.more;
+        shows = λ w p page sight.
+            sym (ap (λ (x : Slots). frame_shown (record t { slots = with_pair x sibling.list.0 (q - sibling.first) (Some now) }) w p) still.same)
+            ∙ (moved-shows u f k h s leaf parent sibling family visible q (q - sibling.first) still.there now still.at free sees.inside to_page frames
+            still.now still.is_cut.aside w p (page-over t still.slots w p page) sight
+            ∙ still.is_cut.shows w p page sight);
+      }
+        where
+          frames : frame_in now ≡ frame_in still.there
+          frames = bits.frame ∙ sym still.frame
+
+          bits_there : IsMoved (with_row u parent.list.0 q None) s (q - sibling.first) sibling still.there now
+          bits_there = record {
+            frame = frames;
+            plain = bits.plain;
+            split = subst (λ (x : Slots). (tag : Tag) (left right : Bool) → now ≡ Slot.Frame tag left right → sibling.koid ≡ None →
+                (left ≡ not (reached_from (record t { slots = x }) None Side.Left s (q - sibling.first)))
+                × (right ≡ not (reached_from (record t { slots = x }) None Side.Right s (q - sibling.first))))
+                (sym still.same) bits.split;
+          }
 
   -- The leaf has no rows.
   module _ (bare : (p : ℕ) → t.slots leaf.list.0 p ≡ None) where
@@ -670,7 +680,7 @@ module _ (arena : Arena) (first : Slots) (between after : Pool) (k h s : ℕ) (o
       next : StillThere first_tree k of.node of.parent.list.0 q row was.out (is_taken between) →
           HasLiftedOn arena first (with_pair (with_pair first of.parent.list.0 q None) of.sibling.list.0 (q - of.sibling.first) (Some now)) after k h s of
       next still = lifted-next (with_pair (with_pair first of.parent.list.0 q None) of.sibling.list.0 (q - of.sibling.first) (Some now)) None still.now
-          (row-moved first_tree k h s of.node of.parent of.sibling of.family of.visible q row has was.out (is_taken between) was.exact was.only still now sees moved)
+          (row-moved first_tree k h s of.node of.parent of.sibling of.family of.visible q row has was.out (is_taken between) was.exact was.only still sees now moved)
           (λ x. taken x ∙ without-none (is_taken between) x)
           (λ l p list apart.
           with_pair-other _ of.sibling.list.0 (q - of.sibling.first) (Some now) l p (λ a _. list a)
@@ -683,6 +693,19 @@ module _ (arena : Arena) (first : Slots) (between after : Pool) (k h s : ℕ) (o
       moves (Slot.Frame tag left right) e = next
           (row-there first_tree k h s of.node of.parent of.sibling of.family of.visible q row has was.out (is_taken between) was.exact was.only was.bare tag left right e
           (bit tag left right e))
+
+  -- one that the sibling sees is reached from some side of the sibling, if this is hidden
+  pub lifted-reached : SeesRow first of.sibling q →
+      ((tag : Tag) (left right : Bool) → row ≡ Slot.Frame tag left right → bit_on (other_side (side_of of.parent k)) left right ≡ false) →
+      (tag : ℕ) → frame_in row ≡ Some tag → of.sibling.koid ≡ None → IsReachedBelow (with_row first_tree of.parent.list.0 q None) s (q - of.sibling.first)
+  lifted-reached sees bit tag frame none = by_row row refl
+    where
+      by_row : (r : Slot) → row ≡ r → IsReachedBelow (with_row first_tree of.parent.list.0 q None) s (q - of.sibling.first)
+      by_row Slot.Zero e = absurd (let same = ap frame_in e in cc)
+      by_row (Slot.Frame one left right) e = row-reached first_tree k h s of.node of.parent of.sibling of.family of.visible q row has was.out (is_taken between)
+          was.exact was.only
+          (row-there first_tree k h s of.node of.parent of.sibling of.family of.visible q row has was.out (is_taken between) was.exact was.only was.bare one left right e
+          (bit one left right e)) sees tag frame none
 
 -- A row stands at page p of list l with the frame that stood at page q of list `own`, and the frame's backlink leads there. Each other
 -- row stood where it stands.
@@ -781,6 +804,12 @@ module _ {arena : Arena} {first : Rows Row} (mid : Rows Row) {between : Pool} {k
         by_row Slot.Zero e = (tells.zero e).0 on
         by_row (Slot.Frame tag left right) e = sees-mid (row-sees t k h s node parent sibling was.of.family was.of.visible q row has was.lifted.out
             (is_taken between) was.lifted.exact was.lifted.only tag left right e (bit-off on tag left right e))
+
+    -- and it is reached from some side of the sibling, if this is hidden
+    pub settled-reached : seen ≡ true → (tag : ℕ) → frame_in row ≡ Some tag → sibling.koid ≡ None → IsReachedBelow (tree_of arena mid) s (q - sibling.first)
+    settled-reached on tag frame none =
+        subst (λ (x : Slots). IsReachedBelow (record (tree_of arena first) { slots = x }) s (q - sibling.first)) (sym taken_out)
+        (lifted-reached arena (slots_of first) between between k h s was.of q row was.lifted has (sees-first (settled-sees on)) (bit-off on) tag frame none)
 
     -- if not, it goes with its frame
     pub settled-gone : {after : Pool} → seen ≡ false → HasGiven between after (frame_in row) → row_count mid + 1 ≡ row_count first →

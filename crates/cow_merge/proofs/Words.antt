@@ -57,8 +57,8 @@ unfoldable pub use Rattle.cow_merge.specs.Ranges.{leaving_range}
 pub use Rattle.cow_merge.specs.declared.ranges.Pages.{Pages}
 pub use Rattle.cow_merge.specs.declared.witness.Way.{Way}
 pub use Rattle.cow_merge.specs.inside.HandingOver.{AreSeenFrom, frame_there, IsHandingOver}
-pub use Rattle.cow_merge.specs.inside.Lifting.{AreLifted, is_row_of_frame, IsAside, IsBefore, IsFamilyOf, IsLifting, IsMoved, KeepsFamily}
-pub use Rattle.cow_merge.specs.inside.Lifting.{SeesRow, TellsSeen}
+pub use Rattle.cow_merge.specs.inside.Lifting.{AreLifted, is_row_of_frame, IsAside, IsBefore, IsFamilyOf, IsLifting, IsMoved, IsReachedBelow}
+pub use Rattle.cow_merge.specs.inside.Lifting.{KeepsFamily, SeesRow, TellsSeen}
 pub use Rattle.cow_merge.specs.inside.Sharing.{AreReached, AreShared, IsDown, IsReached}
 pub use Rattle.cow_merge.specs.inside.Uncovering.{IsUncovering, without_bits}
 pub use Rattle.cow_merge.specs.inside.Witness.{ComesBeside, IsBeside, IsEntered, IsOneMore, IsWayWithin, SeesRowOf, ShowsOnlyOf}

@@ -3,15 +3,17 @@
 ghost use Rattle.std.specs.Prelude.{◌≡◌, ◌≤◌, ◌<◌, ◌^◌, ◌↔◌, ◌==◌, ℕ, if◌then◌else◌, true, None, Some, IsSome, IfSome, IfNone, IsTrue};
 ghost use Rattle.balanced_tree.specs.Pairs.{IsNext};
 ghost use Rattle.page_list.specs.declared.row.Slot.{Slot};
+ghost use Rattle.cow_arena.specs.declared.node.Side.{Side};
 ghost use Rattle.page_list.specs.Lists.{slots_of};
 ghost use Rattle.cow_arena.specs.declared.node.Node.{Node};
 ghost use Rattle.cow_arena.specs.Nodes.{nodes_of};
 ghost use Rattle.cow_arena.specs.Forest.{IsForest};
 ghost use Rattle.cow_arena.specs.Walk.{frame_in};
+ghost use Rattle.cow_split.specs.Search.{reached_from};
 ghost use Rattle.cow_split.specs.Trees.{tree_of};
 ghost use Rattle.frame_pool.specs.Pool.{taken_frames, links_of};
 ghost use Rattle.cow_merge.specs.Ranges.{Moves};
-ghost use Rattle.cow_merge.specs.inside.Lifting.{IsLifting, KeepsFamily, IsBefore, TellsSeen, SeesRow, IsMoved, is_row_of_frame};
+ghost use Rattle.cow_merge.specs.inside.Lifting.{IsLifting, KeepsFamily, IsBefore, TellsSeen, SeesRow, IsMoved, IsReachedBelow, is_row_of_frame};
 
 use crate::places::Family;
 use crate::ranges::give_back_frame;
@@ -141,7 +143,8 @@ fn sees_row(lists: &PageLists, node: Node, page: PageNo) -> bool
 }
 
 /// Returns the slot with the bits that it has in the list of node `at`, which is `node`, at a page of this node. If the
-/// node is visible, both bits are clear. If it is hidden, each bit says whether no VMO on its side sees the row.
+/// node is visible, both bits are clear. If it is hidden, each bit says whether no VMO on its side sees the row. Some VMO
+/// does.
 fn slot_in(
     arena: &CowArena,
     lists: &PageLists,
@@ -152,20 +155,62 @@ fn slot_in(
 ) -> Slot
     requires forest { IsForest (nodes_of arena.now) arena.now.lists }
     requires node { nodes_of arena.now at.0 ≡ Some node }
+    requires seen { (tag : ℕ) → frame_in slot ≡ Some tag → node.koid ≡ None → IsReachedBelow (tree_of arena.now lists.now) at.0 page }
     ensures { IsMoved (tree_of arena.now lists.now) at.0 page node slot result }
 {
-    match slot {
-        Slot::Frame { tag, .. } if node.koid.is_none() => Slot::Frame {
-            tag,
-            left: !reached_from(arena, lists, None, Side::Left, at, page),
-            right: !reached_from(arena, lists, None, Side::Right, at, page),
-        },
-        Slot::Frame { tag, .. } => Slot::Frame {
+    let Slot::Frame { tag, .. } = slot else {
+        return Slot::Zero;
+    };
+    if node.koid.is_some() {
+        return Slot::Frame {
             tag,
             left: false,
             right: false,
-        },
-        Slot::Zero => Slot::Zero,
+        };
+    }
+    let (left, right) = sides_reached(arena, lists, at, node, page);
+    Slot::Frame {
+        tag,
+        left: !left,
+        right: !right,
+    }
+}
+
+/// Returns from which sides, left and right, a page of node `at`, which is `node`, is reached. It is reached from one side
+/// at least. So if it is not reached from the side that is searched first, there is no search on the other side. A child
+/// that is a VMO's node is searched first, since there is nothing below it.
+fn sides_reached(
+    arena: &CowArena,
+    lists: &PageLists,
+    at: NodeId,
+    node: Node,
+    page: PageNo,
+) -> (bool, bool)
+    requires forest { IsForest (nodes_of arena.now) arena.now.lists }
+    requires node { nodes_of arena.now at.0 ≡ Some node }
+    requires reached { IsReachedBelow (tree_of arena.now lists.now) at.0 page }
+    ensures left { result.0 ≡ reached_from (tree_of arena.now lists.now) None Side.Left at.0 page }
+    ensures right { result.1 ≡ reached_from (tree_of arena.now lists.now) None Side.Right at.0 page }
+{
+    if has_leaf_left(arena, at, node) {
+        let left = reached_from(arena, lists, None, Side::Left, at, page);
+        let right = !left || reached_from(arena, lists, None, Side::Right, at, page);
+        (left, right)
+    } else {
+        let right = reached_from(arena, lists, None, Side::Right, at, page);
+        let left = !right || reached_from(arena, lists, None, Side::Left, at, page);
+        (left, right)
+    }
+}
+
+/// Reports whether the left child of node `at`, which is `node`, is a VMO's node, or there is none.
+fn has_leaf_left(arena: &CowArena, at: NodeId, node: Node) -> bool
+    requires forest { IsForest (nodes_of arena.now) arena.now.lists }
+    requires node { nodes_of arena.now at.0 ≡ Some node }
+{
+    match node.left {
+        Some(child) => arena.node(child).koid.is_some(),
+        None => true,
     }
 }
 

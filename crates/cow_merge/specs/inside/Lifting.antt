@@ -28,6 +28,10 @@ pub record SeesRow (slots : Slots) (node : Node) (q : ℕ) : Type 0 where
   pub inside : q - node.first < node.seen
   pub free : slots node.list.0 (q - node.first) ≡ None
 
+-- page p of node s is reached from one side at least
+abbrev pub IsReachedBelow : Tree → (s p : ℕ) → Type 0
+IsReachedBelow t s p = (below : Side) × (reached_from t None below s p ≡ true)
+
 -- The row moves to page p of node s, and keeps its frame. In a visible node its bits are false, and in a hidden one
 -- each says that no VMO on its side sees the row.
 pub record IsMoved (t : Tree) (s p : ℕ) (node : Node) (before after : Slot) : Type 0 where

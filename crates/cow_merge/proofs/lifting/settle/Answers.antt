@@ -1,6 +1,6 @@
 -- A row that is seen through the child is seen by the child, and moves. Any other row goes.
 use Rattle.cow_merge.proofs.Words.{sym, ◌∙◌, slots_of}
-use Rattle.cow_merge.proofs.LiftedLaws.{lifting-with, row-taken, list-gone, list-moved, settled-sees, settled-gone, settled-moved}
+use Rattle.cow_merge.proofs.LiftedLaws.{lifting-with, row-taken, list-gone, list-moved, settled-sees, settled-reached, settled-gone, settled-moved}
 use Rattle.cow_merge.proofs.lifting.settle.Goals as goal
 
 pub give_back_frame-requires : goal.give_back_frame-requires
@@ -27,6 +27,12 @@ overflow_sub-to c =
 
 pub slot_in-moved-requires-clause-forest : goal.slot_in-moved-requires-clause-forest
 slot_in-moved-requires-clause-forest c = c.requires.lifting.lifted.exact.forest
+
+pub slot_in-moved-requires-clause-seen : goal.slot_in-moved-requires-clause-seen
+slot_in-moved-requires-clause-seen c = λ tag frame none.
+    let was = lifting-with c.requires.lifting c.args.branch.above c.args.branch.node c.requires.above c.requires.node in
+    settled-reached c.remove-slot.new.self c.args.page c.remove-slot.result was c.remove-slot.ensures.slot c.remove-slot.ensures.slots c.side_of-side.result c.side_of-side.ensures c.is_seen_through.result c.is_seen_through.ensures
+    c.if-not-is_seen_through.false tag frame none
 
 pub insert-requires-clause-absent : goal.insert-requires-clause-absent
 insert-requires-clause-absent c =
