@@ -83,8 +83,8 @@ class Trees:
 def page(turns, asked):
     """Yields the page of a script."""
     if len(asked.lines) > MOST_LINES:
-        raise Trouble(2, f"a page has at most {MOST_LINES} lines, and the script has {len(asked.lines)}; --at {MOST_LINES} shows the first, and "
-                         "tools/play any line")
+        raise Trouble(2, f"a page has at most {MOST_LINES:,} lines, and the script has {len(asked.lines):,}; tools/play --page shows "
+                         f"up to 100,000, and --at {MOST_LINES} here the first")
     rows, trees, ranks, lines, machine = Rows(), Trees(asked), Ranks(asked.word), [], None
     for turn, machine in turns:
         tree = trees.tree_of(turn, machine)
