@@ -54,7 +54,7 @@ _vmosim_play() {
     case ${COMP_WORDS[COMP_CWORD - 1]} in
         --word) _vmosim_offer 'run batch sources' ;;
         --frames | --port) COMPREPLY=() ;;
-        *) _vmosim_offer '--frames --word --no-open --port --program --tree --help' -f ;;
+        *) _vmosim_offer '--page --frames --word --no-open --port --program --tree --help' -f ;;
     esac
 }
 

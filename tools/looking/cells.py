@@ -1,12 +1,14 @@
 """Pages as cells of a picture: runs of equal pages, folded if they are long, and how each is drawn. Nothing in it has an id, so that
 pictures may stand on one page."""
+import functools
 from html import escape
 from typing import NamedTuple
 
 FOLDED = 9
 LONG_NUMBER = 1_000_000
 MOST_CELLS = 60
-CELL, FOLD, HEIGHT, GAP, NUMBER, BAR, BAR_STEP = 44, 104, 24, 3, 11, 6, 12
+MOST_KEPT = 1 << 14
+CELL, FOLD, HEIGHT, GAP, NUMBER, BAR, BAR_STEP = 44, 104, 24, 3, 13, 6, 12
 # Fills for cells with black labels, one for each VMO that pays. Any two are at least 23 apart in CIE Lab, and neighbours 37, also as
 # they are simulated for each of the three kinds of colour blindness. They stand on white and on black.
 COLOURS = ("#44dddd", "#ffcc44", "#8866ff", "#dd4466", "#dd88ff", "#ccddaa", "#4488aa", "#dd8844")
@@ -117,8 +119,9 @@ def label_of(cell, numbers):
     return ("" if look.kind == "zero" else WORDS[look.kind]) if count == 1 else f"{count:,} {WORDS[look.kind]}"
 
 
+@functools.lru_cache(MOST_KEPT)
 def drawn(cell, x, y, numbers):
-    """Draws a cell, with the numbers of its frames."""
+    """Draws a cell, with the numbers of its frames. Those of one picture are mostly those of the picture before, and are kept."""
     width, look = cell.width(), cell.look
     first, last = cell.pages.start, cell.pages.stop - 1
     where = f"page {first:,}" if first == last else f"pages {first:,} to {last:,}"
@@ -139,7 +142,7 @@ def drawn(cell, x, y, numbers):
         out += rect(x - 1.5, y - 1.5, width + 3, HEIGHT + 3, "new", ' rx="4"')
     number = f"{first:,}" if first == last else f"{first:,} to {last:,}"
     number = f"from {first:,}" if len(number) * 4.9 > width else number
-    return out + text(x + width / 2, y + HEIGHT + 9, f"{number} {look.note}".strip(), 8, "dim", ' text-anchor="middle"') + "</g>"
+    return out + text(x + width / 2, y + HEIGHT + 10, f"{number} {look.note}".strip(), 8, "dim", ' text-anchor="middle"') + "</g>"
 
 
 def bar(x, y, width, ready, is_new):

@@ -7,6 +7,10 @@ class Before:
     def __init__(self, before, now):
         self.before = now if before is None else before
         self.now = now
+        changed = {place for place, _ in self.before.items() ^ now.items()}
+        # Of which VMOs the last line changed pages or the name, and whether it changed what pins or mappings show.
+        self.koids = {place[1] for place in changed if place[0] in ("page", "vmo")}
+        self.has_others = any(place[0] not in ("page", "vmo") for place in changed)
         self.zeroed = {}
         for place in self.before:
             if place[0] == "page" and place not in now:

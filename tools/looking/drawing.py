@@ -80,9 +80,10 @@ class Piece:
 
 class Scene:
     """What the rows of a picture are drawn from: what VMOs are called, and by their koids their names, pins and pieces, each found in one
-    pass over all."""
+    pass over all. Rows of earlier pictures are kept, and those that would be drawn alike are taken from there."""
 
-    def __init__(self, machine, before):
+    def __init__(self, machine, before, kept):
+        self.kept = {} if kept is None else kept
         self.before, self.labels, self.names = before, machine.labels(), names_by_koid(machine)
         self.pins, self.pieces = {}, {}
         for name, it in sorted(machine.pins.items(), key=lambda it: int(it[0][1:])):
@@ -91,6 +92,13 @@ class Scene:
             for piece in pieces_of(root):
                 self.pieces.setdefault(piece[1][0].koid, []).append(Piece(root, piece, before))
         self.sharers_of = functools.cache(lambda frame: sorted(frame.koids))
+        self.seen_as = functools.cache(self.number_of)
+
+    def number_of(self, frame):
+        """Returns a number that stands for a frame and all that is said of it, the same in each picture."""
+        sharers = self.sharers_of(frame)
+        seen = (frame.slot, len(sharers), *map(self.labels.__getitem__, sharers[: MOST_SHARERS + 1]), sharers[0])
+        return self.kept.setdefault(seen, len(self.kept))
 
     def sharers_words(self, frame, koid):
         """Says which VMOs show a frame besides one."""
@@ -125,7 +133,20 @@ class VmoRow:
         return Look("held", payer, tag, holds[0] if holds else "", hint, bool(holds), ready, is_new, new_ready)
 
     def row(self, depth):
-        """Returns the row."""
+        """Returns the row: that of an earlier picture, if it would be drawn alike."""
+        vmo, before = self.vmo, self.before
+        if vmo.koid in before.koids or before.has_others and (self.pins or self.pieces):
+            return self.made(depth)
+        key = (vmo.koid, depth, vmo.count, *((it["name"], it["kind"]) for it in self.scene.names[vmo.koid]), None,
+               *vmo.pages, None, *map(self.scene.seen_as, vmo.pages.values()), None, *self.pins,
+               *((it.name, it.pages, it.ahead, *it.ready.items()) for it in self.pieces))
+        row = self.scene.kept.get(key)
+        if row is None:
+            row = self.scene.kept[key] = self.made(depth)
+        return row
+
+    def made(self, depth):
+        """Makes the row."""
         vmo = self.vmo
         ends = {end for it in self.pieces for end in it.ends()} | {vmo.count}
         stop = max([vmo.count, *(it.pages.stop + it.ahead for it in self.pieces)])
@@ -137,10 +158,10 @@ class VmoRow:
         small = f"pays {pays:,}{uses} of {vmo.count:,} page{'' if vmo.count == 1 else 's'}"
         label = Label(depth, vmo.koid, " ".join(names) or f"koid {vmo.koid}", small, self.before.is_new("vmo", vmo.koid))
         shown = self.pieces[:MOST_BARS]
-        row = row_of(cells, label, lambda cell: [vmo.pages[it].slot for it in cell.pages] if cell.look.kind == "held" else [],
+        row = row_of(cells, label, lambda cell: tuple(vmo.pages[it].slot for it in cell.pages) if cell.look.kind == "held" else (),
                      [(it.name, it.is_new) for it in shown])
         left = len(self.pieces) - len(shown)
-        return row if not left else Row(row.height + 12, row.drawn + text(LABEL, row.height, f"and {left:,} mappings more", 9, "dim"), row.right)
+        return row if not left else Row(row.height + 12, (*row.parts, text(LABEL, row.height, f"and {left:,} mappings more", 9, "dim")), row.right)
 
 
 def space_rows(machine):
@@ -155,12 +176,13 @@ def space_rows(machine):
             yield text_row(f"{what} {region.name}: {span}" + ("" if root.mappings or parent else "; nothing is mapped"), x=MARGIN + STEP * min(depth, 6))
 
 
-def rows_of(machine, before=None):
-    """Returns the rows of a picture. What differs from the marks before the last line is marked as changed."""
+def rows_of(machine, before=None, kept=None):
+    """Returns the rows of a picture. What differs from the marks before the last line is marked as changed. Pictures of one machine may
+    keep their rows for the next ones."""
     if isinstance(machine, SourceMachine):
         return source_rows(machine, Before(before, source_marks(machine)))
     change = Before(before, marks_of(machine))
-    scene = Scene(machine, change)
+    scene = Scene(machine, change, kept)
     rows = [VmoRow(scene, vmo).row(depth) for vmo, depth in tree_of(machine.vmos, lambda it: it.parent and it.parent.koid)] or [text_row("no VMO")]
     if change.gone():
         rows.append(text_row(f"gone: {', '.join(change.gone())}", "new"))
@@ -210,12 +232,12 @@ def legend_rows(rows, words, least):
                 x = MARGIN
             lines[-1].append(f'<g transform="translate({x:g} 11)">{sample_of(kind, payer, tag)}{text(SAMPLE + 6, 0, said, 10, "dim")}</g>')
             x += length
-    return [Row(16 if it else 0, "".join(it), width) for it in lines]
+    return [Row(16 if it else 0, tuple(it), width) for it in lines]
 
 
-def all_rows(machine, before=None, least=LEAST_WIDTH):
+def all_rows(machine, before=None, least=LEAST_WIDTH, kept=None):
     """Returns the rows of a picture with those of its legend, which is at least so wide."""
-    rows = rows_of(machine, before)
+    rows = rows_of(machine, before, kept)
     return rows + legend_rows(rows, SOURCES_LEGEND if isinstance(machine, SourceMachine) else LEGEND, least)
 
 
@@ -229,7 +251,7 @@ def picture(rows, heading, title, scheme="auto"):
             out.append(text(MARGIN, y, line, 12 if at == 0 else 11, "" if at == 0 else "dim", ' font-weight="bold"' if at == 0 else ""))
     y += 12
     for row in rows:
-        out.append(f'<g transform="translate(0 {y:g})">{row.drawn}</g>')
+        out.append(f'<g transform="translate(0 {y:g})">{row.drawn()}</g>')
         y += row.height
     said = "; ".join(heading)
     return (f'<svg xmlns="http://www.w3.org/2000/svg" class="vm" role="img" width="{width}" height="{y + 6:g}" viewBox="0 0 {width} {y + 6:g}" '

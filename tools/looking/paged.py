@@ -59,7 +59,7 @@ def vmo_row(labels, vmo, depth, change):
     comes = f"source {vmo.backing.kind}, seed {vmo.backing.seed}" if vmo.backing else f"child of {labels[vmo.link.parent.koid]}"
     label = Label(depth, vmo.koid, labels[vmo.koid], f"{comes}, {len(vmo.held):,} held",
                   change.is_new("vmo", vmo.koid))
-    return row_of(cells, label, lambda cell: [vmo.held[it].slot for it in cell.pages] if cell.look.kind == "held" else [])
+    return row_of(cells, label, lambda cell: tuple(vmo.held[it].slot for it in cell.pages) if cell.look.kind == "held" else ())
 
 
 def source_rows(machine, change):

@@ -1,4 +1,5 @@
 """The turns of a script: each line with its reply, by the program and by the model side by side."""
+import itertools
 import pathlib
 import re
 import sys
@@ -65,26 +66,51 @@ def answered(replies):
     return cut(" / ".join(replies), MOST_ANSWER) or "nothing"
 
 
-def play(lines, word, frames, program):
-    """Yields each turn with the machine behind it. Replies are the program's, or the model's without one. The first turn at which
-    both differ ends it."""
-    machine = MACHINES[word](frames)
-    said = replies_of(program, word, frames, lines) if program else None
-    at = 0
-    for number, line in enumerate(lines, 1):
+class Said:
+    """The lines that a program answers, as they come."""
+
+    def __init__(self, lines):
+        self.lines, self.next = iter(lines), None
+
+    def first(self):
+        """Returns the next line, or an empty text if there is none."""
+        if self.next is None:
+            self.next = next(self.lines, None)
+        return self.next or ""
+
+    def take(self, count):
+        """Takes so many lines, or those that there are."""
+        self.first()
+        if not count or self.next is None:
+            return []
+        taken, self.next = [self.next, *itertools.islice(self.lines, count - 1)], None
+        return taken
+
+
+def follow(machine, lines, said, first=1):
+    """Yields each turn with the machine behind it. Replies are those that were said, or the machine's own if there are none. The first
+    turn at which both differ ends it."""
+    for number, line in enumerate(lines, first):
         taken, given = machine.taken, machine.given
-        wanted = machine.answer(line, said[at] if said and at < len(said) else "")
+        wanted = machine.answer(line, said.first() if said else "")
         if said is not None:
-            got = said[at : at + len(wanted)]
-            at += len(got)
+            got = said.take(len(wanted))
             if got != wanted:
                 both = f"the program answers {answered(got)}\nlook: the model answers   {answered(wanted)}"
                 raise Trouble(1, f"line {number}, {cut(visible(line), MOST_ANSWER)!r}: the answers differ\nlook: {both}")
         faults = re.match(r"OK faults=(\d+)", wanted[0]) if wanted else None
         yield Turn(number, line, wanted, machine.taken - taken, machine.given - given, machine.used,
                    int(faults[1]) if faults else 0, machine.refusal), machine
-    if said is not None and at < len(said):
-        both = f"the program answers {answered(said[at:])}\nlook: the model answers   nothing"
+
+
+def play(lines, word, frames, program):
+    """Yields each turn with the machine behind it. Replies are the program's, or the model's without one. The first turn at which
+    both differ ends it."""
+    said = Said(replies_of(program, word, frames, lines)) if program else None
+    yield from follow(MACHINES[word](frames), lines, said)
+    left = said.take(sys.maxsize) if said else []
+    if left:
+        both = f"the program answers {answered(left)}\nlook: the model answers   nothing"
         raise Trouble(1, f"behind the last line: the answers differ\nlook: {both}")
 
 

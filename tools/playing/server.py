@@ -4,11 +4,12 @@ import http.server
 import json
 import pathlib
 import secrets
+import threading
 
 from looking.turns import TOP
 from machine_model import BatchMachine, Machine, SourceMachine
 
-from .workers import Ended
+from .workers import Ended, Worker, Workers
 
 HERE = pathlib.Path(__file__).resolve().parent
 MIRROR = pathlib.Path("/usr/share/javascript/codemirror")
@@ -35,20 +36,14 @@ def examples():
 
 
 class Site:
-    """What the page is made of, and who answers."""
+    """What a page is made of, by its paths below a secret."""
 
-    def __init__(self, given, answerer, workers):
+    def __init__(self, page, start, names):
         self.secret = secrets.token_urlsafe(18)
-        self.workers = workers
-        has_editor = all((MIRROR / it).is_file() for it in EDITOR.values())
-        forms = {word: {name: [*form] for name, form in it.forms.items()}
-                 for word, it in (("run", Machine), ("batch", BatchMachine), ("sources", SourceMachine))}
-        samples = examples()
-        start = {"forms": forms, "examples": samples, "given": given, "name": given["name"], "answerer": answerer}
-        page = (HERE / "page.html").read_text(encoding="utf-8")
+        has_editor = "@EDITOR@" in page and all((MIRROR / it).is_file() for it in EDITOR.values())
         page = page.replace("@EDITOR@", (HERE / "editor.html").read_text(encoding="utf-8").strip() if has_editor else "")
         self.files = {"": (page.encode(), ".html"), "start.json": (json.dumps(start).encode(), ".json")}
-        self.files |= {name: ((HERE / name).read_bytes(), pathlib.Path(name).suffix) for name in ("play.js", "play.css")}
+        self.files |= {name: ((HERE / name).read_bytes(), pathlib.Path(name).suffix) for name in names}
         if has_editor:
             self.files |= {name: ((MIRROR / it).read_bytes(), pathlib.Path(name).suffix) for name, it in EDITOR.items()}
 
@@ -56,6 +51,60 @@ class Site:
         """Returns the file at a path below the secret with its kind, or None."""
         before, _, name = path.removeprefix("/").partition("/")
         return self.files.get(name) if secrets.compare_digest(before.encode(), self.secret.encode()) else None
+
+
+class Editor(Site):
+    """The page at which one types a script."""
+
+    def __init__(self, given, answerer, command):
+        forms = {word: {name: [*form] for name, form in it.forms.items()}
+                 for word, it in (("run", Machine), ("batch", BatchMachine), ("sources", SourceMachine))}
+        start = {"forms": forms, "examples": examples(), "given": given, "name": given["name"], "answerer": answerer}
+        super().__init__((HERE / "page.html").read_text(encoding="utf-8"), start, ("play.js", "play.css"))
+        self.workers = Workers(command)
+
+    def ask(self, request):
+        """Returns the answer to a request. The last one of a tab wins."""
+        kind = str(request["tab"])[:40], bool(request["all"])
+        try:
+            return self.workers.ask(kind, request)
+        except Ended as ended:
+            return json.dumps({"error": str(ended), "lines": [], "view": None, "cost": [], "columns": []}).encode()
+
+    def end(self):
+        """Ends the processes that answer."""
+        self.workers.end()
+
+
+class Reader(Site):
+    """The page that shows a long script, of which one process plays as much as is asked for."""
+
+    def __init__(self, given, answerer, command):
+        start = {"name": given["name"], "word": given["word"], "frames": given["frames"], "answerer": answerer}
+        super().__init__((HERE / "long.html").read_text(encoding="utf-8"), start, ("long.js", "play.css", "long.css"))
+        self.given, self.command = given, command
+        self.lock, self.worker = threading.Lock(), None
+
+    def ask(self, request):
+        """Returns the answer to a request. They are answered one after another, since the script is played but once."""
+        if not isinstance(request, dict):
+            raise ValueError("not a request of the page")
+        with self.lock:
+            try:
+                if not self.worker:
+                    self.worker = Worker(self.command)
+                    self.worker.ask(self.given)
+                return self.worker.ask(request)
+            except Ended as ended:
+                self.worker.end()
+                self.worker = None
+                return json.dumps({"error": str(ended)}).encode()
+
+    def end(self):
+        """Ends the process that answers."""
+        worker = self.worker
+        if worker:
+            worker.end()
 
 
 class Handler(http.server.BaseHTTPRequestHandler):
@@ -100,14 +149,9 @@ class Handler(http.server.BaseHTTPRequestHandler):
             self.close_connection = True
             return self.send(413, f"at most {MOST_BYTES} bytes\n".encode())
         try:
-            request = json.loads(self.rfile.read(int(length)))
-            kind = str(request["tab"])[:40], bool(request["all"])
+            return self.send(200, site.ask(json.loads(self.rfile.read(int(length)))), ".json")
         except (ValueError, KeyError, TypeError, RecursionError):
             return self.send(400, b"not a request of the page\n")
-        try:
-            return self.send(200, site.workers.ask(kind, request), ".json")
-        except Ended as ended:
-            return self.send(200, json.dumps({"error": str(ended), "lines": [], "view": None, "cost": [], "columns": []}).encode(), ".json")
 
     def log_message(self, *_):
         """Says nothing of a request."""
