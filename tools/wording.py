@@ -36,6 +36,12 @@ class Words(argparse.ArgumentParser):
         raise Trouble(WRONG_WORD, f"{message}; '{self.prog} --help' lists the words")
 
 
+def words_before(words):
+    """Returns the words of a command line before the first `--`, and those behind it."""
+    at = words.index("--") if "--" in words else len(words)
+    return words[:at], words[at + 1 :]
+
+
 def number_up_to(most):
     """Returns what reads a number from 1 to another."""
 

@@ -2,7 +2,10 @@
 import random
 
 from machine_model import PAGE
+from wording import WRONG_WORD, Trouble
 
+# How many lines are tried until there is one without what a kernel has not.
+MOST_TRIES = 10_000
 ROOT = 0x200000
 # How many names of VMOs and of pins a script uses, and of how many places that were mapped last: a script of few is dense.
 VMOS, PINS, PLACES = (3, 6, 12), 4, (2, 4, 12)
@@ -23,13 +26,13 @@ THEMES = {"clones": CLONES, "spaces": SPACES, "pins": PINNED, "all": ALL, "host"
 
 
 class Commands:
-    """Makes up the lines of a script, one after another. What comes by chance comes from `mixer`. No line of `without`, which has
-    words of commands, is made. If places are fixed, no line lets the kernel choose one."""
+    """Makes up the lines of a script, one after another. What comes by chance comes from `mixer`. No line with a word of
+    `without`, which has those of commands, kinds and flags, is made. If places are fixed, no line lets the kernel choose one."""
 
     def __init__(self, mixer, theme="all", without=(), fixed=False):
         self.mixer = mixer
         self.kinds = THEMES[theme]
-        self.without = without
+        self.without = frozenset(without)
         self.fixed = fixed
         self.vmos, self.near = mixer.choice(VMOS), mixer.choice(PLACES)
         self.sizes, self.pins, self.places = {}, set(), []
@@ -38,11 +41,12 @@ class Commands:
 
     def line(self):
         """Returns the next line."""
-        while True:
+        for _ in range(MOST_TRIES):
             [kind] = self.mixer.choices(list(self.kinds), self.kinds.values())
             line = getattr(self, kind)()
-            if line.split(" ")[0] not in self.without:
+            if self.without.isdisjoint(line.split(" ")):
                 return line
+        raise Trouble(WRONG_WORD, f"without {', '.join(sorted(self.without))} the theme has no line")
 
     # ---- what there is
 

@@ -3,7 +3,7 @@ from typing import NamedTuple
 
 from generating.commands import Commands, seeded
 from judging.filling import fill
-from judging.replies import transcript_of
+from judging.replies import UNSUPPORTED, transcript_of
 from judging.verdicts import judge
 
 from .kernels import Kernel, Lost
@@ -11,8 +11,8 @@ from .kernels import Kernel, Lost
 
 class Hunt(NamedTuple):
     """What is hunted for: the command that starts the kernel, the seconds that a reply may take, the program that judges, the frames
-    of the machine, the seed, the theme of the lines, how many there are in a trial, the words of commands that are left out, and
-    whether no line lets the kernel choose a place."""
+    of the machine, the seed, the theme of the lines, how many there are in a trial, the words of commands, kinds and flags that are
+    left out, and whether no line lets the kernel choose a place."""
 
     command: list
     seconds: float
@@ -51,7 +51,9 @@ def run(hunt, lines, note=None, is_over=None):
                     return None
                 turns.append((line, []))
                 kernel.answer(*turns[-1])
-                if note:
+                if turns[-1][1] == [UNSUPPORTED]:
+                    turns.pop()
+                elif note:
                     note(*turns[-1])
             kernel.end(turns[-1][1] if turns else [])
         except Lost as how:
@@ -63,7 +65,9 @@ def run(hunt, lines, note=None, is_over=None):
 def try_number(hunt, number, is_over=None):
     """Returns the trial of a number, whose lines are made up from the replies."""
     commands = Commands(seeded(hunt.seed, number), hunt.theme, hunt.without, hunt.fixed)
-    return run(hunt, (commands.line() for _ in range(hunt.lines)), commands.note, is_over)
+    trial = run(hunt, (commands.line() for _ in range(hunt.lines)), commands.note, is_over)
+    has_none = trial and not trial.turns and not trial.is_found()
+    return trial._replace(lost=f"answers {UNSUPPORTED} to every line") if has_none else trial
 
 
 def replay(hunt, lines):

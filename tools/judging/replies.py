@@ -7,6 +7,8 @@ from machine_model.grammar import NoCommand, read_line, spell_line
 
 # The longest line of a transcript, and the longest script line in one.
 LINE_BYTES, SCRIPT_LINE_BYTES = 16_384, 16_382
+# The reply to what a kernel has not.
+UNSUPPORTED = "UNSUPPORTED"
 # The number of each status, as docs/ZIRCON.md lists them.
 STATUSES = {
     0: "OK", -2: "NOT_SUPPORTED", -3: "NO_RESOURCES", -4: "NO_MEMORY", -10: "INVALID_ARGS", -11: "BAD_HANDLE", -14: "OUT_OF_RANGE",
@@ -68,6 +70,11 @@ def fitted(line):
 def transcript_of(turns):
     """Returns the lines of a transcript: of turns, each a line of a script with the lines of its reply."""
     return [it for line, replies in turns for it in (f"> {fitted(line)}", *(f"< {reply}" for reply in replies))]
+
+
+def supported(turns):
+    """Returns turns without those that a kernel has not, as its reply says."""
+    return [it for it in turns if it[1] != [UNSUPPORTED]]
 
 
 def turns_of(lines):

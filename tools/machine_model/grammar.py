@@ -116,6 +116,9 @@ FORMS = {
     "stat": ("", ""),
 }
 
+# The forms of each word of the command line that answers lines. The machines of the other words add theirs.
+FORMS_OF = {"run": FORMS}
+
 
 def spell_line(command, values, flags):
     """Returns the line of a command with its arguments and flags: numbers in decimal, and one blank between words."""
@@ -178,7 +181,8 @@ def read_command(word, column, forms):
         return word
     if word.startswith("\ufeff"):
         raise NoCommand("column 1: the line begins with a byte order mark, which is part of its first word")
-    raise NoCommand(f"column {column}: {shown(word)} is no command{nearest(word, list(forms))}")
+    other = next((it for it, its in FORMS_OF.items() if word in its), None)
+    raise NoCommand(f"column {column}: {shown(word)} is {f'a command of `{other}`' if other else f'no command{nearest(word, list(forms))}'}")
 
 
 def read_arguments(command, words, end, forms):

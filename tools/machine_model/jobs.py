@@ -2,7 +2,7 @@
 from typing import NamedTuple
 
 from .answering import misplaced
-from .grammar import FORMS
+from .grammar import FORMS, FORMS_OF
 from .limits import PAGE
 from .machine import Machine, past_end
 
@@ -68,3 +68,6 @@ class BatchMachine(Machine):
         if it.next == it.end:
             del self.jobs[job]
         return f"left={(it.end - it.next) // PAGE}"
+
+
+FORMS_OF["batch"] = BatchMachine.forms

@@ -4,6 +4,7 @@ import functools
 from typing import NamedTuple
 
 from .answering import Answering, counted, misplaced
+from .grammar import FORMS_OF
 from .limits import MOST_READ, PAGE, pages_in, touched
 from .objects import Frame, FramePool, Labels
 
@@ -292,3 +293,6 @@ class SourceMachine(Answering):
     def stat(self):
         """Returns how many frames and VMOs there are."""
         return f"frames={self.frames} used={self.used} free={self.frames - self.used} vmos={len(self.vmos)}"
+
+
+FORMS_OF["sources"] = SourceMachine.forms

@@ -6,6 +6,7 @@ import pathlib
 import secrets
 import threading
 
+from directives import words_for
 from looking.turns import TOP
 from machine_model import BatchMachine, Machine, SourceMachine
 
@@ -26,12 +27,10 @@ def examples():
     """Returns the examples that one plays, by their names: the word, how many frames, and the text."""
     found = {}
     for path in sorted((TOP / "examples").glob("*.vms")):
-        beside = path.with_suffix(".words")
-        word, *options = beside.read_text().split() if beside.exists() else ["run"]
+        word, *options = words_for(path)
         if word in ("run", "batch", "sources") and not any(path.with_suffix(it).exists() for it in (".status", ".sink")):
             frames = int(options[1]) if options[:1] == ["--frames"] else 1024
             found[path.stem] = {"word": word, "frames": frames, "script": path.read_text()}
-    found["tutorial"]["frames"] = 4
     return found
 
 
