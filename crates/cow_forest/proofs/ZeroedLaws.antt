@@ -8,7 +8,6 @@ use Rattle.vm_base.specs.declared.limits.TheConstants.{VMO_PAGES}
 use Rattle.cow_split.proofs.RowLaws.{frame-in_use}
 use Rattle.page_store.specs.Held.{held_from}
 use Rattle.cow_forest.specs.declared.forest.CowForest.TheInside.{Inside}
-use Rattle.cow_forest.specs.declared.sweeps.Sweeps.{Sweeps}
 use Rattle.cow_forest.proofs.JumpKeptLaws.{jumps-zeroed}
 use Rattle.cow_forest.proofs.ContentLaws.{node-visible, one-vmo, page-of, pages-of}
 use Rattle.cow_forest.proofs.ResizingLaws.{bytes-given}
@@ -100,8 +99,8 @@ module _ (f : Forest) (s : IsStore f) (v : ℕ) (at : NodeId) (is : node_in f.no
 
 -- the fields hold what they must where pages of a range became zero
 pub are-ranged : (a : Inside) (are : AreStore a) (v : ℕ) (at : NodeId) → node_in a.nodes v ≡ Some at → (rows : Rows Row) (pool : Pool) (first end : ℕ) →
-    HasZeroed a.arena a.lists rows a.frames pool at.0 first end → (sweeps : Sweeps) → AreStore (record a { lists = rows; frames = pool; sweeps = sweeps })
-are-ranged a are v at is rows pool first end z sweeps =
+    HasZeroed a.arena a.lists rows a.frames pool at.0 first end → AreStore (record a { lists = rows; frames = pool })
+are-ranged a are v at is rows pool first end z =
     let h = are.store.named v at is in
     record {
       store = store-ranged (forest_of a) are.store v at is rows pool first end z;

@@ -59,7 +59,7 @@ pub struct CowForest {
     jumps: JumpTable,
     /// The founders of the hidden nodes. Contracts do not see them.
     founders: FounderTable,
-    /// When the rows that hide no frame are looked for. Contracts do not see it.
+    /// When the rows that say zero and hide no frame are looked for. Contracts do not see it.
     sweeps: Sweeps,
 }
 
@@ -115,10 +115,7 @@ impl CowForest {
             vmos: 0,
             jumps: JumpTable::new(alloc),
             founders: FounderTable::new(alloc),
-            sweeps: Sweeps {
-                changes: 0,
-                limit: 0,
-            },
+            sweeps: Sweeps { kept: 0, beyond: 0 },
         }
     }
 
@@ -221,7 +218,6 @@ impl CowForest {
     {
         let node = self.nodes.get(v.0);
         let end = first + count;
-        let rows = self.lists.rows();
         zero_pages(
             &self.arena,
             &mut self.lists,
@@ -232,7 +228,6 @@ impl CowForest {
             end,
             steps,
         );
-        self.sweeps.note(rows, &self.lists);
     }
 }
 
@@ -326,7 +321,13 @@ impl PageStore for CowForest {
 
     #[inline(always)]
     fn reserve(&mut self, n: u64) -> Result<(), HostMemory> {
-        sweep_when_due(&self.arena, &mut self.lists, &self.jumps, &mut self.sweeps);
+        sweep_when_due(
+            &self.arena,
+            &mut self.lists,
+            &self.frames,
+            &self.jumps,
+            &mut self.sweeps,
+        );
         self.lists.reserve(n)
     }
 
@@ -381,7 +382,6 @@ impl PageStore for CowForest {
         ensures rows { (forest_content self.old).page v.0 page ≡ None → row_count self.new.rows ≡ row_count self.old.rows }
     {
         let node = self.nodes.get(v.0);
-        let rows = self.lists.rows();
         zero_by_jumps(
             &self.arena,
             &mut self.lists,
@@ -390,12 +390,10 @@ impl PageStore for CowForest {
             node,
             page,
         );
-        self.sweeps.note(rows, &self.lists);
     }
 
     fn zero_pages(&mut self, v: Koid, first: PageNo, end: PageNo) {
         let node = self.nodes.get(v.0);
-        let rows = self.lists.rows();
         zero_in_turn(
             &self.arena,
             &mut self.lists,
@@ -408,7 +406,6 @@ impl PageStore for CowForest {
                 in_row: true,
             },
         );
-        self.sweeps.note(rows, &self.lists);
     }
 
     fn count(&self, v: Koid) -> PageNo {
@@ -423,7 +420,6 @@ impl PageStore for CowForest {
     {
         let node = self.nodes.get(v.0);
         if count < self.arena.node(node).count {
-            let rows = self.lists.rows();
             shrink_by_jumps(
                 &mut self.arena,
                 &mut self.lists,
@@ -432,7 +428,6 @@ impl PageStore for CowForest {
                 node,
                 count,
             );
-            self.sweeps.note(rows, &self.lists);
         } else {
             self.arena.set_count(node, count);
         }
@@ -444,7 +439,6 @@ impl PageStore for CowForest {
         ensures rows { row_count self.new.rows ≤ row_count self.old.rows }
     {
         let node = self.nodes.get(v.0);
-        let rows = self.lists.rows();
         retire_pair(&mut self.jumps, &self.arena, node);
         let merged = disown(&mut self.owners, &self.arena, node);
         close_by_jumps(
@@ -456,7 +450,7 @@ impl PageStore for CowForest {
         );
         leave_other(&mut self.owners, &self.arena, merged);
         renew_merged(&mut self.jumps, &self.arena, &self.lists, merged);
-        self.sweeps.note(rows, &self.lists);
+        self.sweeps.lower(&self.lists);
         self.nodes.leave(v.0);
         self.vmos -= 1;
     }

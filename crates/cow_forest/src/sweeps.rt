@@ -10,28 +10,31 @@ ghost use Rattle.cow_fork.specs.Sweeping.{HasSwept};
 use cow_arena::CowArena;
 use cow_fork::sweep;
 use cow_jump::JumpTable;
+use frame_pool::FramePool;
 use page_list::PageLists;
 
-/// A sweep is not worth its start for so few rows that went and pages that were made zero.
-const LEAST: u64 = 64;
+/// So few rows that say zero are not looked at.
+const FEW_ROWS: u64 = 64;
 
-/// What happened since the last sweep. It is made once rows went and pages were made zero about half as many times as there are
-/// rows, and as many times as there are places for nodes. So each of them pays for the look at two rows and one place, and the
-/// rows that hide no frame are not many more than the others. Contracts do not see it.
+/// When it was last looked whether a sweep is due. Contracts do not see it.
 #[derive(Clone, Copy)]
 pub(crate) struct Sweeps {
-    /// How many rows came by a zero page or went since the last sweep, and how many calls there were.
-    pub changes: u64,
-    /// The number of changes beyond which a sweep may be due.
-    pub limit: u64,
+    /// How many rows said zero after the last sweep, or fewer.
+    pub kept: u64,
+    /// The number of rows beyond which the next look is made.
+    pub beyond: u64,
 }
 
 impl Sweeps {
-    /// Notes a call that made pages zero or let rows go. There were `before` rows then.
-    pub(crate) fn note(&mut self, before: u64, lists: &PageLists) {
-        let now = lists.rows();
-        let change = before.saturating_sub(now).max(now.saturating_sub(before));
-        self.changes = self.changes.saturating_add(change).saturating_add(1);
+    /// Returns how many rows may say zero before a sweep is due, if at least as many may as this.
+    fn limit(&self, least: u64) -> u64 {
+        self.kept.saturating_mul(2).max(least)
+    }
+
+    /// Lowers the number of rows beyond which the next look is made, after rows went.
+    pub(crate) fn lower(&mut self, lists: &PageLists) {
+        let rows = lists.rows();
+        self.beyond = self.beyond.min(rows.saturating_add(rows.max(FEW_ROWS)));
     }
 }
 
@@ -40,6 +43,7 @@ impl Sweeps {
 pub(crate) fn sweep_when_due(
     arena: &CowArena,
     lists: &mut PageLists,
+    frames: &FramePool,
     jumps: &JumpTable,
     sweeps: &mut Sweeps,
 )
@@ -47,30 +51,56 @@ pub(crate) fn sweep_when_due(
     requires jumps { (next : ℕ) × AreJumps (tree_of arena.now lists.old) next jumps.now }
     ensures { HasSwept arena.now lists.old lists.new }
 {
-    if sweeps.limit < sweeps.changes {
-        sweep_if_due(arena, lists, jumps, sweeps);
+    if sweeps.beyond < lists.rows() {
+        sweep_if_due(arena, lists, frames, jumps, sweeps);
     }
 }
 
-/// Does what `sweep_when_due` does, beyond the limit. If there are too many rows or places for nodes, the limit rises instead.
+/// Does what `sweep_when_due` does, and says when to look again. A sweep is due if more rows say zero than `FEW_ROWS`, than have
+/// frames, than twice those that were left the last time, and than there are places for nodes. So each row that says zero pays
+/// for looking at six rows and places at most.
 #[inline(never)]
-fn sweep_if_due(arena: &CowArena, lists: &mut PageLists, jumps: &JumpTable, sweeps: &mut Sweeps)
+fn sweep_if_due(
+    arena: &CowArena,
+    lists: &mut PageLists,
+    frames: &FramePool,
+    jumps: &JumpTable,
+    sweeps: &mut Sweeps,
+)
     requires forest { IsForest (nodes_of arena.now) arena.now.lists }
     requires jumps { (next : ℕ) × AreJumps (tree_of arena.now lists.old) next jumps.now }
     ensures { HasSwept arena.now lists.old lists.new }
 {
-    let limit = limit_of(arena, lists);
-    if sweeps.changes <= limit {
-        sweeps.limit = limit;
+    // As many rows have a frame as frames are in use.
+    let used = frames.frames().saturating_sub(frames.free()) as u64;
+    let zeroes = lists.rows().saturating_sub(used);
+    sweeps.kept = zeroes.min(sweeps.kept);
+    let least = used.max(arena.capacity() as u64).max(FEW_ROWS);
+    sweep_beyond(arena, lists, jumps, used, least, sweeps);
+    let rows = lists.rows();
+    let left = sweeps
+        .limit(least)
+        .saturating_sub(rows.saturating_sub(used));
+    sweeps.beyond = rows.saturating_add(left.max(FEW_ROWS));
+}
+
+/// Makes a sweep, if more rows say zero than `least` and than twice those that were left the last time. The other rows have
+/// `used` frames.
+fn sweep_beyond(
+    arena: &CowArena,
+    lists: &mut PageLists,
+    jumps: &JumpTable,
+    used: u64,
+    least: u64,
+    sweeps: &mut Sweeps,
+)
+    requires forest { IsForest (nodes_of arena.now) arena.now.lists }
+    requires jumps { (next : ℕ) × AreJumps (tree_of arena.now lists.old) next jumps.now }
+    ensures { HasSwept arena.now lists.old lists.new }
+{
+    if lists.rows().saturating_sub(used) <= sweeps.limit(least) {
         return;
     }
     sweep(arena, lists, jumps);
-    sweeps.changes = 0;
-    sweeps.limit = limit_of(arena, lists);
-}
-
-/// Returns how many changes pay for a sweep.
-fn limit_of(arena: &CowArena, lists: &PageLists) -> u64 {
-    let rows = lists.rows() / 2;
-    rows.max(arena.capacity() as u64).max(LEAST)
+    sweeps.kept = lists.rows().saturating_sub(used);
 }

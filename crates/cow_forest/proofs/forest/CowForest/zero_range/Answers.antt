@@ -17,7 +17,7 @@ zero_pages-requires-clause-ready g c =
     (rw (← c.self.view_is) at c.requires.range) (rw (← c.self.view_is) at c.requires.room)
 
 pub invariant_of-self : goal.invariant_of-self
-invariant_of-self g c = are-ranged c.self.inside c.self.invariant c.args.v.0 _ c.get-node.ensures _ _ _ _ c.zero_pages.ensures.some _
+invariant_of-self g c = are-ranged c.self.inside c.self.invariant c.args.v.0 _ c.get-node.ensures _ _ _ _ c.zero_pages.ensures.some
 
 pub returns : goal.returns
 returns g c = record {

@@ -11,7 +11,7 @@ pub zero_by_jumps-requires-clause-page : goal.zero_by_jumps-requires-clause-page
 zero_by_jumps-requires-clause-page c = (page-at (forest_of c.self.inside) c.self.invariant.store c.args.v.0 c.args.page _ (rw (← c.self.view_is) at c.requires.page) c.get-node.ensures).page
 
 pub invariant_of-self : goal.invariant_of-self
-invariant_of-self c = are-ranged c.self.inside c.self.invariant c.args.v.0 _ c.get-node.ensures _ _ _ _ c.zero_by_jumps.ensures.zeroed _
+invariant_of-self c = are-ranged c.self.inside c.self.invariant c.args.v.0 _ c.get-node.ensures _ _ _ _ c.zero_by_jumps.ensures.zeroed
 
 pub returns-clause-zero : goal.returns-clause-zero
 returns-clause-zero c =

@@ -14,7 +14,7 @@ zero_in_turn-requires-clause-ready c =
     (range-ready _ c.self.invariant.store c.args.v.0 _ c.get-node.ensures c.args.first (c.args.end - c.args.first) (omega (arith, range)) (rw (← c.self.view_is) at c.requires.room))
 
 pub invariant_of-self : goal.invariant_of-self
-invariant_of-self c = are-ranged c.self.inside c.self.invariant c.args.v.0 _ c.get-node.ensures _ _ _ _ c.zero_in_turn.ensures.some _
+invariant_of-self c = are-ranged c.self.inside c.self.invariant c.args.v.0 _ c.get-node.ensures _ _ _ _ c.zero_in_turn.ensures.some
 
 pub returns-clause-zero : goal.returns-clause-zero
 returns-clause-zero c =
