@@ -96,8 +96,8 @@ pub(crate) fn zero_in_turn(
     }
 }
 
-/// Returns the pages that are left behind those that are zero already. A root has no row that says zero, and there no page is
-/// looked at.
+/// Returns the pages that are left behind those that are zero already. A root has few rows that say zero, since sweeps take them
+/// out, and there no page is looked at.
 fn first_to_zero(
     arena: &CowArena,
     lists: &PageLists,

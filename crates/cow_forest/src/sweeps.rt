@@ -14,7 +14,7 @@ use frame_pool::FramePool;
 use page_list::PageLists;
 
 /// So few rows that say zero are not looked at.
-const FEW_ROWS: u64 = 64;
+const FEW_ROWS: u64 = 16;
 
 /// When it was last looked whether a sweep is due. Contracts do not see it.
 #[derive(Clone, Copy)]

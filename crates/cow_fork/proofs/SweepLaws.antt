@@ -1,10 +1,10 @@
 -- Rows that say zero and hide no frame go, one after another.
 use Rattle.cow_fork.proofs.Words.{◌≡◌, ℕ, ◌+◌, ◌<◌, ◌≤◌, None, Some, refl, sym, ap, ◌∙◌, subst, inl, inr, arith, cases_lt, some_same}
 use Rattle.cow_fork.proofs.Words.{Rows, with_pair, Row, Slot, slots_of, row_count, Node, Arena, nodes_of, Slots, Tree, frame_shown, IsForest}
-use Rattle.cow_fork.proofs.Words.{IsNext, tree_of, with_row, IsExact, all_in_sight, IsNeeded, HasSwept, AreNeededIn}
+use Rattle.cow_fork.proofs.Words.{IsNext, tree_of, with_row, IsExact, all_in_sight, IsNeeded, HasSwept, AreNeededIn, IsSwept, IsSome, is_some, ◌≢◌, ◌^◌}
 use Rattle.cow_arena.proofs.AlikeLaws.{with_pair-same, with_pair-other}
 use Rattle.cow_split.proofs.ExactLaws.{cases_place}
-use Rattle.cow_split.proofs.ZeroRowLaws.{bare-alike, less-shows, less-exact}
+use Rattle.cow_split.proofs.ZeroRowLaws.{bare-alike, bare-past, less-shows, less-exact}
 use Rattle.cow_jump.specs.declared.jumps.JumpTable.{JumpTable}
 use Rattle.cow_jump.specs.Jumps.{AreJumps}
 use Rattle.cow_jump.proofs.JumpRowLaws.{jumps-fewer}
@@ -141,3 +141,18 @@ nodes-on arena old now new k forest are step here = record {
     | inr last ↦ subst (AreNeededIn arena new) (omega arith) here
   ];
 }
+
+-- no node has a greater number
+pub nodes-end : (arena : Arena) (old now : Rows Row) (at : ℕ) → AreNodesSwept arena old now at → ((k : ℕ) → IsSome (nodes_of arena k) → k < at) →
+    IsSwept arena now
+nodes-end arena old now at are below k p fits = elim (cases_lt k at) [
+  | inl passed ↦ are.needed k passed p fits
+  | inr past ↦ (λ node there zero none. let less = below k (ap is_some there) in omega arith)
+]
+
+-- a node without a parent sees no frame further up
+pub roots-bare : (arena : Arena) (rows : Rows Row) → IsForest (nodes_of arena) arena.lists → IsSwept arena rows → (k p : ℕ) (node : Node) →
+    nodes_of arena k ≡ Some node → node.parent ≡ None → p < 2 ^ 64 → slots_of rows node.list.0 p ≢ Some Slot.Zero
+roots-bare arena rows forest swept k p node at root fits zero =
+    let none = forest.by.root k node at root in
+    swept k p fits node at zero (bare-past (tree_of arena rows) forest k p node at (omega (arith, none)))

@@ -1,6 +1,6 @@
 //! Taking rows out that say zero and hide no frame.
 
-ghost use Rattle.std.specs.Prelude.{◌≡◌, ◌≤◌, ℕ, true, false, None, Some, IsSome, is_some};
+ghost use Rattle.std.specs.Prelude.{◌≡◌, ◌≢◌, ◌<◌, ◌≤◌, ◌^◌, ℕ, true, false, None, Some, IsSome, is_some};
 ghost use Rattle.page_list.specs.declared.row.Slot.TheVariants as slot;
 ghost use Rattle.page_list.specs.Lists.{slots_of};
 ghost use Rattle.cow_arena.specs.declared.node.Node.{Node};
@@ -26,6 +26,9 @@ pub fn sweep(arena: &CowArena, lists: &mut PageLists, jumps: &JumpTable)
     requires jumps { (next : ℕ) × AreJumps (tree_of arena.now lists.old) next jumps.now }
     ensures swept { HasSwept arena.now lists.old lists.new }
     ensures needed { IsSwept arena.now lists.new }
+    // so no row of a node without a parent says zero
+    ensures roots { (k p : ℕ) (node : Node) → nodes_of arena.now k ≡ Some node → node.parent ≡ None → p < 2 ^ 64 →
+        slots_of lists.new node.list.0 p ≢ Some slot.Zero }
 {
     let end = arena.capacity();
     let mut at = 0;

@@ -1,5 +1,5 @@
 use Rattle.cow_fork.proofs.Words.{arith}
-use Rattle.cow_fork.proofs.SweepLaws.{swept-none, jumps-swept, nodes-on}
+use Rattle.cow_fork.proofs.SweepLaws.{swept-none, jumps-swept, nodes-on, nodes-end, roots-bare}
 use Rattle.cow_fork.proofs.sweeping.sweep.Goals as goal
 
 pub loop-at-init : goal.loop-at-init
@@ -15,3 +15,13 @@ pub loop-at-preserved : goal.loop-at-preserved
 loop-at-preserved c =
     nodes-on c.args.arena.now c.args.lists.now c.loop-at.lists c.sweep_node.new.lists c.loop-at.at c.requires.forest c.loop-at.invariant
     c.sweep_node.ensures.swept c.sweep_node.ensures.needed
+
+pub returns : goal.returns
+returns c =
+    let all = nodes-end c.args.arena.now c.args.lists.now c.loop-at.lists c.loop-at.at c.loop-at.invariant
+    (λ k some. let less = c.capacity-end.ensures.below k some in omega (arith, less, c.loop-at-test.false)) in
+    record {
+      swept = c.loop-at.invariant.swept;
+      needed = all;
+      roots = roots-bare c.args.arena.now c.loop-at.lists c.requires.forest all;
+    }
