@@ -32,6 +32,10 @@ pub(crate) const MOST_NODES: u64 = 64;
 /// The most pages without a witness that are cut off one by one. More pages are cut off on one way over all nodes above.
 pub(crate) const FEW_PAGES: u64 = 4;
 
+/// The most nodes on the way up whose other child is asked. If none of them is a witness, further ones are not asked: the
+/// way up would take several times as long.
+pub(crate) const MOST_ASKED: u64 = 16;
+
 /// The way down from the sibling, as far as it has come. The pages `from` to below `to` of node `at` lie in its window.
 /// They come to the pages of the leaf's parent that are `shift` pages further on, past no row above the node.
 #[derive(Clone, Copy)]
@@ -244,12 +248,13 @@ pub(crate) fn cut_few(
 
 /// Returns the pages to pass over further up. They are those that were passed over before, and those that the other child
 /// of a node shows too, if it is a VMO's node: a witness. The rest has come to the node from the arrival's side, and to no
-/// row of it. The witness is right for pages up to the first row of its own.
+/// row of it. The witness is right for pages up to the first row of its own. If `left` is 0, no child is asked.
 pub(crate) fn skip_beside(
     arena: &CowArena,
     lists: &PageLists,
     arrival: Arrival,
     rest: Rest,
+    left: u64,
 ) -> Pages
     requires forest { IsForest (nodes_of arena.now) arena.now.lists }
     requires node { nodes_of arena.now arrival.at.0 ≡ Some arrival.node }
@@ -259,6 +264,9 @@ pub(crate) fn skip_beside(
         IsPassing arena.now lists.now pool arrival.leaf.0 rest.span.first rest.skip spared arrival.node rest.span.shift rest.span.to rest.span.to →
         IsPassing arena.now lists.now pool arrival.leaf.0 rest.span.first result spared arrival.node rest.span.shift rest.span.to rest.span.to }
 {
+    if left == 0 {
+        return rest.skip;
+    }
     let span = rest.span;
     let Some(child) = other_child(arrival.node, arrival.side) else {
         return rest.skip;
