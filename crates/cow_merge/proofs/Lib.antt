@@ -14,6 +14,7 @@ pub mod UncoverLaws
 pub mod BesideLaws
 pub mod WitnessLaws
 pub mod FewLaws
+pub mod UpwardLaws
 pub mod KeptWaysLaws
 pub mod JumpingLaws
 pub mod SharingLaws

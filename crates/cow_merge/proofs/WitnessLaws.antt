@@ -12,26 +12,26 @@ use Rattle.cow_merge.proofs.PassingLaws.{bare-inside}
 use Rattle.cow_merge.proofs.BesideLaws.{goes-up}
 
 -- the pages of v that pass the test are left out too
-unfoldable shared : (ℕ → ℕ → Bool) → (v : ℕ) → (test : ℕ → Bool) → ℕ → ℕ → Bool
+unfoldable pub shared : (ℕ → ℕ → Bool) → (v : ℕ) → (test : ℕ → Bool) → ℕ → ℕ → Bool
 shared out v test w q = ((w == v) && test q) || out w q
 
-shared-more : (out : ℕ → ℕ → Bool) (v : ℕ) (test : ℕ → Bool) (w q : ℕ) → out w q ≡ true → shared out v test w q ≡ true
+pub shared-more : (out : ℕ → ℕ → Bool) (v : ℕ) (test : ℕ → Bool) (w q : ℕ) → out w q ≡ true → shared out v test w q ≡ true
 unfolding shared
 shared-more out v test w q gone = or_right ((w == v) && test q) (out w q) gone
 
-shared-here : (out : ℕ → ℕ → Bool) (v : ℕ) (test : ℕ → Bool) (q : ℕ) → test q ≡ true → shared out v test v q ≡ true
+pub shared-here : (out : ℕ → ℕ → Bool) (v : ℕ) (test : ℕ → Bool) (q : ℕ) → test q ≡ true → shared out v test v q ≡ true
 unfolding shared
 shared-here out v test q passes = or_left ((v == v) && test q) (out v q) (and_from (v == v) (test q) (eq-eqb v v refl) passes)
 
-shared-sight : (out : ℕ → ℕ → Bool) (v : ℕ) (test : ℕ → Bool) (w q : ℕ) → shared out v test w q ≡ false → out w q ≡ false
+pub shared-sight : (out : ℕ → ℕ → Bool) (v : ℕ) (test : ℕ → Bool) (w q : ℕ) → shared out v test w q ≡ false → out w q ≡ false
 unfolding shared
 shared-sight out v test w q sight = (or_parts ((w == v) && test q) (out w q) sight).1
 
-shared-other : (out : ℕ → ℕ → Bool) (v : ℕ) (test : ℕ → Bool) (w q : ℕ) → w ≢ v → shared out v test w q ≡ out w q
+pub shared-other : (out : ℕ → ℕ → Bool) (v : ℕ) (test : ℕ → Bool) (w q : ℕ) → w ≢ v → shared out v test w q ≡ out w q
 unfolding shared
 shared-other out v test w q apart = ap (λ b. (b && test q) || out w q) (ne_eqb w v apart)
 
-shared-parts : (out : ℕ → ℕ → Bool) (v : ℕ) (test : ℕ → Bool) (w q : ℕ) → shared out v test w q ≡ true → out w q ≡ false → (w ≡ v) × (test q ≡ true)
+pub shared-parts : (out : ℕ → ℕ → Bool) (v : ℕ) (test : ℕ → Bool) (w q : ℕ) → shared out v test w q ≡ true → out w q ≡ false → (w ≡ v) × (test q ≡ true)
 unfolding shared
 shared-parts out v test w q gone sight = elim (cases_Bool ((w == v) && test q)) [
   | inl both ↦ let parts = and_parts (w == v) (test q) both in (eqb-true w v parts.0, parts.1)
@@ -57,7 +57,7 @@ test-shared from to page q low less none =
     and_from (nat_le from q) (nat_lt q to && is_none (page q)) (le-leb from q low)
     (and_from (nat_lt q to) (is_none (page q)) (lt-ltb q to less) (ap is_none none))
 
-other-apart : (own s : Side) → s ≡ other_side own → s ≢ own
+pub other-apart : (own s : Side) → s ≡ other_side own → s ≢ own
 other-apart Side.Left s is same = absurd (let both = sym is ∙ same in cc)
 other-apart Side.Right s is same = absurd (let both = sym is ∙ same in cc)
 

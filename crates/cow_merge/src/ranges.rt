@@ -20,7 +20,7 @@ ghost use Rattle.cow_merge.specs.inside.Lifting.{IsFamilyOf};
 ghost use Rattle.cow_merge.specs.Ranges.{IsOutside, no_pages, IsNextOutside, bare_of, is_split, HasGiven, Moves, IsLeftBare, IsPassing, IsOnItsWayUp, IsSparing, IsOnlyWay, HasCutOff, ComesNotTo, IsLeftOut, IsExactFor};
 
 use crate::places::{Arrival, Family, Span};
-use crate::witness::{Rest, cut_few, leave_out_beside};
+use crate::witness::{MOST_ASKED, Rest, cut_few, leave_out_beside, skip_beside};
 use cow_arena::{CowArena, NodeId, Side};
 use cow_jump::JumpTable;
 use cow_split::{Cut, RowAbove, cut_row};
@@ -172,6 +172,8 @@ fn cut_upwards(
     ensures kept { slots_of lists.new start.node.list.0 ≡ slots_of lists.old start.node.list.0 }
 {
     let first = span.first;
+    let mut skip = skip;
+    let mut left = MOST_ASKED;
     let mut at = start.at;
     let mut node = start.node;
     let mut from = first + span.shift;
@@ -202,14 +204,10 @@ fn cut_upwards(
             node,
             side,
         };
-        cut_rows(
-            arena,
-            lists,
-            frames,
-            arrival,
-            Span { first, shift, to },
-            skip,
-        );
+        let here = Span { first, shift, to };
+        cut_rows(arena, lists, frames, arrival, here, skip);
+        skip = skip_beside(arena, lists, arrival, Rest { span: here, skip }, left);
+        left = left.saturating_sub(1);
     }
 }
 

@@ -5,24 +5,24 @@ ghost use Rattle.page_list.specs.Lists.{slots_of};
 ghost use Rattle.cow_arena.specs.declared.node.Node.{Node};
 ghost use Rattle.cow_arena.specs.declared.node.NodeId.{NodeId};
 ghost use Rattle.cow_arena.specs.declared.node.Side.{Side};
-ghost use Rattle.cow_arena.specs.Nodes.{nodes_of};
+ghost use Rattle.cow_arena.specs.Nodes.{nodes_of, child_on, other_side};
 ghost use Rattle.cow_arena.specs.Forest.{IsForest, IsChild};
 ghost use Rattle.cow_split.specs.Trees.{tree_of};
 ghost use Rattle.cow_split.specs.Exact.{IsExact, IsOnlyOf};
-ghost use Rattle.frame_pool.specs.Pool.{is_taken};
+ghost use Rattle.frame_pool.specs.Pool.{Pool, is_taken};
 ghost use Rattle.cow_jump.specs.Jumps.{MayJump};
-ghost use Rattle.cow_arena.specs.Ways.{IsPartOf};
+ghost use Rattle.cow_arena.specs.Ways.{IsPartOf, Reaches};
 ghost use Rattle.cow_merge.specs.inside.Lifting.{IsFamilyOf};
-ghost use Rattle.cow_merge.specs.Ranges.{IsOutside, no_pages, Moves, IsPassing, IsOnItsWayUp, IsExactFor, HasCutOff};
+ghost use Rattle.cow_merge.specs.Ranges.{IsOutside, bare_of, no_pages, Moves, IsPassing, IsOnItsWayUp, IsExactFor, HasCutOff};
 ghost use Rattle.cow_merge.specs.inside.Witness.{IsGoingDown, IsBeside, IsEntered, IsOneMore, ShowsOnlyOf};
 
 use crate::places::{Arrival, Family, Span, Window};
 use crate::ranges::{Pages, cut_off, next_below};
-use cow_arena::{CowArena, NodeId};
+use cow_arena::{CowArena, Node, NodeId, Side};
 use cow_jump::{JumpTable, above_with};
 use cow_split::{Holder, RowAbove};
 use frame_pool::FramePool;
-use page_list::PageLists;
+use page_list::{ListId, PageLists};
 use vm_base::PageNo;
 
 /// The most nodes that are tried on the way down from the sibling. A longer way is given up: the pages are then cut off
@@ -31,6 +31,10 @@ pub(crate) const MOST_NODES: u64 = 64;
 
 /// The most pages without a witness that are cut off one by one. More pages are cut off on one way over all nodes above.
 pub(crate) const FEW_PAGES: u64 = 4;
+
+/// The most nodes on the way up whose other child is asked. If none of them is a witness, further ones are not asked: the
+/// way up would take several times as long.
+pub(crate) const MOST_ASKED: u64 = 16;
 
 /// The way down from the sibling, as far as it has come. The pages `from` to below `to` of node `at` lie in its window.
 /// They come to the pages of the leaf's parent that are `shift` pages further on, past no row above the node.
@@ -240,6 +244,78 @@ pub(crate) fn cut_few(
         left -= 1;
     }
     done
+}
+
+/// Returns the pages to pass over further up. They are those that were passed over before, and those that the other child
+/// of a node shows too, if it is a VMO's node: a witness. The rest has come to the node from the arrival's side, and to no
+/// row of it. The witness is right for pages up to the first row of its own. If `left` is 0, no child is asked.
+pub(crate) fn skip_beside(
+    arena: &CowArena,
+    lists: &PageLists,
+    arrival: Arrival,
+    rest: Rest,
+    left: u64,
+) -> Pages
+    requires forest { IsForest (nodes_of arena.now) arena.now.lists }
+    requires node { nodes_of arena.now arrival.at.0 ≡ Some arrival.node }
+    requires way { Reaches (bare_of arena.now) arrival.leaf.0 rest.span.first arrival.side arrival.at.0 (rest.span.first + rest.span.shift) }
+    requires range { rest.span.first + rest.span.shift < 2 ^ 64 }
+    ensures { (pool : Pool) (spared : Option NodeId) →
+        IsPassing arena.now lists.now pool arrival.leaf.0 rest.span.first rest.skip spared arrival.node rest.span.shift rest.span.to rest.span.to →
+        IsPassing arena.now lists.now pool arrival.leaf.0 rest.span.first result spared arrival.node rest.span.shift rest.span.to rest.span.to }
+{
+    if left == 0 {
+        return rest.skip;
+    }
+    let span = rest.span;
+    let Some(child) = other_child(arrival.node, arrival.side) else {
+        return rest.skip;
+    };
+    let beside = arena.node(child);
+    if beside.koid.is_none() {
+        return rest.skip;
+    }
+    let way = enter(arena, child, 0, span.first + span.shift, span.to);
+    let to = bare_until(lists, beside.list, way.from, way.to);
+    if to <= way.from {
+        return rest.skip;
+    }
+    let shared = pages_of(Way { to, ..way }, span.shift);
+    joined(rest.skip, shared)
+}
+
+/// Returns the child of a node on the other side than this one.
+fn other_child(node: Node, side: Side) -> Option<NodeId>
+    ensures { result ≡ child_on node (other_side side) }
+{
+    match side {
+        Side::Left => node.right,
+        Side::Right => node.left,
+    }
+}
+
+/// Returns the first page of a list that has a row, from `from` on and below `to`, or else `to`.
+fn bare_until(lists: &PageLists, list: ListId, from: PageNo, to: PageNo) -> PageNo
+    ensures most { result ≤ to }
+    ensures bare { (p : ℕ) → from ≤ p → p < result → slots_of lists.now list.0 p ≡ None }
+{
+    match next_below(lists, list, from, to) {
+        Some(page) => page,
+        None => to,
+    }
+}
+
+/// Returns both `pages` and `more`, if there is no page between them, and else `more`.
+fn joined(pages: Pages, more: Pages) -> Pages
+    ensures { (q : ℕ) → IsOutside pages q → IsOutside more q → IsOutside result q }
+{
+    if pages.to < more.from || more.to < pages.from || pages.to <= pages.from {
+        return more;
+    }
+    Pages {
+        from: pages.from.min(more.from),
+        to: pages.to.max(more.to),
+    }
 }
 
 /// Returns the pages of `pages` from `first` on. If there are none, both ends are at or past `first`.

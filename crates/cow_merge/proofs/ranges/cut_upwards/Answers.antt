@@ -68,6 +68,22 @@ cut_rows-requires-clause-way c =
     c.node-above.result c.loop-node.from page c.loop-node.invariant.here c.in-Some.is c.node-above.ensures (omega arith)
     (let same = c.loop-node.invariant.from in omega arith) (c.loop-node.invariant.way (omega arith)))
 
+pub skip_beside-skip-requires : goal.skip_beside-skip-requires
+skip_beside-skip-requires c = record {
+  forest = c.requires.passing.passing.bare.has.exact.forest;
+  node = c.node-above.ensures;
+  way =
+      let page = c.args.span.first + (c.loop-node.shift + c.loop-node.node.first) in
+      subst (λ s. Reaches (bare_of c.args.arena.now) c.args.start.leaf.0 c.args.span.first s c.in-Some.parent.0 page) (sym c.side_of-side.ensures)
+      (bare-up c.args.arena.now c.requires.passing.passing.bare.has.exact.forest c.args.start.leaf.0 c.args.span.first c.loop-node.at.0 c.in-Some.parent c.loop-node.node
+      c.node-above.result c.loop-node.from page c.loop-node.invariant.here c.in-Some.is c.node-above.ensures (omega arith)
+      (let same = c.loop-node.invariant.from in omega arith) (c.loop-node.invariant.way (omega arith)));
+  range =
+      let under = c.requires.passing in
+      let fits = passing-fits (c.loop-node.invariant.passing under.spared under.passing) c.in-Some.parent c.node-above.result c.in-Some.is c.node-above.ensures in
+      omega (arith, c.loop-node.invariant.from);
+}
+
 pub loop-node-smaller : goal.loop-node-smaller
 loop-node-smaller c =
     let under = c.requires.passing in
@@ -88,9 +104,9 @@ loop-node-preserved c =
                 c.loop-node.node c.node-above.result c.loop-node.from page c.loop-node.invariant.here c.in-Some.is c.node-above.ensures (omega arith) (omega arith)
                 (c.loop-node.invariant.way (omega arith));
           };
-      passing = λ spared was. c.cut_rows.ensures.passing spared
+      passing = λ spared was. c.skip_beside-skip.ensures _ spared (c.cut_rows.ensures.passing spared
           (passing-up (c.loop-node.invariant.passing spared was) c.in-Some.parent c.node-above.result c.in-Some.is
-          c.node-above.ensures c.min-end.result c.min-end.ensures);
+          c.node-above.ensures c.min-end.result c.min-end.ensures));
       lost = lost-then c.loop-node.invariant.lost c.cut_rows.ensures.lost;
       up = omega (arith, c.loop-node.invariant.up);
       kept =

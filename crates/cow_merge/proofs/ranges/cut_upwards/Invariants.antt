@@ -8,7 +8,7 @@ invariant-loop-node l = record {
   here : nodes_of l.arena l.at.0 ≡ Some l.node;
   way : l.from < l.to → ComesTo (bare_of l.arena) l.fn.start.leaf.0 l.first l.at.0 l.from;
   passing : (spared : Option NodeId) →
-      IsPassing l.arena l.fn.lists l.fn.frames l.fn.start.leaf.0 l.first l.skip spared l.fn.start.node l.fn.span.shift l.fn.span.to l.fn.span.to →
+      IsPassing l.arena l.fn.lists l.fn.frames l.fn.start.leaf.0 l.first l.fn.skip spared l.fn.start.node l.fn.span.shift l.fn.span.to l.fn.span.to →
       IsPassing l.arena l.lists l.frames l.fn.start.leaf.0 l.first l.skip spared l.node l.shift l.to l.to;
   lost : Moves l.arena l.fn.lists l.lists l.fn.frames l.frames l.fn.start.leaf.0 l.first IsPartOf;
   up : nodes_up (nodes_of l.arena) l.arena.lists l.node.parent ≤ nodes_up (nodes_of l.arena) l.arena.lists l.fn.start.node.parent;
