@@ -92,7 +92,7 @@ pub(crate) fn clear_places(
 }
 
 /// Returns the first page of an extent of a list that has one of `count` pages from `first` on. `None` if and only if
-/// none has.
+/// none has, which one look-up tells.
 fn meeting(
     taken: &ExtentMap<Option<RegionName>>,
     list: u64,
@@ -105,6 +105,9 @@ fn meeting(
         (IsMeeting (extents_of taken.now list) first count) }
 {
     let _apart = taken.len();
+    if taken.is_open(list, first, count) {
+        return None;
+    }
     if let Some((start, _extent)) = taken.at(list, first) {
         return Some(start);
     }
