@@ -11,11 +11,11 @@ use Rattle.vm_model.specs.Contents.Content.{Page, Content, is_held, pages_of, vi
 use Rattle.vm_model.specs.Machine.Attribution.{is_shared, is_charged}
 use Rattle.vm_model.proofs.ContentLaws.{count_from_page, views_found, sole_alone}
 use Rattle.vm_model.proofs.ContentLaws.{IsOfHeld, IsOfHeld-held}
-use Rattle.pages.specs.Look.TheVariants as look
-use Rattle.pages.specs.Pages.{look_at, tag_held}
+use Rattle.page_store.specs.declared.page_store.Look.TheVariants as look
+use Rattle.page_store.specs.Pages.{look_at, tag_held}
 use Rattle.attribution.specs.declared.counts.Counts.{Counts}
 use Rattle.attribution.specs.inside.Counts.{AreCounts}
-use Rattle.pages.proofs.ChargeLaws.{is_charged-at, is_charged_page-some}
+use Rattle.attribution.proofs.LesserLaws.{is_charged-at, is_charged_page-some}
 use Rattle.attribution.proofs.AttributionLaws.{is_held-some, is_shared-some, IsOfHeld-sole, IsOfHeld-shared, IsOfHeld-charged}
 
 -- ---- a test as a number

@@ -1,4 +1,5 @@
 pub mod AttributionLaws
 pub mod ChargeLaws
+pub mod LesserLaws
 pub mod CountLaws
 pub mod RunLaws

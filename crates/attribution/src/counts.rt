@@ -3,11 +3,11 @@
 ghost use Rattle.std.specs.Prelude.{◌≡◌, ◌+◌, IsSome};
 ghost use Rattle.vm_model.specs.Contents.Content.{pages_of, IsGood};
 ghost use Rattle.vm_model.specs.Machine.Attribution.{is_charged};
-ghost use Rattle.pages.specs.Look.{Look};
-ghost use Rattle.pages.specs.Pages.{look_at};
+ghost use Rattle.page_store.specs.declared.page_store.Look.{Look};
+ghost use Rattle.page_store.specs.Pages.{look_at};
 ghost use Rattle.attribution.specs.inside.Counts.{AreCounts};
 
-use pages::{Look, Pages};
+use page_store::{Look, PageStore};
 use vm_base::{Koid, PageNo, Tag};
 
 /// The number of pages of a VMO that are held, and the numbers of these that are sole, shared with another VMO, and
@@ -21,7 +21,7 @@ pub(crate) struct Counts {
 }
 
 /// Counts the held pages of a VMO, from one to the next.
-pub(crate) fn count_held<P: Pages>(store: &P, koid: Koid) -> Counts
+pub(crate) fn count_held<P: PageStore>(store: &P, koid: Koid) -> Counts
     requires good { IsGood (P.content store.now) }
     requires vmo { IsSome ((P.content store.now).count koid.0) }
     ensures { AreCounts (P.content store.now) koid.0 (pages_of (P.content store.now) koid.0) result }
@@ -41,7 +41,7 @@ pub(crate) fn count_held<P: Pages>(store: &P, koid: Koid) -> Counts
 }
 
 // Counts a page that is held. The pages before it are counted.
-fn count_page<P: Pages>(store: &P, koid: Koid, page: PageNo, counts: &mut Counts)
+fn count_page<P: PageStore>(store: &P, koid: Koid, page: PageNo, counts: &mut Counts)
     requires good { IsGood (P.content store.now) }
     requires held { IsSome ((P.content store.now).page koid.0 page) }
     requires before { AreCounts (P.content store.now) koid.0 page counts.old }
@@ -57,10 +57,10 @@ fn count_page<P: Pages>(store: &P, koid: Koid, page: PageNo, counts: &mut Counts
 }
 
 // Whether a VMO is charged for a page of it that is held, with this frame.
-fn charges<P: Pages>(store: &P, koid: Koid, page: PageNo, tag: Tag, sole: bool) -> bool
+fn charges<P: PageStore>(store: &P, koid: Koid, page: PageNo, tag: Tag, sole: bool) -> bool
     requires good { IsGood (P.content store.now) }
     requires look { Look.Held tag sole ≡ look_at (P.content store.now) koid.0 ((P.content store.now).page koid.0 page) }
     ensures { result ≡ is_charged (P.content store.now) koid.0 page }
 {
-    sole || store.is_charged(koid, page, tag)
+    sole || store.lesser_viewer(tag, koid).is_none()
 }

@@ -1,6 +1,6 @@
 //! What a VMO holds (`info`), what the machine holds (`stat`), and what is mapped in a region (`maps`).
 //!
-//! It stands on `pages` and `vmo_table`, for regions on `mapping_set` and `region_tree`, and its contracts speak
+//! It stands on `page_store` and `vmo_table`, for regions on `mapping_set` and `region_tree`, and its contracts speak
 //! in the words of `vm_model`. The layer above uses it to answer the commands that ask. `laws` states that the charged
 //! pages of all VMOs add up to the frames in use.
 #![tactic(auto)]

@@ -8,7 +8,7 @@ use Rattle.vm_base.specs.declared.refusal.Refusal.TheVariants.{HostMemory}
 use Rattle.vm_model.specs.declared.answer.Answer.{Answer}
 use Rattle.vm_model.specs.declared.command.Command.{Command}
 use Rattle.vm_model.specs.declared.command.Command.TheVariants.{VmarAllocate, VmarMap}
-use Rattle.vm_model.specs.declared.reply.Reply.TheVariants.{Address, Refused}
+use Rattle.vm_model.specs.declared.reply.Reply.TheVariants.{Address}
 use Rattle.vm_model.specs.Machine.Lent.{reply_for}
 use Rattle.vm_model.specs.Machine.State.{State}
 use Rattle.vm_model.specs.Machine.Refusals.{refusals, first_of}

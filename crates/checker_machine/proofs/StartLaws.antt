@@ -8,7 +8,7 @@ use Rattle.vm_model.specs.Contents.Content.{Content, nothing}
 use Rattle.vm_model.specs.Machine.State.{empty_state}
 use Rattle.vm_model.specs.Machine.Machine.{Machine, empty_machine, IsGoodMachine}
 use Rattle.vm_model.proofs.MachineLaws.{IsGoodMachine-empty}
-use Rattle.checker_pages.specs.Eager.{Eager, eager_content}
+use Rattle.page_store.specs.Flat.{Flat, flat_content}
 use Rattle.checker_ready.specs.Notes.{rows_of, ready_in}
 use Rattle.checker_ready.specs.declared.ready_map.ReadyPage.{ReadyPage}
 use Rattle.machine.specs.Machine.{bare_state, state_of}
@@ -40,42 +40,42 @@ empty_sound m frames empty = record {
 
 -- ---- nothing
 
-pub checker_machine_of-start : (m : CheckerParts) → eager_content m.pages ≡ nothing → ((c : Content) → state_of c m.machine ≡ bare_state c)
+pub checker_machine_of-start : (m : CheckerParts) → flat_content m.pages ≡ nothing → ((c : Content) → state_of c m.machine ≡ bare_state c)
     → rows_of m.machine.ready ≡ (λ root p. None) → checker_machine_of m ≡ empty_machine 0
 unfolding checker_machine_of empty_machine empty_state nothing
 checker_machine_of-start m pages bare rows =
-    (λ i. record { state = bare (eager_content m.pages) i; ready = ready_in (rows i) })
+    (λ i. record { state = bare (flat_content m.pages) i; ready = ready_in (rows i) })
     ∙ ap {B = Machine} (λ (c : Content). record { state = bare_state c; ready = λ root p. None }) pages
 
 -- ---- page frames
 
 -- the parts, with these pages
-abbrev pub with_pages : CheckerParts → Eager → CheckerParts
+abbrev pub with_pages : CheckerParts → Flat → CheckerParts
 with_pages m pages = record m { pages = pages }
 
 -- a machine with nothing has no VMO
-pub start_nothing : (m : CheckerParts) → checker_machine_of m ≡ empty_machine 0 → eager_content m.pages ≡ nothing
+pub start_nothing : (m : CheckerParts) → checker_machine_of m ≡ empty_machine 0 → flat_content m.pages ≡ nothing
 unfolding checker_machine_of empty_machine empty_state nothing
 start_nothing m e = ap (λ (n : Machine). n.state.content) e
 
-module _ (m : CheckerParts) (pages : Eager) where
+module _ (m : CheckerParts) (pages : Flat) where
   -- the machine, with this content
   abbrev with_content : Content → Machine
   with_content c = record { state = state_of c m.machine; ready = ready_in (rows_of m.machine.ready) }
 
-  filled_machine : (frames : ℕ) → checker_machine_of m ≡ empty_machine 0 → eager_content pages ≡ record (eager_content m.pages) { frames = frames }
+  filled_machine : (frames : ℕ) → checker_machine_of m ≡ empty_machine 0 → flat_content pages ≡ record (flat_content m.pages) { frames = frames }
       → checker_machine_of (with_pages m pages) ≡ empty_machine frames
   unfolding checker_machine_of empty_machine empty_state
   filled_machine frames empty filled =
       ap with_content filled
       ∙ ap {B = Machine} (λ (n : Machine). record n { state = record (n.state) { content = record (n.state.content) { frames = frames } } }) empty
 
-  kept_machine : eager_content pages ≡ eager_content m.pages → checker_machine_of (with_pages m pages) ≡ checker_machine_of m
+  kept_machine : flat_content pages ≡ flat_content m.pages → checker_machine_of (with_pages m pages) ≡ checker_machine_of m
   unfolding checker_machine_of
   kept_machine same = ap with_content same
 
-  pub filled : (frames : ℕ) → checker_machine_of m ≡ empty_machine 0 → (r : Result (Unit {0}) Lack) → OnOk r (eager_content pages ≡ record (eager_content m.pages) { frames = frames })
-      → OnErr r (eager_content pages ≡ eager_content m.pages)
+  pub filled : (frames : ℕ) → checker_machine_of m ≡ empty_machine 0 → (r : Result (Unit {0}) Lack) → OnOk r (flat_content pages ≡ record (flat_content m.pages) { frames = frames })
+      → OnErr r (flat_content pages ≡ flat_content m.pages)
       → MatchResult r (λ u. checker_machine_of (with_pages m pages) ≡ empty_machine frames) (λ lack. checker_machine_of (with_pages m pages) ≡ checker_machine_of m)
       × AreSound (with_pages m pages)
   filled frames empty (Ok u) done kept = let is = filled_machine frames empty done in (is, empty_sound (with_pages m pages) frames is)

@@ -5,13 +5,13 @@ use Rattle.vm_model.specs.Naming.Pins.{Pin, is_pinned}
 use Rattle.vm_model.specs.Space.Readiness.{Ready, frame_at}
 use Rattle.vm_model.specs.Machine.State.{State}
 use Rattle.vm_model.specs.Machine.Machine.{Machine}
-use Rattle.checker_pages.specs.Eager.{Eager, eager_content}
+use Rattle.page_store.specs.Flat.{Flat, flat_content}
 use Rattle.checker_ready.specs.Notes.{Notes, rows_of, ready_in}
 use Rattle.machine.specs.Machine.{MachineParts, machine_of_parts}
 
 -- the pages, and the machine over them with what is noted of ready pages
 pub record CheckerParts : Type 0 where
-  pub pages : Eager
+  pub pages : Flat
   pub machine : MachineParts Notes
 
 -- what the notes say is ready
@@ -20,7 +20,7 @@ ready_by notes = ready_in (rows_of notes)
 
 -- the machine that the parts stand for
 unfoldable pub checker_machine_of : CheckerParts → Machine
-checker_machine_of m = machine_of_parts ready_by (eager_content m.pages) m.machine
+checker_machine_of m = machine_of_parts ready_by (flat_content m.pages) m.machine
 
 -- some page that is pinned has the frame
 abbrev pub HasPinnedFrame : Machine → (tag : ℕ) → Type 0

@@ -12,9 +12,9 @@ ghost use Rattle.vm_model.specs.Machine.Refusals.{refusals, first_of};
 ghost use Rattle.moving_model.specs.Moving.{tells_place};
 
 use crate::wanting::{memory_wants, pages_want, pin_wants, region_wants, vmo_wants};
-use checker_pages::CheckerPages;
 use checker_ready::ReadyMap;
 use machine::{Group, group_of};
+use page_store::{FlatStore, PageStore};
 use std::alloc::Global;
 use std::marker::Model;
 use vm_base::{HostMemory, PinName, Refusal, Tag};
@@ -25,7 +25,7 @@ use vm_model::{Answer, Call};
 #[derive(Drop)]
 pub struct CheckerMachine {
     /// The pages of the VMOs, and the page frames.
-    pages: CheckerPages,
+    pages: FlatStore,
     machine: machine::Machine<ReadyMap>,
 }
 
@@ -52,7 +52,7 @@ impl CheckerMachine {
         ensures good { IsGoodMachine (checker_machine_of result) }
     {
         CheckerMachine {
-            pages: CheckerPages::new(alloc),
+            pages: FlatStore::new(alloc),
             machine: machine::Machine::new(alloc, ReadyMap::new(alloc)),
         }
     }
@@ -137,7 +137,7 @@ impl CheckerMachine {
         if at >= count {
             return None;
         }
-        self.pages.frame(koid, first + at)
+        self.pages.frame_at(koid, first + at)
     }
 
     /// Returns whether a page that is pinned has the frame.

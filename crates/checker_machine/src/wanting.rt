@@ -1,7 +1,7 @@
 //! Whether a command may want memory of the host: nothing refuses it, and it may lack memory. Nothing changes. A place in a
 //! region is looked for without the notes of children, since a transcript ends at the one reply for which this is asked.
 
-ghost use Rattle.std.specs.Prelude.{◌≡◌, ◌≤◌, Bool, not};
+ghost use Rattle.std.specs.Prelude.{◌≡◌, ◌≤◌, Bool, IsSome, not};
 ghost use Rattle.std.specs.List.{list_any};
 ghost use Rattle.vm_model.specs.declared.command.Command.{Command};
 ghost use Rattle.vm_model.specs.Contents.Content.{Content, is_held, sole};
@@ -14,18 +14,18 @@ ghost use Rattle.region_ops.specs.Spaces.{with_all, with_spaces};
 ghost use Rattle.vmo_ops.specs.Ranges.{touched_row};
 ghost use Rattle.vmo_ops.specs.Targets.{with_tables, AreTogether};
 ghost use Rattle.vmo_table.specs.Table.{with_vmos, AreParts};
-ghost use Rattle.checker_pages.specs.Eager.{eager_content};
+ghost use Rattle.page_store.specs.Flat.{flat_content};
 ghost use Rattle.machine.specs.Groups.{group_of};
 ghost use Rattle.machine.specs.declared.groups.Group.{Group};
 ghost use Rattle.checker_machine.specs.Machine.{ready_by};
 ghost use Rattle.checker_machine.specs.inside.Wanting.{may_lack, may_want};
 
-use checker_pages::CheckerPages;
 use checker_ready::{
     ReadyMap, refusal_to_read, refusal_to_write, wants_memory_to_read, wants_memory_to_write,
 };
 use machine::{ChildRequest, PinRequest, RegionCommand, region_command};
 use mapping_set::MappingSet;
+use page_store::{FlatStore, PageStore};
 use pin_table::PinTable;
 use region_ops::{
     AllocateRequest, MapRequest, RegionRange, SearchedRegion, ask_for_region, ask_to_allocate,
@@ -42,14 +42,14 @@ use vmo_table::VmoTable;
 
 /// Returns whether a command on a VMO as a whole may want memory.
 pub(crate) fn vmo_wants(
-    pages: &CheckerPages,
+    pages: &FlatStore,
     vmos: &VmoTable,
     pins: &PinTable,
     call: &Call<'_>,
 ) -> bool
     requires group { group_of call.now ≡ Group.Vmo }
-    requires parts { AreTogether (eager_content pages.now) vmos.now pins.now }
-    ensures { (s : State) → result ≡ may_lack (with_tables s (eager_content pages.now) vmos.now pins.now) (command_of call.now) }
+    requires parts { AreTogether (flat_content pages.now) vmos.now pins.now }
+    ensures { (s : State) → result ≡ may_lack (with_tables s (flat_content pages.now) vmos.now pins.now) (command_of call.now) }
 {
     match call {
         Call::VmoCreate { name, size, .. } => create_wants(vmos, *name, *size),
@@ -89,14 +89,14 @@ fn create_wants(vmos: &VmoTable, name: VmoName, size: u64) -> bool
 }
 
 fn child_wants(
-    pages: &CheckerPages,
+    pages: &FlatStore,
     vmos: &VmoTable,
     pins: &PinTable,
     name: VmoName,
     request: ChildRequest,
 ) -> bool
-    requires { AreTogether (eager_content pages.now) vmos.now pins.now }
-    ensures { (s : State) → result ≡ may_lack (with_tables s (eager_content pages.now) vmos.now pins.now)
+    requires { AreTogether (flat_content pages.now) vmos.now pins.now }
+    ensures { (s : State) → result ≡ may_lack (with_tables s (flat_content pages.now) vmos.now pins.now)
         (Command.VmoChild name request.parent request.kind request.shape.offset request.shape.size request.shape.resizable request.shape.no_write) }
 {
     let Some(target) = vmos.resolve(request.parent) else {
@@ -120,14 +120,14 @@ fn child_wants(
 
 /// Returns whether a command on pages of a VMO may want memory.
 pub(crate) fn pages_want(
-    pages: &CheckerPages,
+    pages: &FlatStore,
     vmos: &VmoTable,
     pins: &PinTable,
     call: &Call<'_>,
 ) -> bool
     requires group { group_of call.now ≡ Group.Pages }
-    requires parts { AreTogether (eager_content pages.now) vmos.now pins.now }
-    ensures { (s : State) → result ≡ may_lack (with_tables s (eager_content pages.now) vmos.now pins.now) (command_of call.now) }
+    requires parts { AreTogether (flat_content pages.now) vmos.now pins.now }
+    ensures { (s : State) → result ≡ may_lack (with_tables s (flat_content pages.now) vmos.now pins.now) (command_of call.now) }
 {
     match call {
         Call::VmoWrite {
@@ -158,9 +158,9 @@ pub(crate) fn pages_want(
 }
 
 // Whether a write, a fill or a commit of a range may want memory.
-fn own_wants(pages: &CheckerPages, vmos: &VmoTable, range: NameRange) -> bool
-    requires { AreParts (eager_content pages.now) vmos.now }
-    ensures { (s : State) → result ≡ may_lack (with_vmos s (eager_content pages.now) vmos.now) (Command.VmoCommit range.name range.offset range.len) }
+fn own_wants(pages: &FlatStore, vmos: &VmoTable, range: NameRange) -> bool
+    requires { AreParts (flat_content pages.now) vmos.now }
+    ensures { (s : State) → result ≡ may_lack (with_vmos s (flat_content pages.now) vmos.now) (Command.VmoCommit range.name range.offset range.len) }
 {
     let Some(target) = vmos.resolve(range.name) else {
         return false;
@@ -171,9 +171,9 @@ fn own_wants(pages: &CheckerPages, vmos: &VmoTable, range: NameRange) -> bool
     }
 }
 
-fn zero_wants(pages: &CheckerPages, vmos: &VmoTable, pins: &PinTable, range: NameRange) -> bool
-    requires { AreTogether (eager_content pages.now) vmos.now pins.now }
-    ensures { (s : State) → result ≡ may_lack (with_tables s (eager_content pages.now) vmos.now pins.now) (Command.VmoZero range.name range.offset range.len) }
+fn zero_wants(pages: &FlatStore, vmos: &VmoTable, pins: &PinTable, range: NameRange) -> bool
+    requires { AreTogether (flat_content pages.now) vmos.now pins.now }
+    ensures { (s : State) → result ≡ may_lack (with_tables s (flat_content pages.now) vmos.now pins.now) (Command.VmoZero range.name range.offset range.len) }
 {
     let Some(target) = vmos.resolve(range.name) else {
         return false;
@@ -184,9 +184,9 @@ fn zero_wants(pages: &CheckerPages, vmos: &VmoTable, pins: &PinTable, range: Nam
     }
 }
 
-fn decommit_wants(pages: &CheckerPages, vmos: &VmoTable, pins: &PinTable, range: NameRange) -> bool
-    requires { AreTogether (eager_content pages.now) vmos.now pins.now }
-    ensures { (s : State) → result ≡ may_lack (with_tables s (eager_content pages.now) vmos.now pins.now) (Command.VmoDecommit range.name range.offset range.len) }
+fn decommit_wants(pages: &FlatStore, vmos: &VmoTable, pins: &PinTable, range: NameRange) -> bool
+    requires { AreTogether (flat_content pages.now) vmos.now pins.now }
+    ensures { (s : State) → result ≡ may_lack (with_tables s (flat_content pages.now) vmos.now pins.now) (Command.VmoDecommit range.name range.offset range.len) }
 {
     let Some(target) = vmos.resolve(range.name) else {
         return false;
@@ -198,9 +198,9 @@ fn decommit_wants(pages: &CheckerPages, vmos: &VmoTable, pins: &PinTable, range:
 }
 
 // Whether one of these pages of a VMO is not sole.
-fn has_shared(pages: &CheckerPages, koid: Koid, touched: TouchedPages) -> bool
+fn has_shared(pages: &FlatStore, koid: Koid, touched: TouchedPages) -> bool
     requires { touched.first ≤ touched.end }
-    ensures { result ≡ list_any (λ p. not (sole (eager_content pages.now) koid.0 p)) (touched_row touched) }
+    ensures { result ≡ list_any (λ p. not (sole (flat_content pages.now) koid.0 p)) (touched_row touched) }
 {
     for page in touched.first..touched.end {
         if !pages.is_sole(koid, page) {
@@ -211,9 +211,10 @@ fn has_shared(pages: &CheckerPages, koid: Koid, touched: TouchedPages) -> bool
 }
 
 // Whether one of these pages of a VMO is held.
-fn has_held(pages: &CheckerPages, koid: Koid, touched: TouchedPages) -> bool
-    requires { touched.first ≤ touched.end }
-    ensures { result ≡ list_any (is_held (eager_content pages.now) koid.0) (touched_row touched) }
+fn has_held(pages: &FlatStore, koid: Koid, touched: TouchedPages) -> bool
+    requires vmo { IsSome ((flat_content pages.now).count koid.0) }
+    requires order { touched.first ≤ touched.end }
+    ensures { result ≡ list_any (is_held (flat_content pages.now) koid.0) (touched_row touched) }
 {
     match pages.next_held(koid, touched.first) {
         Some(page) => page < touched.end,
@@ -223,14 +224,14 @@ fn has_held(pages: &CheckerPages, koid: Koid, touched: TouchedPages) -> bool
 
 /// Returns whether a command on a pin may want memory.
 pub(crate) fn pin_wants(
-    pages: &CheckerPages,
+    pages: &FlatStore,
     vmos: &VmoTable,
     pins: &PinTable,
     call: &Call<'_>,
 ) -> bool
     requires group { group_of call.now ≡ Group.Pin }
-    requires parts { AreTogether (eager_content pages.now) vmos.now pins.now }
-    ensures { (s : State) → result ≡ may_lack (with_tables s (eager_content pages.now) vmos.now pins.now) (command_of call.now) }
+    requires parts { AreTogether (flat_content pages.now) vmos.now pins.now }
+    ensures { (s : State) → result ≡ may_lack (with_tables s (flat_content pages.now) vmos.now pins.now) (command_of call.now) }
 {
     match call {
         Call::VmoPin {
@@ -246,14 +247,9 @@ pub(crate) fn pin_wants(
     }
 }
 
-fn new_pin_wants(
-    pages: &CheckerPages,
-    vmos: &VmoTable,
-    pins: &PinTable,
-    request: PinRequest,
-) -> bool
-    requires { AreTogether (eager_content pages.now) vmos.now pins.now }
-    ensures { (s : State) → result ≡ may_lack (with_tables s (eager_content pages.now) vmos.now pins.now)
+fn new_pin_wants(pages: &FlatStore, vmos: &VmoTable, pins: &PinTable, request: PinRequest) -> bool
+    requires { AreTogether (flat_content pages.now) vmos.now pins.now }
+    ensures { (s : State) → result ≡ may_lack (with_tables s (flat_content pages.now) vmos.now pins.now)
         (Command.VmoPin request.pin request.range.name request.range.offset request.range.len) }
 {
     let Some(target) = vmos.resolve(request.range.name) else {
@@ -267,16 +263,16 @@ fn new_pin_wants(
 
 /// Returns whether a command on a region, or on the mappings in one, may want memory.
 pub(crate) fn region_wants(
-    pages: &CheckerPages,
+    pages: &FlatStore,
     vmos: &VmoTable,
     regions: &Regions,
     maps: &MappingSet,
     call: &Call<'_>,
 ) -> bool
     requires group { group_of call.now ≡ Group.Region }
-    requires parts { AreParts (eager_content pages.now) vmos.now }
+    requires parts { AreParts (flat_content pages.now) vmos.now }
     requires noted { AreNoted (regions_of regions.now) (places_of maps.now) }
-    ensures { (s : State) → result ≡ may_lack (with_all s (eager_content pages.now) vmos.now
+    ensures { (s : State) → result ≡ may_lack (with_all s (flat_content pages.now) vmos.now
         (spaces_of (regions_of regions.now) (table_of maps.now))) (command_of call.now) }
 {
     match region_command(call) {
@@ -317,15 +313,15 @@ fn allocate_wants(
 }
 
 fn map_wants(
-    pages: &CheckerPages,
+    pages: &FlatStore,
     vmos: &VmoTable,
     regions: &Regions,
     maps: &MappingSet,
     request: MapRequest<VmoName>,
 ) -> bool
-    requires parts { AreParts (eager_content pages.now) vmos.now }
+    requires parts { AreParts (flat_content pages.now) vmos.now }
     requires noted { AreNoted (regions_of regions.now) (places_of maps.now) }
-    ensures { (s : State) → result ≡ may_lack (with_all s (eager_content pages.now) vmos.now
+    ensures { (s : State) → result ≡ may_lack (with_all s (flat_content pages.now) vmos.now
         (spaces_of (regions_of regions.now) (table_of maps.now)))
         (Command.VmarMap request.region request.offset request.mapped request.vmo_offset request.len request.perm request.flags) }
 {
@@ -379,16 +375,16 @@ fn list_wants(regions: &Regions, maps: &MappingSet, region: RegionName) -> bool
 
 /// Returns whether an access through mappings may want memory.
 pub(crate) fn memory_wants(
-    pages: &CheckerPages,
+    pages: &FlatStore,
     regions: &Regions,
     maps: &MappingSet,
     ready: &ReadyMap,
     call: &Call<'_>,
 ) -> bool
     requires group { group_of call.now ≡ Group.Memory }
-    requires backed { AreBacked (eager_content pages.now) (table_of maps.now) }
+    requires backed { AreBacked (flat_content pages.now) (table_of maps.now) }
     ensures { (s : State) → result ≡ may_want (record {
-      state = record s { content = eager_content pages.now; spaces = spaces_of (regions_of regions.now) (table_of maps.now) };
+      state = record s { content = flat_content pages.now; spaces = spaces_of (regions_of regions.now) (table_of maps.now) };
       ready = ready_by ready.now;
     }) (command_of call.now) }
 {

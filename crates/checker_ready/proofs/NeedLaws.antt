@@ -9,10 +9,10 @@ use Rattle.vm_model.specs.Contents.Content.{Page, Content, shown, used, pages_of
 use Rattle.vm_model.specs.Contents.Owning.{VmoPage, need_from, need_each}
 use Rattle.vm_model.specs.Space.Readiness.{frame_at, is_same_frame}
 use Rattle.vm_model.proofs.ContentLaws.{page-hold_other, page-hold_cases, koid_below, views_at, sole-at, sole_from}
-use Rattle.pages.specs.Pages.{look_at}
-use Rattle.pages.specs.Needs.{have_one_frame, MayOwn}
-use Rattle.pages.proofs.NeedLaws.{need-one, need-same, need-apart}
-use Rattle.checker_pages.specs.Eager.{IsSeenByThird}
+use Rattle.page_store.specs.Pages.{look_at}
+use Rattle.page_store.specs.Needs.{have_one_frame, MayOwn}
+use Rattle.page_store.proofs.NeedLaws.{need-one, need-same, need-apart}
+use Rattle.page_store.specs.Flat.{IsSeenByThird}
 
 -- ---- no page
 

@@ -14,7 +14,7 @@ use Rattle.ready_pages.specs.Access.{ReadsReady}
 use Rattle.ready_pages.specs.Changes.{Entries, AreReadyAt}
 use Rattle.checker_ready.specs.declared.touching.TouchedPage.{TouchedPage}
 use Rattle.checker_ready.specs.Notes.{ReadyRows, ready_in, FitsRows, NotesAreTrue, AreGoodNotes}
-use Rattle.checker_ready.specs.inside.Pages.{IsTouchedPage, Touches, faults_in, is_unready}
+use Rattle.checker_ready.specs.inside.Pages.{AreFrom, IsTouchedPage, LiesInVmo, Touches, faults_in, is_unready}
 use Rattle.checker_ready.proofs.AskLaws.{read_row, fits_none, fits_one}
 use Rattle.checker_ready.proofs.FaultLaws.{faults_to_read}
 use Rattle.checker_ready.proofs.GoodLaws.{AreReadyAt-read}
@@ -94,6 +94,12 @@ module _ (table : Entries) (c : Content) (root addr : ℕ) (old : ReadyRows) whe
           are_ready = then_fits.are_ready ∙ (ap (after_reading root ((p + 1) ∷ [])) fits.are_ready ∙ ap (λ (q : ℕ). after_reading root (q ∷ (q + 1) ∷ []) (ready_in old)) start);
           notes = then_fits.notes;
         })
+
+-- pages that are touched lie in their VMOs
+pub lie_inside : (c : Content) (table : Entries) (ready : Ready) (root p : ℕ) (pages : List TouchedPage) → AreFrom (IsTouchedPage Read c table ready root) p pages
+    → AreFrom (λ q page. LiesInVmo c page.entry) p pages
+lie_inside c table ready root p [] each = tt
+lie_inside c table ready root p (page ∷ pages) each = (each.0.shows.below, lie_inside c table ready root (p + 1) pages each.1)
 
 -- the same of other rows and of another number that are the same
 pub reads_same : (table : Entries) (c : Content) (root addr n len : ℕ) (rows old : ReadyRows) (xs : List TouchedPage) (bytes : List ℕ) (new : ReadyRows) → n ≡ len → rows ≡ old

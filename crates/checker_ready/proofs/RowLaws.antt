@@ -18,7 +18,7 @@ use Rattle.vm_model.specs.Space.Readiness.{is_same_frame, frame_number}
 use Rattle.vm_model.proofs.ContentLaws.{same_page}
 use Rattle.pair_map.specs.declared.pair_map.PairMap.{PairMap}
 use Rattle.pair_map.specs.Maps.{values_of, with_pair}
-use Rattle.checker_pages.proofs.LinkLaws.{pair-here, pair-other, pair-same, pair-cases}
+use Rattle.page_store.proofs.LinkLaws.{pair-here, pair-other, pair-same, pair-cases}
 use Rattle.checker_ready.specs.declared.ready_map.ReadyPage.{ReadyPage}
 use Rattle.checker_ready.specs.declared.stamps.Kept.{Kept}
 use Rattle.checker_ready.specs.declared.stamps.Stamp.{Stamp}

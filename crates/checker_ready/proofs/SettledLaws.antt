@@ -17,7 +17,7 @@ use Rattle.vm_model.proofs.ReadinessLaws.{keeps_frame-parts, keeps_frame-from}
 use Rattle.pair_map.specs.Maps.{with_pair}
 use Rattle.ready_pages.specs.Changes.{Entries, EntryStays, ChangesRange}
 use Rattle.ready_pages.proofs.SettledLaws.{settled-none, settled-stays}
-use Rattle.checker_pages.proofs.LinkLaws.{pair-cases}
+use Rattle.page_store.proofs.LinkLaws.{pair-cases}
 use Rattle.checker_ready.specs.declared.ready_map.ReadyPage.{ReadyPage}
 use Rattle.checker_ready.specs.Notes.{ReadyRows, ready_in, has_frame, is_row_in, changed_rows, row_if_current, row_limited, without_range, IsTrueNote, FitsRows, NotesAreTrue}
 

@@ -16,8 +16,8 @@ use Rattle.vm_model.proofs.ContentLaws.{same_page}
 use Rattle.vm_model.proofs.PartLaws.{part_at-first, part_bytes-all, part_bytes-first, part_at-second, part_bytes-second}
 use Rattle.vm_model.proofs.ReadinessLaws.{keeps_frame-from, settled-kept, settled-some, with_ready-same, with_ready-other}
 use Rattle.vm_model.proofs.WritingLaws.{Written, Written-from_WritesPiece, WritesPiece-keeps}
-use Rattle.pages.specs.Needs.{MayOwn}
-use Rattle.pages.proofs.NeedLaws.{first-free, second-free}
+use Rattle.page_store.specs.Needs.{MayOwn}
+use Rattle.page_store.proofs.NeedLaws.{first-free, second-free}
 use Rattle.ready_pages.specs.Access.{WritesReady}
 use Rattle.ready_pages.specs.Changes.{Entries, ChangesRange, AreReadyAt}
 use Rattle.checker_ready.specs.declared.touching.TouchedPage.{TouchedPage}

@@ -11,7 +11,7 @@ ghost use Rattle.vm_model.specs.Machine.State.{State};
 ghost use Rattle.mapping_set.specs.Tables.{table_of};
 ghost use Rattle.mapping_set.specs.Backed.{AreBacked};
 ghost use Rattle.region_tree.specs.Tree.{regions_of, spaces_of};
-ghost use Rattle.checker_pages.specs.Eager.{eager_content};
+ghost use Rattle.page_store.specs.Flat.{flat_content};
 ghost use Rattle.checker_ready.specs.Notes.{rows_of, ready_in};
 ghost use Rattle.checker_ready.specs.Accesses.{IsAccessRefusal};
 ghost use Rattle.checker_ready.specs.inside.Pages.{is_unready};
@@ -19,8 +19,8 @@ ghost use Rattle.checker_ready.specs.inside.Pages.{is_unready};
 use crate::finding::{find_readable, find_writable};
 use crate::ready_map::ReadyMap;
 use crate::touching::is_unready;
-use checker_pages::CheckerPages;
 use mapping_set::MappingSet;
+use page_store::FlatStore;
 use region_tree::Regions;
 use vm_base::{DATA_BYTES, PAGE, Refusal, RegionName, in_page, page_of};
 use vm_model::Readiness;
@@ -34,15 +34,15 @@ use vm_model::Readiness;
 ///   mapping may not be read, `OutOfRange` if the page that it shows lies past the end of the VMO.
 #[tactic(auto, unfolding(vm_model::specs::Space::Regions::region_of))]
 pub fn refusal_to_read(
-    pages: &CheckerPages,
+    pages: &FlatStore,
     regions: &Regions,
     maps: &MappingSet,
     region: RegionName,
     addr: u64,
     len: u64,
 ) -> Option<Refusal>
-    requires { AreBacked (eager_content pages.now) (table_of maps.now) }
-    ensures { IsAccessRefusal (eager_content pages.now) (spaces_of (regions_of regions.now) (table_of maps.now))
+    requires { AreBacked (flat_content pages.now) (table_of maps.now) }
+    ensures { IsAccessRefusal (flat_content pages.now) (spaces_of (regions_of regions.now) (table_of maps.now))
         (Command.MemRead region addr len) result }
 {
     let Some(root) = regions.get(region) else {
@@ -71,16 +71,16 @@ pub fn refusal_to_read(
 /// - `NoMemory` if fewer frames are free than it takes to own the pages that are shown.
 #[tactic(auto, unfolding(vm_model::specs::Space::Regions::region_of))]
 pub fn refusal_to_write(
-    pages: &CheckerPages,
+    pages: &FlatStore,
     regions: &Regions,
     maps: &MappingSet,
     region: RegionName,
     addr: u64,
     bytes: &[u8],
 ) -> Option<Refusal>
-    requires backed { AreBacked (eager_content pages.now) (table_of maps.now) }
+    requires backed { AreBacked (flat_content pages.now) (table_of maps.now) }
     requires len { length bytes.now ≤ DATA_BYTES }
-    ensures { IsAccessRefusal (eager_content pages.now) (spaces_of (regions_of regions.now) (table_of maps.now))
+    ensures { IsAccessRefusal (flat_content pages.now) (spaces_of (regions_of regions.now) (table_of maps.now))
         (Command.MemWrite region addr bytes.now) result }
 {
     let Some(root) = regions.get(region) else {

@@ -7,29 +7,29 @@ ghost use Rattle.vm_model.specs.Machine.Access.{refusal_at, access_refusal};
 ghost use Rattle.vm_model.specs.Machine.Refusals.{read_refusals, write_refusals, first_of};
 ghost use Rattle.mapping_set.specs.Tables.{table_of};
 ghost use Rattle.mapping_set.specs.Backed.{AreBacked};
-ghost use Rattle.checker_pages.specs.Eager.{eager_content};
+ghost use Rattle.page_store.specs.Flat.{flat_content};
 ghost use Rattle.checker_ready.specs.inside.Pages.{IsMappedInside, FindsTouched};
 
 use crate::needing::frames_to_own;
 use crate::touching::Touched;
 use bitflags::Flags;
-use checker_pages::CheckerPages;
 use mapping_set::MappingSet;
+use page_store::{FlatStore, PageStore};
 use vm_base::{PAGE, PageNo, Perm, Refusal, RegionName, in_page, page_of};
 use vm_model::Entry;
 
 /// Finds the entries of the pages that a read of `len` bytes touches, or what refuses it on them.
 pub(crate) fn find_readable(
-    pages: &CheckerPages,
+    pages: &FlatStore,
     maps: &MappingSet,
     region: RegionName,
     addr: u64,
     len: u64,
 ) -> Result<Touched<Entry>, Refusal>
-    requires backed { AreBacked (eager_content pages.now) (table_of maps.now) }
+    requires backed { AreBacked (flat_content pages.now) (table_of maps.now) }
     requires len { len ≤ DATA_BYTES }
-    ensures { FindsTouched (eager_content pages.now) (table_of maps.now) region.0 addr len
-        (first_of (read_refusals (eager_content pages.now) (table_of maps.now region.0) (touched addr len))) result }
+    ensures { FindsTouched (flat_content pages.now) (table_of maps.now) region.0 addr len
+        (first_of (read_refusals (flat_content pages.now) (table_of maps.now region.0) (touched addr len))) result }
 {
     find(pages, maps, region, addr, len, Perm::READ)
 }
@@ -37,16 +37,16 @@ pub(crate) fn find_readable(
 /// Finds the entries of the pages that a write of `len` bytes touches, or what refuses it on them. They are two at most, so the
 /// frames that it takes are counted only if fewer than two are free.
 pub(crate) fn find_writable(
-    pages: &CheckerPages,
+    pages: &FlatStore,
     maps: &MappingSet,
     region: RegionName,
     addr: u64,
     len: u64,
 ) -> Result<Touched<Entry>, Refusal>
-    requires backed { AreBacked (eager_content pages.now) (table_of maps.now) }
+    requires backed { AreBacked (flat_content pages.now) (table_of maps.now) }
     requires len { len ≤ DATA_BYTES }
-    ensures { FindsTouched (eager_content pages.now) (table_of maps.now) region.0 addr len
-        (first_of (write_refusals (eager_content pages.now) (table_of maps.now region.0) (touched addr len))) result }
+    ensures { FindsTouched (flat_content pages.now) (table_of maps.now) region.0 addr len
+        (first_of (write_refusals (flat_content pages.now) (table_of maps.now region.0) (touched addr len))) result }
 {
     let found = match find(pages, maps, region, addr, len, Perm::WRITE) {
         Ok(found) => found,
@@ -65,17 +65,17 @@ pub(crate) fn find_writable(
 // Finds the entries of the pages that an access to `len` bytes touches, or what refuses it. It needs this right. The first
 // page on which it is refused decides.
 fn find(
-    pages: &CheckerPages,
+    pages: &FlatStore,
     maps: &MappingSet,
     region: RegionName,
     addr: u64,
     len: u64,
     right: Perm,
 ) -> Result<Touched<Entry>, Refusal>
-    requires backed { AreBacked (eager_content pages.now) (table_of maps.now) }
+    requires backed { AreBacked (flat_content pages.now) (table_of maps.now) }
     requires len { len ≤ DATA_BYTES }
-    ensures { FindsTouched (eager_content pages.now) (table_of maps.now) region.0 addr len
-        (access_refusal (eager_content pages.now) right.0 (table_of maps.now region.0) (touched addr len)) result }
+    ensures { FindsTouched (flat_content pages.now) (table_of maps.now) region.0 addr len
+        (access_refusal (flat_content pages.now) right.0 (table_of maps.now region.0) (touched addr len)) result }
 {
     if len == 0 {
         return Ok(Touched::No);
@@ -97,17 +97,17 @@ fn find(
 // Finds the entry of a page, or what refuses an access there that needs this right.
 #[tactic(auto, using(vm_model::proofs::ThroughLaws::check_laws), unfolding(vm_model::specs::Machine::Access::refusal_at))]
 fn find_page(
-    pages: &CheckerPages,
+    pages: &FlatStore,
     maps: &MappingSet,
     region: RegionName,
     page: PageNo,
     right: Perm,
 ) -> Result<Entry, Refusal>
-    requires { AreBacked (eager_content pages.now) (table_of maps.now) }
+    requires { AreBacked (flat_content pages.now) (table_of maps.now) }
     ensures { MatchResult result
-        (λ entry. (None ≡ refusal_at (eager_content pages.now) right.0 (table_of maps.now region.0 page))
-        × IsMappedInside (eager_content pages.now) (table_of maps.now) region.0 page entry)
-        (λ refusal. Some refusal ≡ refusal_at (eager_content pages.now) right.0 (table_of maps.now region.0 page)) }
+        (λ entry. (None ≡ refusal_at (flat_content pages.now) right.0 (table_of maps.now region.0 page))
+        × IsMappedInside (flat_content pages.now) (table_of maps.now) region.0 page entry)
+        (λ refusal. Some refusal ≡ refusal_at (flat_content pages.now) right.0 (table_of maps.now region.0 page)) }
 {
     let Some(entry) = maps.at(region, page) else {
         return Err(Refusal::NotFound);

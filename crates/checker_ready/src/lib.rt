@@ -1,4 +1,4 @@
-//! What the pages of address spaces are ready for, for a machine that keeps its pages eagerly (`ReadyMap`): beside each
+//! What the pages of address spaces are ready for, for a machine over the plain store (`ReadyMap`): beside each
 //! ready page the page of a VMO that it shows, and the frame that this page had. It is an implementation of `ReadyPages`.
 //!
 //! A page of a VMO has a stamp if some page is ready for an access to it, and each ready page the time at which it was made
@@ -9,8 +9,8 @@
 //! `DATA_BYTES` bytes, so it touches no page, one or two. What refuses an access can be asked apart (`refusal_to_read`,
 //! `refusal_to_write`), and so can whether it may want memory of the host (`wants_memory_to_read`, `wants_memory_to_write`).
 //!
-//! It stands on `checker_pages` for the bytes and the frames that pages have now, and shares the tables of address spaces
-//! (`MappingSet`, `Regions`) with the machine that is judged. It calls no code of a store of pages or of page faults.
+//! It stands on `page_store` for the bytes and the frames that pages have now, and shares the tables of address spaces
+//! (`MappingSet`, `Regions`) with the machine that is judged. It calls no code of the clone tree or of page faults.
 #![tactic(auto)]
 
 mod asking;

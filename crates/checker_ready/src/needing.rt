@@ -5,19 +5,19 @@ ghost use Rattle.vm_model.specs.Contents.Content.{sole, IsGood};
 ghost use Rattle.vm_model.specs.Contents.Owning.{need_each};
 ghost use Rattle.vm_model.specs.Machine.Access.{page_shown};
 ghost use Rattle.vm_model.specs.Space.Readiness.{frame_at, is_same_frame};
-ghost use Rattle.checker_pages.specs.Eager.{eager_content};
+ghost use Rattle.page_store.specs.Flat.{flat_content};
 ghost use Rattle.checker_ready.specs.inside.Pages.{AreFrom, LiesInVmo, list_of};
 
 use crate::stamps::is_same_frame;
 use crate::touching::Touched;
-use checker_pages::CheckerPages;
+use page_store::FlatStore;
 use vm_model::Entry;
 
 /// Returns the number of frames that it takes to own the pages that a write touches, one after another.
-pub(crate) fn frames_to_own(pages: &CheckerPages, found: Touched<Entry>) -> u64
-    requires good { IsGood (eager_content pages.now) }
-    requires inside { AreFrom (λ p. LiesInVmo (eager_content pages.now)) 0 (list_of found) }
-    ensures { result ≡ need_each (eager_content pages.now) (map page_shown (list_of found)) }
+pub(crate) fn frames_to_own(pages: &FlatStore, found: Touched<Entry>) -> u64
+    requires good { IsGood (flat_content pages.now) }
+    requires inside { AreFrom (λ p. LiesInVmo (flat_content pages.now)) 0 (list_of found) }
+    ensures { result ≡ need_each (flat_content pages.now) (map page_shown (list_of found)) }
 {
     match found {
         Touched::No => 0,
@@ -27,9 +27,9 @@ pub(crate) fn frames_to_own(pages: &CheckerPages, found: Touched<Entry>) -> u64
 }
 
 // How many frames it takes to own a page: one, if the page is not sole.
-fn frames_for_one(pages: &CheckerPages, entry: Entry) -> u64
+fn frames_for_one(pages: &FlatStore, entry: Entry) -> u64
     ensures few { result ≤ 1 }
-    ensures need { result ≡ need_each (eager_content pages.now) (page_shown entry ∷ []) }
+    ensures need { result ≡ need_each (flat_content pages.now) (page_shown entry ∷ []) }
 {
     if pages.is_sole(entry.koid, entry.page) {
         0
@@ -39,11 +39,11 @@ fn frames_for_one(pages: &CheckerPages, entry: Entry) -> u64
 }
 
 // How many frames it takes to own two pages, one after another.
-fn frames_for_two(pages: &CheckerPages, first: Entry, second: Entry) -> u64
-    requires good { IsGood (eager_content pages.now) }
-    requires first { LiesInVmo (eager_content pages.now) first }
-    requires second { LiesInVmo (eager_content pages.now) second }
-    ensures { result ≡ need_each (eager_content pages.now) (page_shown first ∷ page_shown second ∷ []) }
+fn frames_for_two(pages: &FlatStore, first: Entry, second: Entry) -> u64
+    requires good { IsGood (flat_content pages.now) }
+    requires first { LiesInVmo (flat_content pages.now) first }
+    requires second { LiesInVmo (flat_content pages.now) second }
+    ensures { result ≡ need_each (flat_content pages.now) (page_shown first ∷ page_shown second ∷ []) }
 {
     if pages.is_sole(first.koid, first.page) {
         frames_for_one(pages, second)
@@ -54,13 +54,13 @@ fn frames_for_two(pages: &CheckerPages, first: Entry, second: Entry) -> u64
 
 // How many frames it takes to own a page, once another was owned that is not sole. If both are one page, it takes none. If
 // they have one frame, it takes one only if a third VMO shows that frame too.
-fn frames_after(pages: &CheckerPages, first: Entry, second: Entry) -> u64
-    requires good { IsGood (eager_content pages.now) }
-    requires first { LiesInVmo (eager_content pages.now) first }
-    requires second { LiesInVmo (eager_content pages.now) second }
-    requires shared { sole (eager_content pages.now) first.koid.0 first.page ≡ false }
+fn frames_after(pages: &FlatStore, first: Entry, second: Entry) -> u64
+    requires good { IsGood (flat_content pages.now) }
+    requires first { LiesInVmo (flat_content pages.now) first }
+    requires second { LiesInVmo (flat_content pages.now) second }
+    requires shared { sole (flat_content pages.now) first.koid.0 first.page ≡ false }
     ensures few { result ≤ 1 }
-    ensures need { 1 + result ≡ need_each (eager_content pages.now) (page_shown first ∷ page_shown second ∷ []) }
+    ensures need { 1 + result ≡ need_each (flat_content pages.now) (page_shown first ∷ page_shown second ∷ []) }
 {
     if show_same_page(first, second) {
         return 0;
@@ -83,11 +83,11 @@ fn show_same_page(first: Entry, second: Entry) -> bool
 }
 
 // Whether two pages are held, with one frame.
-fn have_one_frame(pages: &CheckerPages, first: Entry, second: Entry) -> bool
-    ensures { result ≡ (is_some (frame_at (eager_content pages.now) first.koid.0 first.page)
-        && is_same_frame (frame_at (eager_content pages.now) first.koid.0 first.page)
-        (frame_at (eager_content pages.now) second.koid.0 second.page)) }
+fn have_one_frame(pages: &FlatStore, first: Entry, second: Entry) -> bool
+    ensures { result ≡ (is_some (frame_at (flat_content pages.now) first.koid.0 first.page)
+        && is_same_frame (frame_at (flat_content pages.now) first.koid.0 first.page)
+        (frame_at (flat_content pages.now) second.koid.0 second.page)) }
 {
-    let frame = pages.frame(first.koid, first.page);
-    frame.is_some() && is_same_frame(frame, pages.frame(second.koid, second.page))
+    let frame = pages.frame_at(first.koid, first.page);
+    frame.is_some() && is_same_frame(frame, pages.frame_at(second.koid, second.page))
 }

@@ -1,4 +1,4 @@
-//! The map of what is ready keeps which pages are ready over pages that are kept eagerly.
+//! The map of what is ready keeps which pages are ready over the plain store.
 
 ghost use Rattle.checker_ready.specs.Notes.{rows_of, ready_in, AreGoodNotes};
 
@@ -8,8 +8,8 @@ use crate::reading::read_touched;
 use crate::ready_map::ReadyMap;
 use crate::touching::touch;
 use crate::writing::{make_room, write_touched};
-use checker_pages::CheckerPages;
 use mapping_set::MappingSet;
+use page_store::FlatStore;
 use pin_table::PinTable;
 use ready_pages::{Change, ReadyNotes, ReadyPages};
 use vm_base::{Refusal, RegionName, VMO_PAGES};
@@ -21,8 +21,8 @@ impl ReadyNotes for ReadyMap {
     ghost AreTrue = { λ c table m. AreGoodNotes c table (rows_of m) };
 }
 
-impl ReadyPages<CheckerPages> for ReadyMap {
-    fn apply(&mut self, pages: &CheckerPages, pins: &PinTable, change: Change) {
+impl ReadyPages<FlatStore> for ReadyMap {
+    fn apply(&mut self, pages: &FlatStore, pins: &PinTable, change: Change) {
         match change {
             Change::None => {}
             Change::Frames { koid, first, end } => self.settle(pages, koid, first, end),
@@ -34,7 +34,7 @@ impl ReadyPages<CheckerPages> for ReadyMap {
 
     fn read<'a>(
         &mut self,
-        pages: &CheckerPages,
+        pages: &FlatStore,
         maps: &MappingSet,
         root: RegionName,
         addr: u64,
@@ -58,7 +58,7 @@ impl ReadyPages<CheckerPages> for ReadyMap {
 
     fn write(
         &mut self,
-        pages: &mut CheckerPages,
+        pages: &mut FlatStore,
         maps: &MappingSet,
         root: RegionName,
         addr: u64,

@@ -6,13 +6,13 @@ ghost use Rattle.vm_model.specs.Naming.Pins.{is_pinned};
 ghost use Rattle.vm_model.specs.Space.Readiness.{settled, with_ready};
 ghost use Rattle.pair_map.specs.Maps.{values_of, count_of, with_pair};
 ghost use Rattle.pin_table.specs.Table.{pins_of};
-ghost use Rattle.checker_pages.specs.Eager.{eager_content};
+ghost use Rattle.page_store.specs.Flat.{flat_content};
 ghost use Rattle.ready_pages.specs.Changes.{Entries, ChangesRange};
 ghost use Rattle.checker_ready.specs.Notes.{rows_of, ready_in, has_frame, changed_rows, row_if_current, row_limited, without_range, FitsRows, NotesAreTrue, AreGoodNotes, HasNoRow, IsReadySomewhere};
 ghost use Rattle.checker_ready.specs.inside.Pages.{IsMappedInside};
 
 use crate::stamps::{Kept, Stamp, has_frame, lower, put, ready_page, stamp_for};
-use checker_pages::CheckerPages;
+use page_store::FlatStore;
 use pair_map::PairMap;
 use pin_table::PinTable;
 use std::alloc::Global;
@@ -109,7 +109,7 @@ impl ReadyMap {
     /// entry has now. Other notes of that page of the VMO do not count any more if they have another frame. There is room.
     pub(crate) fn set(
         &mut self,
-        pages: &CheckerPages,
+        pages: &FlatStore,
         root: RegionName,
         page: PageNo,
         entry: Entry,
@@ -117,17 +117,17 @@ impl ReadyMap {
     )
         requires room { 1 ≤ self.old.room }
         ensures rows { (before : Content) (table : Entries) → NotesAreTrue before table (rows_of self.old)
-            → IsMappedInside (eager_content pages.now) table root.0 page entry
-            → ChangesRange before (eager_content pages.now) entry.koid.0 entry.page (entry.page + 1)
-            → FitsRows (eager_content pages.now) table
-            (with_ready (settled before (eager_content pages.now) table (ready_in (rows_of self.old))) root.0 page readiness)
+            → IsMappedInside (flat_content pages.now) table root.0 page entry
+            → ChangesRange before (flat_content pages.now) entry.koid.0 entry.page (entry.page + 1)
+            → FitsRows (flat_content pages.now) table
+            (with_ready (settled before (flat_content pages.now) table (ready_in (rows_of self.old))) root.0 page readiness)
             (rows_of self.new) }
         ensures spare { self.new.room + 1 ≡ self.old.room }
     {
         let row = ReadyPage {
             koid: entry.koid,
             page: entry.page,
-            frame: pages.frame(entry.koid, entry.page),
+            frame: pages.frame_at(entry.koid, entry.page),
             readiness,
         };
         self.clear(root, page);
@@ -150,10 +150,10 @@ impl ReadyMap {
 
     /// Makes what shows a page of a VMO from `first` to below `end` ready for nothing, if the page does not lie in the VMO or
     /// has another frame now than was noted.
-    pub(crate) fn settle(&mut self, pages: &CheckerPages, koid: Koid, first: PageNo, end: PageNo)
-        requires { IsSome ((eager_content pages.now).count koid.0) }
+    pub(crate) fn settle(&mut self, pages: &FlatStore, koid: Koid, first: PageNo, end: PageNo)
+        requires { IsSome ((flat_content pages.now).count koid.0) }
         ensures rows { rows_of self.new
-            ≡ changed_rows (row_if_current (eager_content pages.now)) koid.0 first end (rows_of self.old) }
+            ≡ changed_rows (row_if_current (flat_content pages.now)) koid.0 first end (rows_of self.old) }
         ensures spare { self.new.room ≡ self.old.room }
     {
         let mut from = first;
@@ -229,11 +229,11 @@ impl ReadyMap {
 
     // Makes what shows a page of a VMO ready for nothing, if the page does not lie in the VMO or has another frame now than
     // was noted.
-    fn settle_page(&mut self, pages: &CheckerPages, koid: Koid, page: PageNo, stamp: Stamp)
-        requires vmo { IsSome ((eager_content pages.now).count koid.0) }
+    fn settle_page(&mut self, pages: &FlatStore, koid: Koid, page: PageNo, stamp: Stamp)
+        requires vmo { IsSome ((flat_content pages.now).count koid.0) }
         requires stamp { values_of self.old.stamps koid.0 page ≡ Some stamp }
         ensures rows { rows_of self.new
-            ≡ changed_rows (row_if_current (eager_content pages.now)) koid.0 page (page + 1) (rows_of self.old) }
+            ≡ changed_rows (row_if_current (flat_content pages.now)) koid.0 page (page + 1) (rows_of self.old) }
         ensures spare { self.new.room ≡ self.old.room }
     {
         if !has_frame(pages, koid, page, stamp.frame) {

@@ -3,11 +3,11 @@
 ghost use Rattle.std.specs.Prelude.{◌≡◌, ◌+◌, ◌^◌, ◌<◌, ◌≤◌, Some, IsSome, IfSome};
 ghost use Rattle.pair_map.specs.Maps.{values_of, spare_of, with_pair};
 ghost use Rattle.vm_model.specs.Space.Readiness.{is_same_frame, frame_number};
-ghost use Rattle.checker_pages.specs.Eager.{eager_content};
+ghost use Rattle.page_store.specs.Flat.{flat_content};
 ghost use Rattle.checker_ready.specs.Notes.{ready_page, stamp_for, lowered, has_frame};
 
 use crate::ready_map::ReadyPage;
-use checker_pages::CheckerPages;
+use page_store::{FlatStore, PageStore};
 use pair_map::PairMap;
 use vm_base::{Koid, PageNo, Tag};
 use vm_model::Readiness;
@@ -108,11 +108,11 @@ pub(crate) fn lower(stamps: &mut PairMap<Stamp>, kept: Kept)
 }
 
 /// Returns whether a page lies in its VMO, and has this frame.
-pub(crate) fn has_frame(pages: &CheckerPages, koid: Koid, page: PageNo, frame: Option<Tag>) -> bool
-    requires { IsSome ((eager_content pages.now).count koid.0) }
-    ensures { result ≡ has_frame (eager_content pages.now) koid.0 page frame }
+pub(crate) fn has_frame(pages: &FlatStore, koid: Koid, page: PageNo, frame: Option<Tag>) -> bool
+    requires { IsSome ((flat_content pages.now).count koid.0) }
+    ensures { result ≡ has_frame (flat_content pages.now) koid.0 page frame }
 {
-    is_same_frame(frame, pages.frame(koid, page)) && page < pages.count(koid)
+    is_same_frame(frame, pages.frame_at(koid, page)) && page < pages.count(koid)
 }
 
 /// Gives a pair a value, whether it has one or not. There is room.

@@ -4,12 +4,13 @@ use Rattle.cow_forest.proofs.Words.{nat_tests, Tag, with_key, with_key-same, wit
 use Rattle.cow_forest.proofs.Words.{taken_frames, is_taken, frame_bytes, links_of, frame_shown, IsExact, all_in_sight, IsPage, AreLinked}
 use Rattle.cow_forest.proofs.Words.{look_at, tag_held, ShowsTag, IsShown, IsShownOnce, Overwrites, IsLook, ShowsFrameOrNone, Forest, tree}
 use Rattle.cow_forest.proofs.Words.{forest_content, page_with_frame, page_showing, HasNode, IsStore}
+use Rattle.std.proofs.Common.{true, cond, ◌==◌}
+use Rattle.std.specs.Prelude.{is_some}
 use Rattle.std.specs.Cmp.{both_ways}
 use Rattle.vm_base.specs.Pages.{replaced}
 use Rattle.cow_split.proofs.RowLaws.{frame-in_use, exact-in_use_alike}
 use Rattle.page_store.specs.declared.page_store.Look.{Look}
 use Rattle.page_store.specs.declared.page_store.Look.TheVariants as look
-use Rattle.page_store.proofs.FlatOwning.{is_some-with_key}
 use Rattle.cow_forest.proofs.ContentLaws.{HasPage, ShownBy, page-of, page-shown, shown-page, vmo-shows, sole-last, one-node}
 use Rattle.cow_forest.proofs.StoreLaws.{IsChangedAt, store-kept, content-held}
 
@@ -40,6 +41,11 @@ module _ (f : Forest) (s : IsStore f) where
 
   pub once-taken : (t : ℕ) → IsShownOnce (forest_content f) t → IsSome (taken_frames f.pool t)
   once-taken t once = held-taken once.v once.p t once.held once.shows.shows
+
+-- a number that was given a value has one
+is_some-with_key : (m : ℕ → Option (List ℕ)) (t : ℕ) (bytes : List ℕ) (u : ℕ) → is_some (with_key m t bytes u) ≡ cond (t == u) true (is_some (m u))
+unfolding with_key
+is_some-with_key m t bytes u = grind (arith, nat_tests)
 
 -- bytes are written to a frame that one page shows
 module _ (f : Forest) (s : IsStore f) (pool : Pool) (t at : ℕ) (bytes : List ℕ) (once : IsShownOnce (forest_content f) t)

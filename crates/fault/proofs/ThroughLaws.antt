@@ -11,11 +11,11 @@ use Rattle.fault.specs.declared.writable.WritablePage.{WritablePage}
 use Rattle.fault.specs.Table.{Places, AreTrue, IsOfEntry}
 use Rattle.fault.specs.Access.{WritesSpace}
 use Rattle.fault.specs.inside.Writable.{IsWritable, WritesTo, fault_of}
-use Rattle.pages.specs.Needs.{MayOwn}
+use Rattle.page_store.specs.Needs.{MayOwn}
 use Rattle.vm_base.proofs.SearchLaws.{count_below_le}
 use Rattle.vm_model.proofs.RangeLaws.{touched-nil}
 use Rattle.fault.proofs.AskedLaws.{AreAsked, AreAsked-none, none-refuses, fault-found}
-use Rattle.pages.proofs.NeedLaws.{second-free}
+use Rattle.page_store.proofs.NeedLaws.{second-free}
 use Rattle.fault.proofs.WritableLaws.{entry-found}
 use Rattle.fault.proofs.WrittenLaws.{writes, written-here, AreTrue-written, WritesPage-written, IsWritable-other}
 

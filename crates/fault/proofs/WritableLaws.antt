@@ -19,7 +19,7 @@ use Rattle.fault.specs.declared.writable.WritablePage.{WritablePage}
 use Rattle.fault.specs.Table.{Places, AreTrue, ready_of, translated_frame, IsOfEntry}
 use Rattle.fault.specs.inside.Touching.{IsTouched}
 use Rattle.fault.specs.inside.Writable.{writing_frame, IsAbsent, IsSoleWith, IsWritable}
-use Rattle.pages.specs.Needs.{MayOwn}
+use Rattle.page_store.specs.Needs.{MayOwn}
 use Rattle.fault.proofs.CheckLaws.{below-free}
 
 -- a page that is ready for writing is ready for that

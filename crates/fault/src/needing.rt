@@ -4,7 +4,7 @@ ghost use Rattle.std.specs.Prelude.{◌≡◌, ◌&&◌, ◌==◌, [], ◌∷◌
 ghost use Rattle.vm_model.specs.Contents.Content.{IsGood};
 ghost use Rattle.vm_model.specs.Contents.Owning.{need_each};
 ghost use Rattle.vm_model.specs.Machine.Access.{page_shown};
-ghost use Rattle.pages.specs.Needs.{need_by, have_one_frame};
+ghost use Rattle.page_store.specs.Needs.{need_by, have_one_frame};
 ghost use Rattle.fault.specs.inside.Needing.{FitsAs};
 ghost use Rattle.fault.specs.inside.Writable.{IsInStore};
 

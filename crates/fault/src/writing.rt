@@ -11,7 +11,7 @@ ghost use Rattle.fault.specs.Table.{AreTrue, IsOfEntry, translations_of, room_of
 ghost use Rattle.fault.specs.Access.{AnswersWrite, WritesSpace};
 ghost use Rattle.fault.specs.inside.Both.{AreFound, FindsWritable, RefusesTwo};
 ghost use Rattle.fault.specs.inside.Writable.{IsInStore, IsAbsent, WritesTo, fault_of, faulted};
-ghost use Rattle.pages.specs.Needs.{MayOwn};
+ghost use Rattle.page_store.specs.Needs.{MayOwn};
 ghost use Rattle.fault.specs.inside.Needing.{HasRoomToWrite, LacksRoomToWrite};
 
 use crate::needing::{frames_for_one, frames_needed};

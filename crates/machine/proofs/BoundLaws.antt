@@ -36,8 +36,8 @@ use Rattle.vm_model.proofs.RegionLaws.{region_of-at, region_bounds, reaches_over
 use Rattle.vm_model.proofs.StepLaws.{AllOff-from_none, change_parts, place_inside}
 use Rattle.vm_model.proofs.WritingLaws.{IsKept, Writes-keeps}
 use Rattle.vm_model.proofs.ZeroesLaws.{zeroed-keeps, Zeroes-keeps}
-use Rattle.pages.specs.Names.{IsInside}
-use Rattle.pages.proofs.NameLaws.{name_few, IsInside-good}
+use Rattle.page_store.specs.Names.{IsInside}
+use Rattle.page_store.proofs.NameLaws.{name_few, IsInside-good}
 use Rattle.ready_pages.specs.Changes.{IsBounded}
 use Rattle.machine.specs.inside.Changes.{range_part, shared_part, change_made, change_after}
 

@@ -9,7 +9,7 @@ use Rattle.vm_model.specs.Contents.Content.{Content}
 use Rattle.vm_model.specs.Machine.Given.{GivesName}
 use Rattle.vm_model.specs.Machine.Refusals.{refusals, first_of}
 use Rattle.vmo_table.specs.Table.{Vmos, names_of, keepers_of, AreParts, IsWellCounted}
-use Rattle.pages.specs.Names.{IsInside}
+use Rattle.page_store.specs.Names.{IsInside}
 use Rattle.vmo_ops.specs.Targets.{AreTogether}
 use Rattle.vmo_ops.proofs.NameLaws.{parts_inside}
 use Rattle.region_ops.specs.Spaces.{AreAllWell}

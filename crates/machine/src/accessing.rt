@@ -13,7 +13,7 @@ ghost use Rattle.machine.specs.Machine.{machine_of_parts};
 ghost use Rattle.machine.specs.inside.Fields.{parts_of};
 
 use crate::tables::Tables;
-use pages::Pages;
+use page_store::PageStore;
 use ready_pages::ReadyPages;
 use region_ops::RegionRange;
 use vm_base::{DATA_BYTES, Refusal, RegionName};
@@ -22,7 +22,7 @@ use vm_model::Answer;
 /// Reads the bytes of a range through the mappings of an address space, into `room`, which has at least `DATA_BYTES` bytes,
 /// and lends them from there. `InvalidArgs` also if the length is over `DATA_BYTES`.
 #[tactic(auto, unfolding(vm_model::specs::Space::Regions::region_of))]
-pub(crate) fn mem_read<'a, P: Pages, R: ReadyPages<P>>(
+pub(crate) fn mem_read<'a, P: PageStore, R: ReadyPages<P>>(
     pages: &P,
     tables: &Tables,
     ready: &mut R,
@@ -61,7 +61,7 @@ pub(crate) fn mem_read<'a, P: Pages, R: ReadyPages<P>>(
 
 /// Writes bytes, at most `DATA_BYTES`, from an address on through the mappings of an address space.
 #[tactic(auto, unfolding(vm_model::specs::Space::Regions::region_of))]
-pub(crate) fn mem_write<P: Pages, R: ReadyPages<P>>(
+pub(crate) fn mem_write<P: PageStore, R: ReadyPages<P>>(
     pages: &mut P,
     tables: &Tables,
     ready: &mut R,

@@ -10,13 +10,13 @@ ghost use Rattle.machine.specs.inside.Steps.{Handles, IsSoundState};
 
 use crate::tables::Tables;
 use attribution::info;
-use pages::{Pages, size_of_name};
+use page_store::{PageStore, size_of_name};
 use vm_base::{Refusal, VmoName};
 use vm_model::Answer;
 use vmo_ops::NameRange;
 
 /// Reads the bytes of a range into `room`, which has at least `DATA_BYTES` bytes.
-pub(crate) fn vmo_read<'a, P: Pages>(
+pub(crate) fn vmo_read<'a, P: PageStore>(
     pages: &P,
     tables: &Tables,
     range: NameRange,
@@ -37,7 +37,7 @@ pub(crate) fn vmo_read<'a, P: Pages>(
 }
 
 /// Answers the size in bytes of what the name stands for.
-pub(crate) fn vmo_size<P: Pages>(pages: &P, tables: &Tables, name: VmoName) -> Answer<'static>
+pub(crate) fn vmo_size<P: PageStore>(pages: &P, tables: &Tables, name: VmoName) -> Answer<'static>
     requires { IsSoundState (P.content pages.now) tables.now }
     ensures { Handles (P.content pages.now) tables.now (Command.VmoSize name) (reply_for result) Change.None
         (P.content pages.now) tables.now }
@@ -49,7 +49,7 @@ pub(crate) fn vmo_size<P: Pages>(pages: &P, tables: &Tables, name: VmoName) -> A
 }
 
 /// Tells what the VMO holds for which the name stands.
-pub(crate) fn vmo_info<P: Pages>(pages: &P, tables: &Tables, name: VmoName) -> Answer<'static>
+pub(crate) fn vmo_info<P: PageStore>(pages: &P, tables: &Tables, name: VmoName) -> Answer<'static>
     requires { IsSoundState (P.content pages.now) tables.now }
     ensures { Handles (P.content pages.now) tables.now (Command.VmoInfo name) (reply_for result) Change.None
         (P.content pages.now) tables.now }

@@ -11,14 +11,14 @@ ghost use Rattle.machine.specs.inside.Steps.{Handles, IsSoundState};
 ghost use Rattle.ready_pages.specs.declared.change.Change.{Change};
 
 use crate::tables::Tables;
-use pages::Pages;
+use page_store::PageStore;
 use ready_pages::Change;
 use vm_base::{Koid, Refusal, VmoName, page_count};
 use vm_model::Answer;
 use vmo_ops::{NameRange, TouchedPages};
 
 /// Writes bytes from `offset` bytes into the name on.
-pub(crate) fn vmo_write<P: Pages>(
+pub(crate) fn vmo_write<P: PageStore>(
     pages: &mut P,
     tables: &Tables,
     name: VmoName,
@@ -39,7 +39,7 @@ pub(crate) fn vmo_write<P: Pages>(
 }
 
 /// Writes one byte at every place of a range.
-pub(crate) fn vmo_fill<P: Pages>(
+pub(crate) fn vmo_fill<P: PageStore>(
     pages: &mut P,
     tables: &Tables,
     range: NameRange,
@@ -59,7 +59,7 @@ pub(crate) fn vmo_fill<P: Pages>(
 }
 
 /// Gives each page that a range touches a frame of its own.
-pub(crate) fn vmo_commit<P: Pages>(
+pub(crate) fn vmo_commit<P: PageStore>(
     pages: &mut P,
     tables: &Tables,
     range: NameRange,
@@ -78,7 +78,7 @@ pub(crate) fn vmo_commit<P: Pages>(
 }
 
 /// Makes the bytes of a range zero.
-pub(crate) fn vmo_zero<P: Pages>(
+pub(crate) fn vmo_zero<P: PageStore>(
     pages: &mut P,
     tables: &Tables,
     range: NameRange,
@@ -103,7 +103,7 @@ pub(crate) fn vmo_zero<P: Pages>(
 }
 
 /// Makes the pages of a range zero and gives their frames back.
-pub(crate) fn vmo_decommit<P: Pages>(
+pub(crate) fn vmo_decommit<P: PageStore>(
     pages: &mut P,
     tables: &Tables,
     range: NameRange,
@@ -129,7 +129,7 @@ pub(crate) fn vmo_decommit<P: Pages>(
 }
 
 /// Changes the size of the VMO.
-pub(crate) fn vmo_set_size<P: Pages>(
+pub(crate) fn vmo_set_size<P: PageStore>(
     pages: &mut P,
     tables: &Tables,
     name: VmoName,

@@ -29,7 +29,7 @@ use crate::requests::{ChildRequest, PinRequest, RegionCommand, region_command};
 use crate::spaces::{root_create, vmar_allocate, vmar_destroy};
 use crate::tables::Tables;
 use attribution::stat;
-use pages::Pages;
+use page_store::PageStore;
 use ready_pages::{Change, ReadyPages};
 use region_ops::RegionRange;
 use vm_model::{Answer, Call};
@@ -39,7 +39,7 @@ use vmo_ops::{ChildShape, NameRange};
 /// may have changed of the pages that are ready. If an address is told, a place that the command leaves open is there. `None`,
 /// with nothing changed, if nothing refuses the command, but it can't be there.
 #[inline(always)]
-pub(crate) fn on_tables<'a, P: Pages>(
+pub(crate) fn on_tables<'a, P: PageStore>(
     pages: &mut P,
     tables: &mut Tables,
     call: &Call<'_>,
@@ -69,7 +69,7 @@ pub(crate) fn on_tables<'a, P: Pages>(
 }
 
 /// Hands a command on a VMO as a whole to its handler.
-pub(crate) fn on_vmo<P: Pages>(
+pub(crate) fn on_vmo<P: PageStore>(
     pages: &mut P,
     tables: &mut Tables,
     call: &Call<'_>,
@@ -120,7 +120,7 @@ pub(crate) fn on_vmo<P: Pages>(
 }
 
 /// Hands a command on pages of a VMO to its handler. A read writes its bytes to `bytes`.
-pub(crate) fn on_pages<'a, P: Pages>(
+pub(crate) fn on_pages<'a, P: PageStore>(
     pages: &mut P,
     tables: &Tables,
     call: &Call<'_>,
@@ -168,7 +168,7 @@ pub(crate) fn on_pages<'a, P: Pages>(
 }
 
 /// Hands a command on a pin to its handler. `vmo_pin` writes the numbers of the pinned frames to `numbers`.
-pub(crate) fn on_pin<'a, P: Pages>(
+pub(crate) fn on_pin<'a, P: PageStore>(
     pages: &mut P,
     tables: &mut Tables,
     call: &Call<'_>,
@@ -198,7 +198,7 @@ pub(crate) fn on_pin<'a, P: Pages>(
 
 /// Hands a command on a region, or on the mappings in one, to its handler. If an address is told, a place that the
 /// command leaves open is there. `None`, with nothing changed, if nothing refuses the command, but it can't be there.
-pub(crate) fn on_region<P: Pages>(
+pub(crate) fn on_region<P: PageStore>(
     pages: &mut P,
     tables: &mut Tables,
     call: &Call<'_>,
@@ -227,7 +227,7 @@ pub(crate) fn on_region<P: Pages>(
 }
 
 /// Answers a question about the whole machine.
-pub(crate) fn on_machine<P: Pages>(pages: &P, call: &Call<'_>) -> Answer<'static>
+pub(crate) fn on_machine<P: PageStore>(pages: &P, call: &Call<'_>) -> Answer<'static>
     requires { group_of call.now ≡ Group.Machine }
     ensures step { (s : State) → Step (record s { content = P.content pages.now }) (command_of call.now) (reply_for result)
         (record s { content = P.content pages.now }) }
@@ -241,7 +241,7 @@ pub(crate) fn on_machine<P: Pages>(pages: &P, call: &Call<'_>) -> Answer<'static
 }
 
 /// Hands an access through mappings to its handler. A read writes its bytes to `bytes`.
-pub(crate) fn on_memory<'a, P: Pages, R: ReadyPages<P>>(
+pub(crate) fn on_memory<'a, P: PageStore, R: ReadyPages<P>>(
     pages: &mut P,
     tables: &Tables,
     ready: &mut R,

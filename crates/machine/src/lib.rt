@@ -4,7 +4,7 @@
 //!
 //! It stands on `vmo_ops` and `region_ops` for what commands do to VMOs and to address spaces, on `vmo_table` for names
 //! and lineage, on `pin_table` for pins, on `region_tree` and `mapping_set` for regions and what pages show, on
-//! `attribution` for what a VMO holds and what is mapped in a region, and on `pages` and `ready_pages`, whose traits it is
+//! `attribution` for what a VMO holds and what is mapped in a region, and on `page_store` and `ready_pages`, whose traits it is
 //! generic over. Its contract is the step relation of `vm_model`.
 #![tactic(auto)]
 

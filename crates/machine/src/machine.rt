@@ -14,7 +14,7 @@ use crate::dispatching::{on_machine, on_memory, on_tables};
 use crate::groups::{Group, group_of};
 use crate::tables::Tables;
 use mapping_set::MappingSet;
-use pages::Pages;
+use page_store::PageStore;
 use pin_table::PinTable;
 use ready_pages::{ReadyNotes, ReadyPages};
 use region_tree::Regions;
@@ -106,7 +106,7 @@ impl<R: ReadyNotes> Machine<R> {
     /// are those of the names. The answer borrows the bytes that were read from `bytes`, which has room for `DATA_BYTES`
     /// bytes, and the frames of pinned pages from `numbers`, which has room for `PIN_PAGES` of them.
     #[inline(never)]
-    pub fn answer<'a, P: Pages>(
+    pub fn answer<'a, P: PageStore>(
         &mut self,
         pages: &mut P,
         call: &Call<'_>,
@@ -134,7 +134,7 @@ impl<R: ReadyNotes> Machine<R> {
     /// Does one command as `answer` does. If an address is told, a region or a mapping for which the command leaves the place
     /// open is put there. `None`, with nothing changed, if nothing refuses the command, but it can't be there.
     #[inline(always)]
-    pub fn answer_told<'a, P: Pages>(
+    pub fn answer_told<'a, P: PageStore>(
         &mut self,
         pages: &mut P,
         call: &Call<'_>,
@@ -168,7 +168,7 @@ impl<R: ReadyNotes> Machine<R> {
     // Does a command that is no access and no question about the whole machine, and takes back what it made untrue of what is
     // ready.
     #[inline(always)]
-    fn perform<'a, P: Pages>(
+    fn perform<'a, P: PageStore>(
         &mut self,
         pages: &mut P,
         call: &Call<'_>,

@@ -13,7 +13,7 @@ ghost use Rattle.machine.specs.Machine.{IsAtPlace};
 
 use crate::placing::first_page;
 use crate::tables::Tables;
-use pages::Pages;
+use page_store::PageStore;
 use ready_pages::Change;
 use region_ops::{MapRequest, RegionRange, SearchedRegion, Wanted, ask_to_map, map_at, piece_at};
 use vm_base::{PAGE, Perm, Refusal, RegionName, VmoName, page_count, page_of};
@@ -22,7 +22,7 @@ use vm_model::Answer;
 /// Maps a part of what a name stands for. `BadHandle` also if the name is not open. If an address is told, the mapping is
 /// there. `None`, with nothing changed, if nothing refuses this, but the mapping can't be there.
 #[tactic(auto, unfolding(vm_model::specs::Space::Regions::region_of, vm_base::specs::Entries::passes))]
-pub(crate) fn vmar_map<P: Pages>(
+pub(crate) fn vmar_map<P: PageStore>(
     pages: &mut P,
     tables: &mut Tables,
     request: MapRequest<VmoName>,
@@ -82,7 +82,7 @@ pub(crate) fn vmar_map<P: Pages>(
 }
 
 /// Unmaps a range.
-pub(crate) fn vmar_unmap<P: Pages>(
+pub(crate) fn vmar_unmap<P: PageStore>(
     pages: &mut P,
     tables: &mut Tables,
     range: RegionRange,

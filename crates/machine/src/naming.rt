@@ -5,20 +5,20 @@ ghost use Rattle.vm_base.specs.declared.limits.TheConstants.{KOIDS};
 ghost use Rattle.vm_model.specs.declared.command.Command.{Command};
 ghost use Rattle.vm_model.specs.Machine.Lent.{reply_for};
 ghost use Rattle.vm_model.specs.Contents.Content.{IsGood};
-ghost use Rattle.pages.specs.Names.{IsInside};
+ghost use Rattle.page_store.specs.Names.{IsInside};
 ghost use Rattle.machine.specs.inside.Changes.{change_of_child, shared_part};
 ghost use Rattle.ready_pages.specs.declared.change.Change.{Change};
 ghost use Rattle.machine.specs.inside.Steps.{Handles, IsSoundState};
 
 use crate::requests::ChildRequest;
 use crate::tables::Tables;
-use pages::{Pages, pages_of_name};
+use page_store::{PageStore, pages_of_name};
 use ready_pages::Change;
 use vm_base::{Refusal, VmoName, page_count, page_of};
 use vm_model::{Answer, ChildKind, Target};
 
 /// Makes a VMO. `NameInUse` if the name is open.
-pub(crate) fn vmo_create<P: Pages>(
+pub(crate) fn vmo_create<P: PageStore>(
     pages: &mut P,
     tables: &mut Tables,
     name: VmoName,
@@ -41,7 +41,7 @@ pub(crate) fn vmo_create<P: Pages>(
 
 /// Makes a child of what the parent's name stands for. `BadHandle` if that name is not open, `NameInUse` if `name` is open. The
 /// pages that a snapshot shares are answered, of which those that are not pinned may be written no more by what showed them.
-pub(crate) fn vmo_create_child<P: Pages>(
+pub(crate) fn vmo_create_child<P: PageStore>(
     pages: &mut P,
     tables: &mut Tables,
     name: VmoName,
@@ -79,7 +79,7 @@ pub(crate) fn vmo_create_child<P: Pages>(
 }
 
 // What a child changes of what is ready: a snapshot shares the pages of the parent that it sees.
-fn child_change<P: Pages>(pages: &P, target: &Target, request: ChildRequest) -> Change
+fn child_change<P: PageStore>(pages: &P, target: &Target, request: ChildRequest) -> Change
     requires good { IsGood (P.content pages.now) }
     requires inside { IsInside (P.content pages.now) target.now }
     ensures { result ≡ change_of_child request.kind (P.content pages.now) target.now request.shape.offset request.shape.size }
@@ -91,8 +91,8 @@ fn child_change<P: Pages>(pages: &P, target: &Target, request: ChildRequest) -> 
 }
 
 // The pages that a snapshot of a part of a name shares.
-#[tactic(auto, using(pages::proofs::NameLaws::name_few))]
-fn seen_part<P: Pages>(pages: &P, target: &Target, offset: u64, size: u64) -> Change
+#[tactic(auto, using(page_store::proofs::NameLaws::name_few))]
+fn seen_part<P: PageStore>(pages: &P, target: &Target, offset: u64, size: u64) -> Change
     requires good { IsGood (P.content pages.now) }
     requires inside { IsInside (P.content pages.now) target.now }
     ensures { result ≡ shared_part (P.content pages.now) target.now offset size }
@@ -109,7 +109,7 @@ fn seen_part<P: Pages>(pages: &P, target: &Target, offset: u64, size: u64) -> Ch
 }
 
 /// Closes a name. `BadHandle` if it is not open.
-pub(crate) fn vmo_close<P: Pages>(
+pub(crate) fn vmo_close<P: PageStore>(
     pages: &mut P,
     tables: &mut Tables,
     name: VmoName,

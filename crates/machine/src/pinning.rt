@@ -11,7 +11,7 @@ ghost use Rattle.machine.specs.inside.Steps.{Handles, IsSoundState};
 use crate::changing::frames_changed;
 use crate::requests::PinRequest;
 use crate::tables::Tables;
-use pages::Pages;
+use page_store::PageStore;
 use ready_pages::Change;
 use vm_base::{PAGE, PinName, Refusal};
 use vm_model::{Answer, Target};
@@ -19,7 +19,7 @@ use vmo_ops::{NameRange, touched_by};
 
 /// Pins the pages of a range. `BadHandle` if the name is not open, `NameInUse` if the pin is there. `room` has at least
 /// `PIN_PAGES` places for the numbers of frames.
-pub(crate) fn vmo_pin<'a, P: Pages>(
+pub(crate) fn vmo_pin<'a, P: PageStore>(
     pages: &mut P,
     tables: &mut Tables,
     request: PinRequest,
@@ -62,7 +62,7 @@ fn range_changed(target: &Target, range: NameRange) -> Change
 }
 
 /// Removes a pin. `BadHandle` if it is not there.
-pub(crate) fn vmo_unpin<P: Pages>(
+pub(crate) fn vmo_unpin<P: PageStore>(
     pages: &mut P,
     tables: &mut Tables,
     pin: PinName,

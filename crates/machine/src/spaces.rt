@@ -11,7 +11,7 @@ ghost use Rattle.machine.specs.Machine.{IsAtPlace};
 
 use crate::placing::first_page;
 use crate::tables::Tables;
-use pages::Pages;
+use page_store::PageStore;
 use ready_pages::Change;
 use region_ops::{AllocateRequest, SearchedRegion, Wanted, allocate_at, ask_to_allocate};
 use vm_base::{PAGE, Refusal, RegionName};
@@ -88,7 +88,7 @@ pub(crate) fn vmar_allocate(
 
 /// Destroys a region and all below it. `BadHandle` if it was never given, `BadState` if it is destroyed already. What
 /// is mapped in these regions is unmapped.
-pub(crate) fn vmar_destroy<P: Pages>(
+pub(crate) fn vmar_destroy<P: PageStore>(
     pages: &mut P,
     tables: &mut Tables,
     region: RegionName,

@@ -1,7 +1,12 @@
 pub mod HeldLaws
 pub mod ViewerLaws
-pub mod FlatLaws
-pub mod FlatOwning
-pub mod FlatWriting
-pub mod FlatSharing
+pub mod LinkLaws
+pub mod RowLaws
+pub mod ChangeLaws
+pub mod SnapshotLaws
+pub mod VmoLaws
+pub mod FrameLaws
 pub mod PartLaws
+pub mod LookLaws
+pub mod NameLaws
+pub mod NeedLaws

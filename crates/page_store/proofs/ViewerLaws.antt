@@ -1,11 +1,11 @@
 -- How many VMOs show a frame, where a page more is held.
-use Rattle.std.proofs.Common.{◌≡◌, ◌≢◌, ℕ, ◌+◌, ◌<◌, ◌≤◌, Bool, false, not, ◌&&◌, ◌==◌, cond, None, Some, refl, sym, ap, subst, ◌∙◌, inl, inr, arith}
+use Rattle.std.proofs.Common.{◌≡◌, ◌≢◌, ℕ, ◌+◌, ◌<◌, Bool, false, not, ◌&&◌, ◌==◌, cond, None, Some, refl, sym, ap, subst, ◌∙◌, inl, inr, arith}
 use Rattle.std.specs.Prelude.{nat_lt}
 use Rattle.std.specs.Cmp.{both_ways}
 use Rattle.std.proofs.lemmas.Bool.{cases_eq, false_from_ne_true, and_left, eq-eqb, ne_eqb}
 use Rattle.std.proofs.lemmas.Bool.Decides.{nat_tests}
 use Rattle.vm_base.specs.Search.{count_below}
-use Rattle.vm_base.proofs.SearchLaws.{any_below-count, count_below_same, count_below_le, count_below_gap, count_below_change, count_below-bound, bit-true, bit-false, eqb_same, eqb_apart}
+use Rattle.vm_base.proofs.SearchLaws.{any_below-count, count_below_change, count_below-bound, bit-true, bit-false, eqb_same, eqb_apart}
 use Rattle.vm_model.specs.Contents.Content.{Page, Content, views, in_use, seen_elsewhere, is_sole_page, hold, IsGood}
 use Rattle.vm_model.specs.Contents.Sharing.{viewers}
 use Rattle.vm_model.specs.Contents.Zeroing.{zeroed}
@@ -17,11 +17,6 @@ use Rattle.vm_model.proofs.ZeroingLaws.{page-zeroed_in}
 pub in_use-viewers : (c : Content) (t : ℕ) → in_use c t ≡ nat_lt 0 (viewers c t)
 unfolding in_use viewers
 in_use-viewers c t = any_below-count c.next (views c t)
-
--- no more VMOs show a frame than there are koids
-pub viewers_le : (c : Content) (t : ℕ) → viewers c t ≤ c.next
-unfolding viewers
-viewers_le c t = count_below_le c.next (views c t)
 
 -- a held page is sole where one VMO shows its frame
 pub sole-viewers : (c : Content) (v p : ℕ) (held : Page) → IsGood c → c.page v p ≡ Some held → is_sole_page c v (Some held) ≡ (viewers c held.tag == 1)
@@ -35,22 +30,6 @@ sole-viewers c v p held good e =
     let more : count_below c.next (views c held.tag) ≡ count_below c.next other + 1 =
     omega (arith, change, bit-true (views c held.tag v) shows, bit-false (other v) off) in
     rw (any_below-count c.next other) (grind (arith, nat_tests))
-
--- VMOs that show the same frames show them as often
-pub viewers-same : (c d : Content) (t : ℕ) → d.next ≡ c.next → ((w : ℕ) → views d t w ≡ views c t w) → viewers d t ≡ viewers c t
-unfolding viewers
-viewers-same c d t next same = count_below-bound d.next c.next (views d t) next ∙ count_below_same c.next (views d t) (views c t) (λ w h. same w)
-
--- contents with the same pages show frames alike
-pub viewers-pages : (c d : Content) → IsGood c → IsGood d → c.next ≤ d.next → ((v p : ℕ) → d.page v p ≡ c.page v p) → (t : ℕ) → viewers d t ≡ viewers c t
-unfolding viewers
-viewers-pages c d good fine le pages t =
-    count_below_gap c.next d.next (views d t) le (λ v low high. false_from_ne_true (views d t v) (λ e.
-    let found = views_found d t v e in
-    let below = koid_held c v found.0 found.1 good (sym (pages v found.0) ∙ found.3) in absurd (omega arith)))
-    ∙ count_below_same c.next (views d t) (views c t) (λ v h. both_ways (views d t v) (views c t v)
-    (λ e. let found = views_found d t v e in views_held c t v found.0 found.1 good (sym (pages v found.0) ∙ found.3) found.4)
-    (λ e. let found = views_found c t v e in views_held d t v found.0 found.1 fine (pages v found.0 ∙ found.3) found.4))
 
 -- ---- a page more
 

@@ -1,18 +1,19 @@
-//! The plain store: a map of the pages that are held, and a share count for each frame.
+//! The plain store: a map of the pages that are held, and for each frame the VMOs that show it.
 
-ghost use Rattle.std.specs.Prelude.{◌≡◌, ◌≢◌, ℕ, ◌+◌, ◌-◌, ◌<◌, ◌≤◌, ◌⊎◌, ◌==◌, ◌&&◌, if◌then◌else◌, true, IsSome, IfSome, IfNone, OnOk, IfOk, OnErr, None, Some};
-ghost use Rattle.vm_base.specs.declared.limits.TheConstants.{VMO_PAGES, KOIDS};
+ghost use Rattle.std.specs.Prelude.{◌≡◌, ◌≢◌, ℕ, ◌+◌, ◌-◌, ◌<◌, ◌≤◌, ◌⊎◌, true, false, None, Some, IsSome, IfSome, IfNone, OnOk};
+ghost use Rattle.std.specs.Option.{option_map};
+ghost use Rattle.vm_base.specs.declared.limits.TheConstants.{KOIDS, VMO_PAGES};
 ghost use Rattle.vm_base.specs.Search.{HasNone, IsFirst};
-ghost use Rattle.vm_base.specs.Pages.{zeros};
-ghost use Rattle.vm_model.specs.Contents.Content.{nothing, pages_of, views, used, sole, is_held, hold, created, IsGood};
+ghost use Rattle.vm_model.specs.Contents.Content.{nothing, pages_of, used, is_held, sole, hold, created, IsGood};
 ghost use Rattle.vm_model.specs.Contents.Owning.{Owns};
+ghost use Rattle.vm_model.specs.Contents.Sharing.{viewers};
 ghost use Rattle.vm_model.specs.Contents.Zeroing.{zeroed};
-ghost use Rattle.frame_pool.specs.Pool.{taken_frames, frame_bytes, taken_count, Takes};
-ghost use Rattle.pair_map.specs.Maps.{values_of, spare_of};
-ghost use Rattle.page_store.specs.Pages.{IsShown};
-ghost use Rattle.page_store.specs.Held.{held_from, showing};
-ghost use Rattle.page_store.specs.Flat.{flat_content, page_with, flat_room};
+ghost use Rattle.vm_model.specs.Space.Readiness.{frame_at};
+ghost use Rattle.pair_map.specs.Maps.{values_of, count_of};
+ghost use Rattle.page_store.specs.Held.{held_from};
+ghost use Rattle.page_store.specs.Flat.{flat_content, flat_spare, page_with_tag, IsSeenByThird};
 
+use crate::frames::{give_back_unshown, has_third, is_alone, take_copy, take_zeros};
 use crate::page_store::{Look, PageStore};
 use frame_pool::FramePool;
 use pair_map::PairMap;
@@ -21,23 +22,22 @@ use std::marker::Model;
 use vm_base::{HostMemory, Koid, PageNo, Tag, VMO_PAGES};
 
 /// A page store whose held pages are the entries of one map. VMOs share page frames: a snapshot has entries of its own,
-/// with the same frames, for the pages that it sees. The share count of a frame says how many VMOs show it.
+/// with the same frames, for the pages that it sees. Clauses speak of what it contains (`flat_content`), and of how many
+/// pages may be owned without asking the host for memory (`flat_spare`).
 #[derive(Drop)]
 pub struct FlatStore {
-    /// The page frames. A frame is taken while some VMO shows it.
+    /// The page frames. A frame is taken while some page shows it.
     pool: FramePool,
     /// The koid of the next VMO. The first has koid 1, and none is given twice.
     next: u64,
-    /// The page counts of the VMOs, by the pair of 0 and the koid: in the order of koids.
+    /// The page counts of the VMOs, by the pair of 0 and the koid.
     vmos: PairMap<PageNo>,
     /// The frames of the pages that are held, by koid and page number.
     rows: PairMap<Tag>,
-    /// The number of VMOs that show each frame, by tag.
-    shares: Vec<u64>,
-    /// The greatest number of entries for which room was asked. The store has no more to spare than this. A snapshot
-    /// keeps what is to spare, so it asks for room for the entries that it shows, and not for all that the map has ever
-    /// had.
-    asked: u64,
+    /// The pages that are held, by the tags of their frames and the koids of their VMOs. No VMO shows a frame twice.
+    viewers: PairMap<PageNo>,
+    /// The number of pages that may be owned with no memory from the host.
+    room: u64,
 }
 
 impl Model for FlatStore {
@@ -53,49 +53,122 @@ impl Model for FlatStore {
 impl FlatStore {
     /// Makes a store with no frames and no VMO.
     pub fn new(alloc: Global) -> FlatStore
-        ensures content { ⟦<FlatStore as PageStore>⟧.content result ≡ nothing }
+        ensures content { flat_content result ≡ nothing }
+        ensures spare { flat_spare result ≡ 0 }
     {
         FlatStore {
             pool: FramePool::new(alloc),
             next: 1,
             vmos: PairMap::new(alloc),
             rows: PairMap::new(alloc),
-            shares: Vec::new(alloc),
-            asked: 0,
+            viewers: PairMap::new(alloc),
+            room: 0,
         }
     }
 
-    // Makes a VMO of `count` zero pages under the next koid.
-    fn add_vmo(&mut self, count: PageNo) -> Result<Koid, HostMemory>
-        requires count { count ≤ VMO_PAGES }
-        requires next { (flat_content self.old).next < KOIDS }
-        ensures koid { IfOk result (λ v. v.0 ≡ (flat_content self.old).next) }
-        ensures ok { OnOk result (flat_content self.new ≡ created (flat_content self.old) count) }
-        ensures err { OnErr result (flat_content self.new ≡ flat_content self.old) }
-        ensures rows { self.new.rows ≡ self.old.rows }
-        ensures asked { self.new.asked ≡ self.old.asked }
+    /// Returns the frame of a page. `None` if and only if the page is zero.
+    pub fn frame_at(&self, v: Koid, page: PageNo) -> Option<Tag>
+        ensures { option_map (λ tag. tag.0) result ≡ frame_at (flat_content self.now) v.0 page }
     {
-        let Ok(()) = self.vmos.reserve(1) else {
+        self.rows.find(v.0, page)
+    }
+
+    /// Returns whether a page is held, and no other VMO shows its frame.
+    pub fn is_sole(&self, v: Koid, page: PageNo) -> bool
+        ensures { result ≡ sole (flat_content self.now) v.0 page }
+    {
+        // The koid of a VMO is below the next.
+        let _next = self.next;
+        match self.rows.find(v.0, page) {
+            Some(tag) => is_alone(&self.viewers, tag, v),
+            None => false,
+        }
+    }
+
+    /// Returns whether a page is held, and a VMO other than its own and another one, `w`, shows its frame.
+    pub fn is_seen_by_third(&self, v: Koid, page: PageNo, w: Koid) -> bool
+        requires { w.0 < (flat_content self.now).next }
+        ensures some { result ≡ true → IsSeenByThird (flat_content self.now) v.0 page w.0 }
+        ensures none { result ≡ false → IsSeenByThird (flat_content self.now) v.0 page w.0 → ⊥ }
+    {
+        // The koid of a VMO is below the next.
+        let _next = self.next;
+        match self.rows.find(v.0, page) {
+            Some(tag) => has_third(&self.viewers, tag, v, w),
+            None => false,
+        }
+    }
+
+    /// Returns a VMO that shows a frame, and its page that has the frame. `None` if and only if no page has it.
+    pub fn viewer(&self, tag: Tag) -> Option<(Koid, PageNo)>
+        ensures some { IfSome result (λ at. frame_at (flat_content self.now) at.0.0 at.1 ≡ Some tag.0) }
+        ensures none { IfNone result ((v p : ℕ) → frame_at (flat_content self.now) v p ≡ Some tag.0 → ⊥) }
+    {
+        match self.viewers.next(tag.0 as u64, 0) {
+            Some((koid, page)) => Some((Koid(koid), page)),
+            None => None,
+        }
+    }
+
+    // ---- steps of the calls
+
+    // Makes room for owning `pages` pages.
+    fn reserve_rows(&mut self, pages: u64) -> Result<(), HostMemory>
+        ensures room { OnOk result (pages ≤ flat_spare self.new) }
+        ensures same { flat_content self.new ≡ flat_content self.old }
+        ensures kept { flat_spare self.old ≤ flat_spare self.new }
+        ensures vmos { self.new.vmos ≡ self.old.vmos }
+    {
+        if pages <= self.room {
+            return Ok(());
+        }
+        let Ok(()) = self.rows.reserve(pages as usize) else {
             return Err(HostMemory);
         };
+        let Ok(()) = self.viewers.reserve(pages as usize) else {
+            return Err(HostMemory);
+        };
+        self.room = pages;
+        Ok(())
+    }
+
+    // Makes room for one VMO more.
+    fn reserve_vmo(&mut self) -> Result<(), HostMemory>
+        ensures room { OnOk result (1 ≤ self.new.vmos.spare) }
+        ensures same { flat_content self.new ≡ flat_content self.old }
+        ensures spare { flat_spare self.new ≡ flat_spare self.old }
+    {
+        self.vmos.reserve(1).map_err(|_| HostMemory)
+    }
+
+    // Makes a VMO of `count` zero pages under the next koid. There is room for it.
+    fn add_vmo(&mut self, count: PageNo) -> Koid
+        requires room { 1 ≤ self.old.vmos.spare }
+        requires count { count ≤ VMO_PAGES }
+        requires next { (flat_content self.old).next < KOIDS }
+        ensures koid { result.0 ≡ (flat_content self.old).next }
+        ensures content { flat_content self.new ≡ created (flat_content self.old) count }
+        ensures spare { flat_spare self.new ≡ flat_spare self.old }
+    {
         let koid = self.next;
         self.vmos.insert(0, koid, count);
         self.next = koid + 1;
-        Ok(Koid(koid))
+        Koid(koid)
     }
 
     // Gives a page that is zero a frame.
     fn own_zero(&mut self, v: Koid, page: PageNo) -> Tag
         requires zero { (flat_content self.old).page v.0 page ≡ None }
         requires page { page < pages_of (flat_content self.old) v.0 }
-        requires room { 1 ≤ flat_room self.old }
+        requires room { 1 ≤ flat_spare self.old }
         requires frame { used (flat_content self.old) < (flat_content self.old).frames }
         ensures owns { Owns (flat_content self.old) (flat_content self.new) v.0 page result.0 }
-        ensures room { flat_room self.old ≤ flat_room self.new + 1 }
+        ensures spare { flat_spare self.new + 1 ≡ flat_spare self.old }
     {
         let tag = take_zeros(&mut self.pool);
         self.rows.insert(v.0, page, tag);
-        self.shares[tag.0 as usize] = 1;
+        self.viewers.insert(tag.0 as u64, v.0, page);
+        self.room -= 1;
         tag
     }
 
@@ -105,17 +178,54 @@ impl FlatStore {
         requires room { (sole (flat_content self.old) v.0 page ≡ true)
             ⊎ (used (flat_content self.old) < (flat_content self.old).frames) }
         ensures owns { Owns (flat_content self.old) (flat_content self.new) v.0 page result.0 }
-        ensures room { flat_room self.new ≡ flat_room self.old }
+        ensures spare { flat_spare self.new ≡ flat_spare self.old }
     {
-        let viewers = self.shares[shown.0 as usize];
-        if viewers == 1 {
+        // The koid of a VMO is below the next.
+        let _next = self.next;
+        if is_alone(&self.viewers, shown, v) {
             return shown;
         }
         let tag = take_copy(&mut self.pool, shown);
-        self.shares[shown.0 as usize] = viewers - 1;
-        self.shares[tag.0 as usize] = 1;
         self.rows.replace(v.0, page, tag);
+        self.viewers.remove(shown.0 as u64, v.0);
+        self.viewers.insert(tag.0 as u64, v.0, page);
         tag
+    }
+
+    // Lets a page of a VMO that shows no such frame show a frame that another VMO shows.
+    fn show_page(&mut self, v: Koid, page: PageNo, tag: Tag)
+        requires zero { (flat_content self.old).page v.0 page ≡ None }
+        requires shown { (w : ℕ) × (p : ℕ) × (values_of self.old.rows w p ≡ Some tag) }
+        requires good { IsGood (hold (flat_content self.old) v.0 page (page_with_tag self.old.pool tag)) }
+        requires room { 1 ≤ flat_spare self.old }
+        ensures content { flat_content self.new ≡ hold (flat_content self.old) v.0 page (page_with_tag self.old.pool tag) }
+        ensures spare { flat_spare self.new + 1 ≡ flat_spare self.old }
+    {
+        self.rows.insert(v.0, page, tag);
+        self.viewers.insert(tag.0 as u64, v.0, page);
+        self.room -= 1;
+    }
+
+    // Makes a page zero that is held. Its frame is free then, unless another VMO shows it.
+    fn release_page(&mut self, v: Koid, page: PageNo)
+        requires { IsSome (values_of self.old.rows v.0 page) }
+        ensures content { flat_content self.new ≡ zeroed (flat_content self.old) v.0 page (page + 1) }
+        ensures fewer { count_of self.new.rows + 1 ≡ count_of self.old.rows }
+        ensures spare { flat_spare self.new ≡ flat_spare self.old }
+    {
+        let tag = self.rows.remove(v.0, page);
+        self.viewers.remove(tag.0 as u64, v.0);
+        give_back_unshown(&mut self.pool, &self.viewers, tag);
+    }
+
+    // Makes the pages of a VMO zero from `first` to below `end`.
+    fn release_pages(&mut self, v: Koid, first: PageNo, end: PageNo)
+        ensures content { flat_content self.new ≡ zeroed (flat_content self.old) v.0 first end }
+        ensures spare { flat_spare self.new ≡ flat_spare self.old }
+    {
+        while let Some((page, _)) = self.held_below(v, first, end) {
+            self.release_page(v, page);
+        }
     }
 
     // The first page of a VMO that is held, from page `from` to below `end`, and its frame.
@@ -144,100 +254,37 @@ impl FlatStore {
         held
     }
 
-    // Whether some page of a VMO has a frame.
-    fn shows(&self, v: Koid, tag: Tag) -> bool
-        requires { IsGood (flat_content self.now) }
-        ensures { result ≡ views (flat_content self.now) tag.0 v.0 }
+    // How many VMOs show a frame.
+    fn count_viewers(&self, tag: Tag) -> u64
+        ensures { result ≡ viewers (flat_content self.now) tag.0 }
     {
+        // The koid of a VMO is below the next.
+        let _next = self.next;
+        let mut count = 0;
         let mut from = 0;
-        while let Some((page, shown)) = self.held_below(v, from, VMO_PAGES) {
-            if shown == tag {
-                return true;
-            }
-            from = page + 1;
+        while let Some((koid, _)) = self.viewers.next(tag.0 as u64, from) {
+            count += 1;
+            from = koid + 1;
         }
-        false
-    }
-
-    // Lets a page that is zero show a frame that some other VMO shows.
-    fn show_page(&mut self, v: Koid, page: PageNo, tag: Tag)
-        requires zero { (flat_content self.old).page v.0 page ≡ None }
-        requires shown { IsShown (flat_content self.old) tag.0 }
-        requires good { IsGood (hold (flat_content self.old) v.0 page (page_with self.old.pool tag)) }
-        requires room { 1 ≤ spare_of self.old.rows }
-        ensures content { flat_content self.new ≡ hold (flat_content self.old) v.0 page (page_with self.old.pool tag) }
-        ensures room { spare_of self.new.rows + 1 ≡ spare_of self.old.rows }
-        ensures asked { self.new.asked ≡ self.old.asked }
-    {
-        // No more VMOs show a frame than there are koids.
-        let _koids = self.next;
-        self.rows.insert(v.0, page, tag);
-        self.shares[tag.0 as usize] += 1;
-    }
-
-    // Lets a VMO with no held page show those of another one from `first` to below `end`, counted from `first`.
-    fn show_pages(&mut self, v: Koid, of: Koid, first: PageNo, end: PageNo)
-        requires order { first ≤ end }
-        requires apart { of.0 ≢ v.0 }
-        requires zero { (p : ℕ) → (flat_content self.old).page v.0 p ≡ None }
-        requires good { IsGood (showing (flat_content self.old) of.0 first (end - first) v.0) }
-        requires room { held_from (flat_content self.old) of.0 first (end - first) ≤ spare_of self.old.rows }
-        ensures content { flat_content self.new ≡ showing (flat_content self.old) of.0 first (end - first) v.0 }
-        ensures room { spare_of self.old.rows
-            ≤ spare_of self.new.rows + held_from (flat_content self.old) of.0 first (end - first) }
-        ensures asked { self.new.asked ≡ self.old.asked }
-    {
-        let mut from = first;
-        while let Some((page, tag)) = self.held_below(of, from, end) {
-            self.show_page(v, page - first, tag);
-            from = page + 1;
-        }
-    }
-
-    // Makes a page zero that is held. Its frame is free then, unless another VMO shows it.
-    fn release_page(&mut self, v: Koid, page: PageNo)
-        requires { IsSome (values_of self.old.rows v.0 page) }
-        ensures content { flat_content self.new ≡ zeroed (flat_content self.old) v.0 page (page + 1) }
-        ensures room { flat_room self.old ≤ flat_room self.new }
-    {
-        let tag = self.rows.remove(v.0, page);
-        let viewers = self.shares[tag.0 as usize] - 1;
-        self.shares[tag.0 as usize] = viewers;
-        give_back_unshown(&mut self.pool, tag, viewers);
-    }
-
-    // Makes the pages of a VMO zero from `first` to below `end`.
-    fn release_pages(&mut self, v: Koid, first: PageNo, end: PageNo)
-        ensures content { flat_content self.new ≡ zeroed (flat_content self.old) v.0 first end }
-        ensures room { flat_room self.old ≤ flat_room self.new }
-    {
-        let mut from = first;
-        while let Some((page, _)) = self.held_below(v, from, end) {
-            self.release_page(v, page);
-            from = page + 1;
-        }
+        count
     }
 }
 
 impl PageStore for FlatStore {
     ghost content = { flat_content };
 
-    ghost spare = { flat_room };
+    ghost spare = { flat_spare };
 
     fn fill(&mut self, frames: u32) -> Result<(), HostMemory> {
-        let Ok(()) = self.shares.reserve_exact(frames as usize) else {
-            return Err(HostMemory);
-        };
         let Ok(()) = self.pool.fill(frames) else {
             return Err(HostMemory);
         };
-        // The room for the counts is there.
-        let _ = self.shares.resize(frames as usize, 0);
         Ok(())
     }
 
     fn create(&mut self, count: PageNo) -> Result<Koid, HostMemory> {
-        self.add_vmo(count)
+        self.reserve_vmo()?;
+        Ok(self.add_vmo(count))
     }
 
     fn snapshot(
@@ -247,43 +294,40 @@ impl PageStore for FlatStore {
         seen: PageNo,
         count: PageNo,
     ) -> Result<Koid, HostMemory> {
-        let koid = Koid(self.next);
+        // All memory is taken before anything is changed. The room that was there stays.
+        let room = self.room;
         let end = first + seen;
-        // All memory is taken before anything is changed. The room that was asked for stays.
         let held = self.count_held(of, first, end);
-        let Some(room) = self.asked.checked_add(held) else {
+        let Some(rows) = room.checked_add(held) else {
             return Err(HostMemory);
         };
-        let Ok(()) = self.rows.reserve(room as usize) else {
-            return Err(HostMemory);
-        };
-        let Ok(_) = self.add_vmo(count) else {
-            return Err(HostMemory);
-        };
-        self.show_pages(koid, of, first, end);
+        self.reserve_vmo()?;
+        self.reserve_rows(rows)?;
+        let koid = self.add_vmo(count);
+        let mut from = first;
+        while let Some((page, tag)) = self.held_below(of, from, end) {
+            self.show_page(koid, page - first, tag);
+            from = page + 1;
+        }
         Ok(koid)
     }
 
     fn reserve(&mut self, n: u64) -> Result<(), HostMemory> {
-        let Ok(()) = self.rows.reserve(n as usize) else {
-            return Err(HostMemory);
-        };
-        self.asked = self.asked.max(n);
-        Ok(())
+        self.reserve_rows(n)
     }
 
     fn look(&self, v: Koid, page: PageNo) -> Look {
-        match self.rows.find(v.0, page) {
+        match self.frame_at(v, page) {
             Some(tag) => Look::Held {
                 tag,
-                sole: self.shares[tag.0 as usize] == 1,
+                sole: self.is_sole(v, page),
             },
             None => Look::Zero,
         }
     }
 
     fn frame(&self, v: Koid, page: PageNo) -> Option<Tag> {
-        self.rows.find(v.0, page)
+        self.frame_at(v, page)
     }
 
     fn own(&mut self, v: Koid, page: PageNo) -> Tag {
@@ -335,16 +379,10 @@ impl PageStore for FlatStore {
     }
 
     fn least_viewer(&self, tag: Tag) -> Koid {
-        // The koids are below the next.
-        let _koids = self.next;
-        let mut from = 0;
-        while let Some((koid, _)) = self.vmos.next(0, from) {
-            if self.shows(Koid(koid), tag) {
-                return Koid(koid);
-            }
-            from = koid + 1;
+        match self.viewers.next(tag.0 as u64, 0) {
+            Some((koid, _)) => Koid(koid),
+            None => unreachable!(),
         }
-        unreachable!()
     }
 
     fn lesser_viewer(&self, tag: Tag, v: Koid) -> Option<Koid> {
@@ -353,8 +391,8 @@ impl PageStore for FlatStore {
     }
 
     fn viewers(&self, v: Koid, page: PageNo) -> u64 {
-        match self.rows.find(v.0, page) {
-            Some(tag) => self.shares[tag.0 as usize],
+        match self.frame_at(v, page) {
+            Some(tag) => self.count_viewers(tag),
             None => 0,
         }
     }
@@ -373,36 +411,5 @@ impl PageStore for FlatStore {
 
     fn next_koid(&self) -> Koid {
         Koid(self.next)
-    }
-}
-
-/// Takes a free frame, of which there is one. Its bytes are zeros.
-fn take_zeros(pool: &mut FramePool) -> Tag
-    requires { taken_count pool.old < pool.old.frames }
-    ensures frames { pool.new.frames ≡ pool.old.frames }
-    ensures takes { Takes pool.old pool.new result.0 zeros }
-{
-    pool.take().unwrap()
-}
-
-/// Takes a free frame, of which there is one. Its bytes are those of a frame that is taken.
-fn take_copy(pool: &mut FramePool, from: Tag) -> Tag
-    requires free { taken_count pool.old < pool.old.frames }
-    requires from { IsSome (taken_frames pool.old from.0) }
-    ensures frames { pool.new.frames ≡ pool.old.frames }
-    ensures takes { Takes pool.old pool.new result.0 (frame_bytes pool.old from.0) }
-{
-    pool.take_copy(from).unwrap()
-}
-
-/// Gives a taken frame back if no VMO shows it.
-fn give_back_unshown(pool: &mut FramePool, tag: Tag, viewers: u64)
-    requires { IsSome (taken_frames pool.old tag.0) }
-    ensures frames { pool.new.frames ≡ pool.old.frames }
-    ensures taken { (t : ℕ) → taken_frames pool.new t
-        ≡ (if (t == tag.0) && (viewers == 0) then None else taken_frames pool.old t) }
-{
-    if viewers == 0 {
-        pool.give_back(tag);
     }
 }

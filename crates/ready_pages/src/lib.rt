@@ -2,7 +2,7 @@
 //! checker keeps notes under stamps. `ReadyPages` has what both do: they take back what a command made untrue, and read and
 //! write through mappings.
 //!
-//! It stands on `pages`, whose VMOs are shown, on `pin_table`, since a snapshot leaves pinned pages as they are, and on
+//! It stands on `page_store`, whose VMOs are shown, on `pin_table`, since a snapshot leaves pinned pages as they are, and on
 //! `mapping_set`, whose entries say what each page shows. It speaks the words of `vm_model` on accesses and readiness.
 #![tactic(auto)]
 

@@ -12,7 +12,7 @@ ghost use Rattle.ready_pages.specs.Changes.{Entries, AreReadyAt, Covers, IsBound
 
 use crate::change::Change;
 use mapping_set::MappingSet;
-use pages::Pages;
+use page_store::PageStore;
 use pin_table::PinTable;
 use vm_base::{Refusal, RegionName};
 use vm_model::LentBytes;
@@ -27,7 +27,7 @@ pub trait ReadyNotes: Drop {
 }
 
 /// Notes of which pages are ready for an access to what these pages hold.
-pub trait ReadyPages<P: Pages>: ReadyNotes {
+pub trait ReadyPages<P: PageStore>: ReadyNotes {
     /// Takes back what a command made untrue, once the command is done (the kernel's `RangeChangeUpdate`).
     fn apply(&mut self, pages: &P, pins: &PinTable, change: Change)
         requires bounded { IsBounded (P.content pages.now) change }

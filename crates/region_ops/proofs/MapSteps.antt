@@ -30,7 +30,7 @@ use Rattle.vm_model.proofs.MappingLaws.{IsMappedRightly, mismapped_parts, mispla
 use Rattle.vm_model.proofs.NamesLaws.{target_of-at}
 use Rattle.vm_model.proofs.RegionLaws.{region_of-at, region_bounds, reaches_over_parts}
 use Rattle.vm_model.proofs.StepLaws.{AllOff-from_none, Step-done, Step-lacks}
-use Rattle.pages.proofs.NameLaws.{IsInside-good, name_few}
+use Rattle.page_store.proofs.NameLaws.{IsInside-good, name_few}
 use Rattle.region_tree.specs.Tree.{spaces_of}
 use Rattle.vmo_table.specs.Table.{Vmos, names_of}
 use Rattle.vm_model.specs.Contents.Content.{Content}

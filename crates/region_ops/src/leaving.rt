@@ -9,13 +9,13 @@ ghost use Rattle.region_ops.specs.Spaces.{without_entries, AreWell, LetsGo};
 ghost use Rattle.region_ops.specs.inside.Leaving.{IsTaken};
 
 use mapping_set::{MappingSet, Piece};
-use pages::{Pages, drop_gone};
+use page_store::{PageStore, drop_gone};
 use vm_base::{PageNo, RegionName};
 use vmo_table::VmoTable;
 
 /// Takes the entries of `count` pages from `first` on out of an address space. If there is room for two pieces more,
 /// it wants no memory.
-pub(crate) fn clear_range<P: Pages>(
+pub(crate) fn clear_range<P: PageStore>(
     store: &mut P,
     vmos: &mut VmoTable,
     maps: &mut MappingSet,
@@ -37,7 +37,7 @@ pub(crate) fn clear_range<P: Pages>(
 }
 
 /// Takes the entries that belong to a region out of an address space. It wants no memory.
-pub(crate) fn clear_region<P: Pages>(
+pub(crate) fn clear_region<P: PageStore>(
     store: &mut P,
     vmos: &mut VmoTable,
     maps: &mut MappingSet,
@@ -56,7 +56,7 @@ pub(crate) fn clear_region<P: Pages>(
 }
 
 /// Takes away the keepers that the entries of a piece were. The piece is taken out.
-fn let_go<P: Pages>(store: &mut P, vmos: &mut VmoTable, piece: Piece)
+fn let_go<P: PageStore>(store: &mut P, vmos: &mut VmoTable, piece: Piece)
     requires taken { IsTaken (P.content store.old) vmos.old piece }
     ensures gone { (table : ℕ → ℕ → Option Entry) (root : ℕ) → IsPieceOf (table root) piece →
         LetsGo (P.content store.old) vmos.old table

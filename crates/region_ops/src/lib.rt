@@ -2,7 +2,7 @@
 //! one (`map`), the pages of a range are unmapped (`unmap`), what accesses to them may do is changed (`protect`), and a
 //! region is destroyed with all below it (`destroy`).
 //!
-//! It stands on `region_tree` and `mapping_set`, and on `vmo_table` and any `Pages`: each entry keeps its VMO, which
+//! It stands on `region_tree` and `mapping_set`, and on `vmo_table` and any `PageStore`: each entry keeps its VMO, which
 //! leaves with the last that keeps it. Each call promises that it is the step of its command (`vm_model`), whatever else
 //! the state has. The layer above has looked the names up, so that a call begins with the refusals that rest on regions
 //! and arguments. `unmap`, `protect` and `destroy` have one that is handed the region that was found: the machines call

@@ -16,7 +16,7 @@ ghost use Rattle.vm_model.specs.Machine.Step.{reply_of};
 ghost use Rattle.vmo_table.specs.Table.{names_of, IsNamed};
 ghost use Rattle.mapping_set.specs.Tables.{table_of, mapping_spare, places_of, IsBare};
 ghost use Rattle.region_tree.specs.Tree.{regions_of, is_live_region, spaces_of, AreNoted, IsVacant};
-ghost use Rattle.pages.specs.Names.{IsInside};
+ghost use Rattle.page_store.specs.Names.{IsInside};
 ghost use Rattle.region_ops.specs.Spaces.{AreWell, AreAllWell, Does, LetsGo, HasNoPlace, IsRefusalBy};
 ghost use Rattle.region_ops.specs.inside.Mapping.{map_rows, no_entries, IsPuttable, Puts};
 
@@ -27,7 +27,7 @@ use crate::placing::{
 use crate::ranges::{PageRange, lacks_reading};
 use bitflags::Flags;
 use mapping_set::{Entry, MappingSet, Piece};
-use pages::{Pages, pages_of_name};
+use page_store::{PageStore, pages_of_name};
 use region_tree::{Region, Regions};
 use vm_base::{
     HostMemory, MapFlags, PAGE, PageNo, Perm, Refusal, RegionName, VMO_PAGES, VmoName, in_page,
@@ -93,7 +93,7 @@ impl MapRequest<VmoName> {
 /// - `AlreadyExists` if the place at the offset is not free;
 /// - `NoResources` if no free place fits;
 /// - `HostMemory`.
-pub fn map<P: Pages>(
+pub fn map<P: PageStore>(
     store: &mut P,
     vmos: &mut VmoTable,
     regions: &Regions,
@@ -132,7 +132,7 @@ pub fn map<P: Pages>(
 
 /// Does what `map` does, in the live region that is asked for. What is noted in the regions stays as it is, if the set of
 /// mappings has noted the live children of each region.
-pub fn map_in<P: Pages>(
+pub fn map_in<P: PageStore>(
     store: &mut P,
     vmos: &mut VmoTable,
     regions: &Regions,
@@ -167,7 +167,7 @@ pub fn map_in<P: Pages>(
 
 /// Finds the first page of a place for a mapping in the live region that is asked for. Refusals as for `map`, without
 /// `HostMemory`. Nothing changes.
-pub fn ask_to_map<P: Pages>(
+pub fn ask_to_map<P: PageStore>(
     store: &P,
     regions: &Regions,
     maps: &MappingSet,
@@ -383,7 +383,7 @@ fn without_writing(caps: Perm) -> Perm
 
 /// Puts a mapping at its place, and counts its pages as keepers of its VMO. With `overwriting`, what is mapped there is
 /// taken out. `HostMemory`, with nothing changed, if the host has too little memory.
-pub fn map_at<P: Pages>(
+pub fn map_at<P: PageStore>(
     store: &mut P,
     vmos: &mut VmoTable,
     maps: &mut MappingSet,
@@ -409,7 +409,7 @@ pub fn map_at<P: Pages>(
 }
 
 /// Puts a mapping at its place. There is room for it.
-fn put<P: Pages>(
+fn put<P: PageStore>(
     store: &mut P,
     vmos: &mut VmoTable,
     maps: &mut MappingSet,
@@ -435,7 +435,7 @@ fn put<P: Pages>(
 }
 
 /// Takes out what is mapped on the pages of a place that is overwritten. At any other place nothing is mapped.
-fn clear_place<P: Pages>(
+fn clear_place<P: PageStore>(
     store: &mut P,
     vmos: &mut VmoTable,
     maps: &mut MappingSet,

@@ -19,7 +19,7 @@ use crate::leaving::{clear_range, clear_region};
 use crate::placing::live_region;
 use crate::ranges::{PageRange, RegionRange, is_outside, pages_at};
 use mapping_set::MappingSet;
-use pages::Pages;
+use page_store::PageStore;
 use region_tree::{Region, Regions};
 use vm_base::{HostMemory, PageNo, Refusal, RegionName};
 use vmo_table::VmoTable;
@@ -31,7 +31,7 @@ use vmo_table::VmoTable;
 /// - `InvalidArgs` if the address is not at a page, `len` is 0, the range passes an end of the region, or a live child
 ///   of the region has a page in the range and one outside;
 /// - `HostMemory`, only if a page of the range is mapped.
-pub fn unmap<P: Pages>(
+pub fn unmap<P: PageStore>(
     store: &mut P,
     vmos: &mut VmoTable,
     regions: &mut Regions,
@@ -53,7 +53,7 @@ pub fn unmap<P: Pages>(
 
 /// Does what `unmap` does, in the live region of the range, which is `above`. If the live children of each region are noted, they are
 /// noted afterwards too.
-pub fn unmap_in<P: Pages>(
+pub fn unmap_in<P: PageStore>(
     store: &mut P,
     vmos: &mut VmoTable,
     regions: &mut Regions,
@@ -111,7 +111,7 @@ pub fn ask_to_unmap(
 
 /// Destroys a live region and all below it, with their mappings (`zx_vmar_destroy`). A VMO that nothing keeps any more
 /// leaves. The call never wants memory.
-pub fn destroy<P: Pages>(
+pub fn destroy<P: PageStore>(
     store: &mut P,
     vmos: &mut VmoTable,
     regions: &mut Regions,
@@ -130,7 +130,7 @@ pub fn destroy<P: Pages>(
 
 /// Does what `destroy` does, to a live region, which is `dying`. If the live children of each region are noted, they
 /// are noted afterwards too: the notes of those that die are taken back.
-pub fn destroy_in<P: Pages>(
+pub fn destroy_in<P: PageStore>(
     store: &mut P,
     vmos: &mut VmoTable,
     regions: &mut Regions,
@@ -160,7 +160,7 @@ pub fn destroy_in<P: Pages>(
 
 /// Takes the entries of `count` pages from `first` on out of an address space. `HostMemory` if the host has too little
 /// memory, and only if there is such an entry.
-fn clear_mapped<P: Pages>(
+fn clear_mapped<P: PageStore>(
     store: &mut P,
     vmos: &mut VmoTable,
     maps: &mut MappingSet,

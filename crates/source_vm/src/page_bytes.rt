@@ -14,10 +14,9 @@ ghost use Rattle.source_vm.specs.Table.{backings_of, loose_links_of};
 use crate::source_fn::SourceFn;
 use crate::table::SourceTable;
 use crate::walk::{FoundPage, Place, find_end, is_sourced};
-use page_store::PageStore;
+use page_store::{PageStore, write_page};
 use source_model::Backing;
 use vm_base::{Koid, PAGE, PAGE_BYTES, PageNo, SOURCE_BYTES, SOURCE_PAGES};
-use vmo_ops::write_part;
 
 /// Returns the function of a kind, of the three.
 fn function_of(functions: &[SourceFn; 3], kind: u8) -> &SourceFn
@@ -160,12 +159,12 @@ pub(crate) fn fill_page<P: PageStore>(
 {
     let place = found.place;
     match found.frame {
-        Some(_) => write_part(store, place.koid, place.page, at, bytes),
+        Some(_) => write_page(store, place.koid, place.page, at, bytes),
         None => {
             let mut whole = [0; PAGE_BYTES];
             load_text(store, table, functions, found, &mut whole);
             patch(&mut whole, at, bytes);
-            write_part(store, place.koid, place.page, 0, &whole);
+            write_page(store, place.koid, place.page, 0, &whole);
         }
     }
 }

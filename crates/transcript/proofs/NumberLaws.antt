@@ -3,7 +3,7 @@ use Rattle.std.proofs.Common.{◌≡◌, ◌≢◌, ℕ, zero, suc, ◌<◌, Boo
 use Rattle.std.specs.Prelude.{nat_lt}
 use Rattle.std.specs.List.{AllByRecursion}
 use Rattle.std.proofs.lemmas.Bool.{cases_eq, cond-true, cond-false, and_parts, false_from_ne_true, lt-ltb, ltb-true}
-use Rattle.std.proofs.lemmas.List.{get_or-set_same, get_or_read, length-set}
+use Rattle.std.proofs.lemmas.List.{get_or-set_same, length-set}
 use Rattle.vm_base.specs.Entries.{with_key, without_key, passes}
 use Rattle.vm_base.proofs.EntryLaws.{some_same, passes_found, passes-some}
 use Rattle.vm_base.proofs.SearchLaws.{any_below_found, any_below_at, eqb_is, eqb_same, eqb_apart}

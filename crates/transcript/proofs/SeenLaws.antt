@@ -1,5 +1,5 @@
 -- Laws of the numbers that were seen, once pages may be pinned no more.
-use Rattle.std.proofs.Common.{◌≡◌, ◌≢◌, ℕ, ◌+◌, ◌-◌, ◌<◌, ◌≤◌, Bool, true, false, ltb, ◌||◌, ◌==◌, List, [], ◌∷◌, ◌++◌, length, Option, None, Some, ◌⊎◌, refl, sym, ap, subst, ◌∙◌, inl, inr, arith}
+use Rattle.std.proofs.Common.{◌≡◌, ◌≢◌, ℕ, ◌+◌, ◌-◌, ◌<◌, ◌≤◌, Bool, true, false, ltb, ◌||◌, ◌==◌, List, [], ◌∷◌, length, Option, None, Some, ◌⊎◌, refl, sym, ap, subst, ◌∙◌, inl, inr, arith}
 use Rattle.std.specs.List.{AllByRecursion, list_any}
 use Rattle.std.specs.Option.{option_map}
 use Rattle.std.proofs.lemmas.Bool.{cases_Bool, cases_eq, cases_lt, cond-true, cond-false, ltb-true, ltb-false, lt-ltb, le-ltb}
@@ -7,7 +7,7 @@ use Rattle.vm_base.specs.declared.limits.TheConstants.{NAMES, PIN_PAGES}
 use Rattle.vm_base.specs.declared.names.PinName.{PinName}
 use Rattle.vm_base.specs.declared.refusal.Refusal.{Refusal}
 use Rattle.vm_base.proofs.EntryLaws.{some_same, any_entry_found, any_entry_at, without_key-other, without_key-some}
-use Rattle.vm_base.proofs.SearchLaws.{eqb_is, eqb_same}
+use Rattle.vm_base.proofs.SearchLaws.{eqb_is}
 use Rattle.vm_base.specs.Entries.{without_key}
 use Rattle.vm_model.specs.declared.call.Call.{Call}
 use Rattle.vm_model.specs.Machine.Lent.{command_of}

@@ -1,11 +1,8 @@
 -- What holds of a machine whose translations are true.
-use Rattle.std.proofs.Common.{Option, ◌∙◌}
-use Rattle.std.specs.Option.{option_map}
+use Rattle.std.proofs.Common.{◌∙◌}
 use Rattle.vm_model.specs.Contents.Content.{Content}
-use Rattle.vm_model.specs.declared.space.Readiness.{Readiness}
 use Rattle.vm_model.specs.Machine.State.{State, IsGoodState}
 use Rattle.vm_model.specs.Machine.Machine.{Machine, IsGoodMachine}
-use Rattle.fault.specs.declared.translation.Translation.{Translation}
 use Rattle.fault.specs.Table.{Places, translations_of, ready_of, AreTrue}
 use Rattle.fault.proofs.WrittenLaws.{ready_of-some}
 use Rattle.machine.specs.Machine.{state_of}

@@ -3,8 +3,8 @@ use Rattle.std.specs.Prelude.{IsSome}
 use Rattle.vm_model.specs.Contents.Content.{Content}
 use Rattle.vm_model.specs.declared.names.Target.{Target}
 use Rattle.vm_model.specs.Machine.State.{State, IsGoodState}
-use Rattle.pages.proofs.NameLaws.{IsInside-good}
-use Rattle.pages.specs.Names.{IsInside}
+use Rattle.page_store.proofs.NameLaws.{IsInside-good}
+use Rattle.page_store.specs.Names.{IsInside}
 use Rattle.vmo_table.specs.Table.{Vmos, names_of, with_vmos, IsNamed, AreParts}
 
 -- and lies inside its VMO

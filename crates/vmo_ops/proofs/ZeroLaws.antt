@@ -23,8 +23,8 @@ use Rattle.vm_model.proofs.PinLaws.{any_pinned_at, none_pinned}
 use Rattle.vm_model.proofs.ZeroingLaws.{page-zeroed_out}
 use Rattle.vm_model.proofs.ZeroesLaws.{ZeroedPage, ZeroedPage-from_ZeroesPage}
 use Rattle.vmo_ops.proofs.ModelLaws.{count_from-next, count_from-split, zeroed-empty, zeroed-more, Zeroes-none, need-zero}
-use Rattle.pages.specs.Held.{held_from}
-use Rattle.pages.proofs.HeldLaws.{held-count}
+use Rattle.page_store.specs.Held.{held_from}
+use Rattle.page_store.proofs.HeldLaws.{held-count}
 use Rattle.vmo_ops.specs.declared.owning.TheConstants.{UNSEEN_PAGES}
 use Rattle.vmo_ops.specs.Costs.{held_touched, AsksToZero}
 use Rattle.vm_model.specs.Contents.Writing.{part_at}

@@ -10,18 +10,18 @@ ghost use Rattle.vm_model.specs.Contents.Content.{Content, IsGood};
 ghost use Rattle.vm_model.specs.Naming.Names.{is_kind};
 ghost use Rattle.vm_model.specs.Machine.State.{State, name_pages};
 ghost use Rattle.vm_model.specs.Machine.Step.{Step, slice_of, reference_of, reply_of};
-ghost use Rattle.pages.specs.Names.{IsInside};
+ghost use Rattle.page_store.specs.Names.{IsInside};
 ghost use Rattle.vmo_table.specs.Table.{names_of, lineage_in, keepers_of, with_vmos, AreParts, IsNamed};
 ghost use Rattle.vmo_ops.specs.Targets.{IsRefusalOfChild};
 
 use crate::requests::ChildShape;
-use pages::{Pages, size_of_name};
+use page_store::{PageStore, size_of_name};
 use vm_base::{Koid, PAGE, PageNo, Refusal, VmoName, in_page, page_of, round_up};
 use vmo_table::{NameKind, Target, VmoTable};
 
 /// Lets a name stand for a part of what `t` stands for: the bytes that are asked for, rounded up to whole pages. The new
 /// name is another name of the same pages, and may not resize the VMO.
-pub(crate) fn slice<P: Pages>(
+pub(crate) fn slice<P: PageStore>(
     store: &P,
     vmos: &mut VmoTable,
     name: VmoName,
@@ -55,7 +55,7 @@ pub(crate) fn slice<P: Pages>(
 /// Finds the page count of a slice that is to be made of what `t` stands for. `InvalidArgs` if it is to be resizable, if
 /// `offset` is not a multiple of the page size, or if it passes the name's end, else `NotSupported` if the VMO is resizable.
 /// Nothing changes.
-pub fn ask_to_slice<P: Pages>(
+pub fn ask_to_slice<P: PageStore>(
     store: &P,
     vmos: &VmoTable,
     t: &Target,
@@ -84,7 +84,7 @@ pub fn ask_to_slice<P: Pages>(
 }
 
 // The page count of `bytes` bytes, if `offset` is a whole number of pages and the bytes end inside the name.
-fn pages_inside<P: Pages>(store: &P, t: &Target, offset: u64, bytes: u64) -> Option<PageNo>
+fn pages_inside<P: PageStore>(store: &P, t: &Target, offset: u64, bytes: u64) -> Option<PageNo>
     requires good { IsGood (P.content store.now) }
     requires inside { IsInside (P.content store.now) t.now }
     ensures some { IfSome result (λ pages. (offset % PAGE ≡ 0) × (pages ≡ rounded bytes / PAGE)

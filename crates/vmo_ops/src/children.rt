@@ -13,7 +13,7 @@ ghost use Rattle.vmo_ops.specs.Targets.{AreTogether, with_tables, koid_given};
 use crate::aliases::{reference, slice};
 use crate::requests::ChildShape;
 use crate::snapshots::snapshot;
-use pages::Pages;
+use page_store::PageStore;
 use pin_table::PinTable;
 use vm_base::{Koid, Refusal, VmoName};
 use vm_model::ChildKind;
@@ -31,7 +31,7 @@ use vmo_table::{Target, VmoTable};
 /// - `OutOfRange` where `offset` and the rounded size of a snapshot are over 2^48 bytes together;
 /// - `NoMemory` for a snapshot where the pinned pages that it copies are more than the free frames;
 /// - `HostMemory`.
-pub fn create_child<P: Pages>(
+pub fn create_child<P: PageStore>(
     store: &mut P,
     vmos: &mut VmoTable,
     pins: &PinTable,

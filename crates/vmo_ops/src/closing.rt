@@ -7,13 +7,13 @@ ghost use Rattle.vm_model.specs.Machine.State.{State};
 ghost use Rattle.vm_model.specs.Machine.Step.{Step};
 ghost use Rattle.vmo_table.specs.Table.{names_of, keepers_of, with_vmos, IsWellCounted};
 
-use pages::{Pages, drop_gone};
+use page_store::{PageStore, drop_gone};
 use vm_base::VmoName;
 use vmo_table::VmoTable;
 
 /// Closes a name that is open (`zx_handle_close`). If nothing keeps its VMO any more, the VMO leaves with its pages,
 /// and its children get its parent. The call never wants memory.
-pub fn close<P: Pages>(store: &mut P, vmos: &mut VmoTable, name: VmoName)
+pub fn close<P: PageStore>(store: &mut P, vmos: &mut VmoTable, name: VmoName)
     requires parts { (s : State) × IsWellCounted vmos.old (with_vmos s (P.content store.old) vmos.old) }
     requires named { IsSome (names_of vmos.old name.0) }
     ensures step { (s : State) → IsWellCounted vmos.old (with_vmos s (P.content store.old) vmos.old) →

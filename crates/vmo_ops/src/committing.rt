@@ -6,14 +6,14 @@ ghost use Rattle.vm_model.specs.declared.reply.Reply.{Reply};
 ghost use Rattle.vm_model.specs.Contents.Content.{pages_of, used, IsGood};
 ghost use Rattle.vm_model.specs.Contents.Owning.{need, OwnsAll};
 ghost use Rattle.vm_model.specs.Machine.Step.{reply_of};
-ghost use Rattle.pages.specs.Names.{IsInside};
+ghost use Rattle.page_store.specs.Names.{IsInside};
 ghost use Rattle.vmo_ops.specs.Costs.{HasRows};
 ghost use Rattle.vmo_ops.specs.Ranges.{touched_row, AreTouched};
 ghost use Rattle.vmo_ops.specs.Targets.{DoesByName};
 
 use crate::ranges::TouchedPages;
 use crate::ready::ready_to_own;
-use pages::Pages;
+use page_store::PageStore;
 use vm_base::{Koid, PAGE, Refusal};
 use vmo_table::Target;
 
@@ -24,7 +24,7 @@ use vmo_table::Target;
 /// - `OutOfRange` if the range passes the name's end;
 /// - `NoMemory` if the pages that are not sole are more than the free frames;
 /// - `HostMemory`, only if some of these pages is not sole.
-pub fn commit<P: Pages>(store: &mut P, t: &Target, offset: u64, len: u64) -> Result<(), Refusal>
+pub fn commit<P: PageStore>(store: &mut P, t: &Target, offset: u64, len: u64) -> Result<(), Refusal>
     requires good { IsGood (P.content store.old) }
     requires inside { IsInside (P.content store.old) t.now }
     ensures { DoesByName (λ name. Command.VmoCommit name offset len) t.now (P.content store.old)
@@ -38,7 +38,7 @@ pub fn commit<P: Pages>(store: &mut P, t: &Target, offset: u64, len: u64) -> Res
 
 /// Does what `commit` does, and answers the pages of the VMO that the range touches.
 #[inline(always)]
-pub fn commit_touching<P: Pages>(
+pub fn commit_touching<P: PageStore>(
     store: &mut P,
     t: &Target,
     offset: u64,
@@ -59,7 +59,7 @@ pub fn commit_touching<P: Pages>(
 }
 
 // Owns pages of a VMO. There is room for it.
-fn own_pages<P: Pages>(store: &mut P, v: Koid, pages: TouchedPages)
+fn own_pages<P: PageStore>(store: &mut P, v: Koid, pages: TouchedPages)
     requires good { IsGood (P.content store.old) }
     requires order { pages.first ≤ pages.end }
     requires inside { pages.end ≤ pages_of (P.content store.old) v.0 }

@@ -10,7 +10,7 @@ ghost use Rattle.vm_model.specs.Naming.Pins.{is_pinned};
 ghost use Rattle.pin_table.specs.Table.{pins_of};
 ghost use Rattle.vmo_ops.specs.inside.Copies.{is_copy, copies_of};
 
-use pages::Pages;
+use page_store::PageStore;
 use pin_table::PinTable;
 use vm_base::{Koid, PageNo, VMO_PAGES};
 
@@ -54,7 +54,7 @@ pub fn count_copies(pins: &PinTable, of: Koid, first: PageNo, seen: PageNo) -> u
 
 /// Owns the pages of a snapshot that are copies of pinned pages, in ascending order. There are room and free frames for
 /// all of them. The snapshot sees `seen` pages of `of` from the page `first` of `of` on.
-pub(crate) fn own_copies<P: Pages>(
+pub(crate) fn own_copies<P: PageStore>(
     store: &mut P,
     pins: &PinTable,
     snapshot: Koid,

@@ -18,7 +18,7 @@ ghost use Rattle.vmo_ops.specs.Targets.{AreTogether, with_tables, IsPlaced, IsRe
 use crate::ranges::{TouchedPages, is_whole, place_in_vmo, touched_by};
 use crate::ready::RangeToChange;
 use crate::zeroing::{room_to_zero, rows_to_clear, zero_pages};
-use pages::Pages;
+use page_store::PageStore;
 use pin_table::PinTable;
 use vm_base::{Koid, PAGE, Refusal, page_of};
 use vmo_table::{Target, VmoTable};
@@ -32,7 +32,7 @@ use vmo_table::{Target, VmoTable};
 /// - `OutOfRange` if the range passes the name's end;
 /// - `BadState` if a page of the range is pinned;
 /// - `HostMemory`, only if a page of the range is held.
-pub fn decommit<P: Pages>(
+pub fn decommit<P: PageStore>(
     store: &mut P,
     vmos: &VmoTable,
     pins: &PinTable,
@@ -54,7 +54,7 @@ pub fn decommit<P: Pages>(
 
 /// Does what `decommit` does, and answers the pages of the VMO that the range touches.
 #[inline(always)]
-pub fn decommit_touching<P: Pages>(
+pub fn decommit_touching<P: PageStore>(
     store: &mut P,
     vmos: &VmoTable,
     pins: &PinTable,
@@ -84,7 +84,7 @@ pub fn decommit_touching<P: Pages>(
 
 /// Finds the place in the VMO, in bytes, of a range whose frames are to be given back. Refusals as for `decommit`, without
 /// `HostMemory`. Nothing changes.
-pub fn ask_to_decommit<P: Pages>(
+pub fn ask_to_decommit<P: PageStore>(
     store: &P,
     vmos: &VmoTable,
     pins: &PinTable,
@@ -121,7 +121,7 @@ pub fn ask_to_decommit<P: Pages>(
 
 // Makes the pages of a range of whole pages zero. None of them is pinned, and there is room for it.
 #[tactic(auto, using(crate::proofs::DecommitLaws::clear_laws))]
-fn clear_pages<P: Pages>(
+fn clear_pages<P: PageStore>(
     store: &mut P,
     pins: &PinTable,
     v: Koid,

@@ -7,15 +7,14 @@ ghost use Rattle.vm_model.specs.Contents.Content.{pages_of, sole, used, IsGood};
 ghost use Rattle.vm_model.specs.Contents.Owning.{need};
 ghost use Rattle.vm_model.specs.Contents.Writing.{touched, pieces, WritesPiece, Writes};
 ghost use Rattle.vm_model.specs.Machine.Step.{reply_of};
-ghost use Rattle.pages.specs.Names.{IsInside};
+ghost use Rattle.page_store.specs.Names.{IsInside};
 ghost use Rattle.vmo_ops.specs.Costs.{HasRows};
 ghost use Rattle.vmo_ops.specs.Ranges.{AreTouched};
 ghost use Rattle.vmo_ops.specs.Targets.{DoesByName};
 
 use crate::ranges::{PagePart, TouchedPages, part_in_page};
 use crate::ready::ready_to_own;
-use crate::writing::write_part;
-use pages::Pages;
+use page_store::{PageStore, write_page};
 use vm_base::{Koid, PAGE, PAGE_BYTES, PageNo, Refusal};
 use vmo_table::Target;
 
@@ -24,7 +23,7 @@ const SHORT_FILL: usize = 256;
 
 /// Writes one byte at every place of a range: `len` bytes from `offset` bytes into the name on. The
 /// refusals are those of a write of these bytes, in the same order.
-pub fn fill<P: Pages>(
+pub fn fill<P: PageStore>(
     store: &mut P,
     t: &Target,
     offset: u64,
@@ -44,7 +43,7 @@ pub fn fill<P: Pages>(
 
 /// Does what `fill` does, and answers the pages of the VMO that the range touches.
 #[inline(always)]
-pub fn fill_touching<P: Pages>(
+pub fn fill_touching<P: PageStore>(
     store: &mut P,
     t: &Target,
     offset: u64,
@@ -72,7 +71,7 @@ pub fn fill_touching<P: Pages>(
 // Fills a range inside the VMO, page by page, from a buffer of `N` bytes. There is room for it. The function is not
 // inlined: a function writes all of its locals, and a short fill should not pay for a page.
 #[inline(never)]
-fn fill_pages<P: Pages, const N: usize>(
+fn fill_pages<P: PageStore, const N: usize>(
     store: &mut P,
     v: Koid,
     offset: u64,
@@ -100,7 +99,7 @@ fn fill_pages<P: Pages, const N: usize>(
 
 /// Fills a part of a page from `bytes`, which are all the same and at least as many as the part has. The page is owned
 /// first.
-pub(crate) fn fill_part<P: Pages>(
+pub(crate) fn fill_part<P: PageStore>(
     store: &mut P,
     v: Koid,
     page: PageNo,
@@ -117,5 +116,5 @@ pub(crate) fn fill_part<P: Pages>(
         (record { koid = v.0; page = page; at = part.at; bytes = replicate part.len byte }) (P.content store.new) }
     ensures spare { P.spare store.old ≤ P.spare store.new + 1 }
 {
-    write_part(store, v, page, part.at, &bytes[..part.len as usize]);
+    write_page(store, v, page, part.at, &bytes[..part.len as usize]);
 }

@@ -5,7 +5,7 @@ ghost use Rattle.vm_base.specs.Search.{HasNone, IsFirst};
 ghost use Rattle.vm_model.specs.Contents.Content.{is_held, pages_of, sole, IsGood};
 
 use crate::owning::is_sole;
-use pages::{Look, Pages};
+use page_store::{Look, PageStore};
 use vm_base::{Koid, PageNo};
 
 /// A page that is held, and whether no other VMO shows its frame.
@@ -18,7 +18,7 @@ pub(crate) struct HeldPage {
 /// Returns the first page from `from` to below `end` that is held, and whether it is sole, which takes a look at the page.
 /// If the held pages before stand in a row (`in_row`), page `from` is looked at before a search. The answer does not depend
 /// on `in_row`.
-pub(crate) fn next_with_sole<P: Pages>(
+pub(crate) fn next_with_sole<P: PageStore>(
     store: &P,
     v: Koid,
     from: PageNo,
@@ -47,8 +47,8 @@ pub(crate) fn next_with_sole<P: Pages>(
 }
 
 // A page, if it is held.
-#[tactic(auto, using(pages::proofs::LookLaws::look_laws))]
-fn held_at<P: Pages>(store: &P, v: Koid, page: PageNo) -> Option<HeldPage>
+#[tactic(auto, using(page_store::proofs::LookLaws::look_laws))]
+fn held_at<P: PageStore>(store: &P, v: Koid, page: PageNo) -> Option<HeldPage>
     requires { page < pages_of (P.content store.now) v.0 }
     ensures page { IfSome result (λ held. held.page ≡ page) }
     ensures held { IfSome result (λ held. IsSome ((P.content store.now).page v.0 page)) }
@@ -62,8 +62,8 @@ fn held_at<P: Pages>(store: &P, v: Koid, page: PageNo) -> Option<HeldPage>
 }
 
 // Whether a page is held.
-#[tactic(auto, using(pages::proofs::LookLaws::look_laws))]
-pub(crate) fn is_held_at<P: Pages>(store: &P, v: Koid, page: PageNo) -> bool
+#[tactic(auto, using(page_store::proofs::LookLaws::look_laws))]
+pub(crate) fn is_held_at<P: PageStore>(store: &P, v: Koid, page: PageNo) -> bool
     requires { page < pages_of (P.content store.now) v.0 }
     ensures { result ≡ is_held (P.content store.now) v.0 page }
 {

@@ -2,7 +2,7 @@
 //! owning, zeroing and pinning pages, and giving their frames back; changing the size. Each is one command of the
 //! machine, by a name that is already looked up.
 //!
-//! It stands on `pages`, whose trait it is generic over, on `vmo_table` and on `pin_table`. Its contracts say that
+//! It stands on `page_store`, whose trait it is generic over, on `vmo_table` and on `pin_table`. Its contracts say that
 //! a call is the step of its command, as `vm_model` defines it. The layer above looks names up, calls an operation, and
 //! makes a reply of its answer. An operation asks what refuses it, makes room, and is then done. What refuses it can be asked
 //! apart (`ask_to_own` and the like): the answer is the refusal, or what was found. A clause says that it is the refusal of
@@ -55,5 +55,5 @@ pub use ready::{RangeToChange, ask_to_own, reserve_to_own};
 pub use requests::{ChildShape, NameRange};
 pub use sizes::{ask_to_resize, is_pinned_past, resize};
 pub use snapshots::{SeenPart, ask_to_snapshot};
-pub use writing::{write, write_part, write_touching};
+pub use writing::{write, write_touching};
 pub use zeroing::{ZeroCost, ask_to_zero, cost_to_zero, zero, zero_touching};

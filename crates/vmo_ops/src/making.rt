@@ -12,14 +12,14 @@ ghost use Rattle.vm_model.specs.Machine.Step.{Step, reply_of};
 ghost use Rattle.vmo_table.specs.Table.{names_of, keepers_of, with_vmos, AreParts};
 
 use crate::sizes::pages_within;
-use pages::Pages;
+use page_store::PageStore;
 use vm_base::{Koid, PAGE, PageNo, Refusal, VMO_PAGES, VmoName};
 use vmo_table::{Origin, VmoTable};
 
 /// Makes a VMO of zero pages, `size` bytes rounded up to whole pages, lets a name that is not open stand
 /// for it, and answers its koid. The name may write to it, and may resize it exactly where it is
 /// resizable. Refusals: `OutOfRange` where the size is over 2^48 bytes, `HostMemory`.
-pub fn create<P: Pages>(
+pub fn create<P: PageStore>(
     store: &mut P,
     vmos: &mut VmoTable,
     name: VmoName,

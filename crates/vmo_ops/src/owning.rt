@@ -6,12 +6,12 @@ ghost use Rattle.vm_model.specs.Contents.Content.{pages_of, sole, used, IsGood};
 ghost use Rattle.vm_model.specs.Contents.Owning.{need};
 
 use crate::held_pages::next_with_sole;
-use pages::{Look, Pages};
+use page_store::{Look, PageStore};
 use vm_base::{HostMemory, Koid, PageNo};
 
 /// Returns the number of frames that it takes to own the pages from `first` to below `end`: as many as are not sole.
 #[inline(always)]
-pub fn need_of<P: Pages>(store: &P, v: Koid, first: PageNo, end: PageNo) -> u64
+pub fn need_of<P: PageStore>(store: &P, v: Koid, first: PageNo, end: PageNo) -> u64
     requires good { IsGood (P.content store.now) }
     requires vmo { IsSome ((P.content store.now).count v.0) }
     requires order { first ≤ end }
@@ -26,7 +26,7 @@ pub fn need_of<P: Pages>(store: &P, v: Koid, first: PageNo, end: PageNo) -> u64
 }
 
 // Does what `need_of` does, page by page. It looks at the held pages alone.
-fn need_of_pages<P: Pages>(store: &P, v: Koid, first: PageNo, end: PageNo) -> u64
+fn need_of_pages<P: PageStore>(store: &P, v: Koid, first: PageNo, end: PageNo) -> u64
     requires good { IsGood (P.content store.now) }
     requires vmo { IsSome ((P.content store.now).count v.0) }
     requires order { first ≤ end }
@@ -53,8 +53,8 @@ pub(crate) fn with_one(n: u64, passes: bool) -> u64
 }
 
 /// Returns whether a page is held and no other VMO shows its frame.
-#[tactic(auto, using(pages::proofs::LookLaws::look_laws))]
-pub(crate) fn is_sole<P: Pages>(store: &P, v: Koid, page: PageNo) -> bool
+#[tactic(auto, using(page_store::proofs::LookLaws::look_laws))]
+pub(crate) fn is_sole<P: PageStore>(store: &P, v: Koid, page: PageNo) -> bool
     requires { page < pages_of (P.content store.now) v.0 }
     ensures { result ≡ sole (P.content store.now) v.0 page }
 {
@@ -66,7 +66,7 @@ pub(crate) fn is_sole<P: Pages>(store: &P, v: Koid, page: PageNo) -> bool
 
 /// Makes room for owning `pages` pages, or for zeroing them. `wanting` of them need a row of the store. `HostMemory` if
 /// the host has too little memory, but never if no page needs a row.
-pub fn reserve_rows<P: Pages>(store: &mut P, wanting: u64, pages: u64) -> Result<(), HostMemory>
+pub fn reserve_rows<P: PageStore>(store: &mut P, wanting: u64, pages: u64) -> Result<(), HostMemory>
     ensures room { OnOk result ((wanting ≡ 0) ⊎ (pages ≤ P.spare store.new)) }
     ensures same { P.content store.new ≡ P.content store.old }
     ensures err { OnErr result (0 < wanting) }
@@ -83,7 +83,7 @@ pub(crate) const UNSEEN_PAGES: u64 = 64;
 /// Returns whether `pages` pages may be owned, whatever they are, without a look at them: they are at most `UNSEEN_PAGES`, and
 /// there is a free frame for each. No page takes more than one. A page that is sole takes none, so `false` does not mean a
 /// refusal.
-pub(crate) fn are_ample<P: Pages>(store: &P, pages: u64) -> bool
+pub(crate) fn are_ample<P: PageStore>(store: &P, pages: u64) -> bool
     ensures few { IsTrue result → pages ≤ UNSEEN_PAGES }
     ensures free { IsTrue result → used (P.content store.now) + pages ≤ (P.content store.now).frames }
 {

@@ -14,7 +14,7 @@ ghost use Rattle.vm_model.specs.Contents.Writing.{touched};
 ghost use Rattle.vm_model.specs.Naming.Pins.{Pin};
 ghost use Rattle.vm_model.specs.Machine.State.{State};
 ghost use Rattle.vm_model.specs.Machine.Step.{Step, frame_of, frames_of, reply_of};
-ghost use Rattle.pages.specs.Names.{IsInside};
+ghost use Rattle.page_store.specs.Names.{IsInside};
 ghost use Rattle.vmo_table.specs.Table.{keepers_of, lineage_in, names_of, CountsKeepers, IsNamed, IsWellCounted};
 ghost use Rattle.pin_table.specs.Table.{pins_of, pin_room};
 ghost use Rattle.vmo_ops.specs.Costs.{AsksToOwn, HasRows};
@@ -25,7 +25,7 @@ ghost use Rattle.vmo_ops.specs.Targets.{with_pins, with_tables, IsRefusalIn};
 use crate::ranges::{is_whole, place_in_vmo, touched_by, touched_pages};
 use crate::ready::{RangeToChange, room_to_own, rows_to_own};
 use crate::requests::VmoRange;
-use pages::{Pages, drop_gone};
+use page_store::{PageStore, drop_gone};
 use pin_table::PinTable;
 use vm_base::{HostMemory, Koid, PAGE, PIN_PAGES, PinName, Refusal, page_of};
 use vm_model::{LentNumbers, PinNumbers};
@@ -43,7 +43,7 @@ const PIN_BYTES: u64 = PIN_PAGES as u64 * PAGE;
 /// - `OutOfRange` if the range passes the name's end;
 /// - `NoMemory` if the pages that are not sole are more than the free frames;
 /// - `HostMemory`.
-pub fn pin<P: Pages>(
+pub fn pin<P: PageStore>(
     store: &mut P,
     vmos: &mut VmoTable,
     pins: &mut PinTable,
@@ -71,7 +71,7 @@ pub fn pin<P: Pages>(
 
 /// Pins as `pin` does, and writes the numbers of the frames to `room`, which has at least `PIN_PAGES` places. The
 /// answer borrows them from there.
-pub fn pin_into<'a, P: Pages>(
+pub fn pin_into<'a, P: PageStore>(
     store: &mut P,
     vmos: &mut VmoTable,
     pins: &mut PinTable,
@@ -108,7 +108,7 @@ pub fn pin_into<'a, P: Pages>(
 }
 
 /// Finds a range of a name that is to be pinned. Refusals as for `pin`, without `HostMemory`. Nothing changes.
-pub fn ask_to_pin<P: Pages>(
+pub fn ask_to_pin<P: PageStore>(
     store: &P,
     t: &Target,
     offset: u64,
@@ -138,7 +138,7 @@ pub fn ask_to_pin<P: Pages>(
 }
 
 // Makes room for pinning a range that was asked for. `HostMemory` if the host has too little memory.
-fn room_to_pin<P: Pages>(
+fn room_to_pin<P: PageStore>(
     store: &mut P,
     pins: &mut PinTable,
     v: Koid,
@@ -162,7 +162,7 @@ fn room_to_pin<P: Pages>(
 
 // Pins the pages of a range of a VMO that is ready for it. Writes the numbers of their frames to `room`, and lends them
 // from there.
-fn add_pin<'a, P: Pages>(
+fn add_pin<'a, P: PageStore>(
     store: &mut P,
     vmos: &mut VmoTable,
     pins: &mut PinTable,
@@ -208,7 +208,7 @@ fn is_no_pin_range(offset: u64, len: u64) -> bool
 
 // Owns the pages of a range of whole pages inside a VMO, and writes the number of each page's frame to `numbers`. There
 // is room for it.
-fn own_frames<P: Pages>(store: &mut P, v: Koid, offset: u64, len: u64, numbers: &mut [u64])
+fn own_frames<P: PageStore>(store: &mut P, v: Koid, offset: u64, len: u64, numbers: &mut [u64])
     requires good { IsGood (P.content store.old) }
     requires inside { offset + len ≤ pages_of (P.content store.old) v.0 * PAGE }
     requires whole { (offset % PAGE ≡ 0) × (len % PAGE ≡ 0) }
@@ -229,7 +229,7 @@ fn own_frames<P: Pages>(store: &mut P, v: Koid, offset: u64, len: u64, numbers: 
 
 /// Removes a pin that is there (`zx_pmt_unpin`). If nothing keeps its VMO any more, the VMO leaves with its pages, and
 /// its children get its parent. The call never wants memory.
-pub fn unpin<P: Pages>(store: &mut P, vmos: &mut VmoTable, pins: &mut PinTable, pin: PinName)
+pub fn unpin<P: PageStore>(store: &mut P, vmos: &mut VmoTable, pins: &mut PinTable, pin: PinName)
     requires parts { (s : State) × IsWellCounted vmos.old (with_tables s (P.content store.old) vmos.old pins.old) }
     requires there { IsSome (pins_of pins.old pin.0) }
     ensures step { (s : State) → IsWellCounted vmos.old (with_tables s (P.content store.old) vmos.old pins.old) →

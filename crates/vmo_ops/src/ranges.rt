@@ -5,17 +5,17 @@ ghost use Rattle.std.specs.List.{range_with_len};
 ghost use Rattle.vm_model.specs.Contents.Content.{IsGood};
 ghost use Rattle.vm_model.specs.Contents.Writing.{touched, part_at};
 ghost use Rattle.vm_model.specs.Machine.State.{name_pages};
-ghost use Rattle.pages.specs.Names.{IsInside};
+ghost use Rattle.page_store.specs.Names.{IsInside};
 ghost use Rattle.vmo_ops.specs.Ranges.{AreTouched};
 ghost use Rattle.vmo_ops.specs.Targets.{IsPlaced};
 
-use pages::{Pages, size_of_name};
+use page_store::{PageStore, size_of_name};
 use vm_base::{PAGE, PageNo, VMO_PAGES, in_page, page_of};
 use vmo_table::Target;
 
 /// Returns the place of a range of a name in the name's VMO, in bytes. `None` if and only if the range does not lie
 /// inside the name.
-pub fn place_in_vmo<P: Pages>(store: &P, t: &Target, offset: u64, len: u64) -> Option<u64>
+pub fn place_in_vmo<P: PageStore>(store: &P, t: &Target, offset: u64, len: u64) -> Option<u64>
     requires good { IsGood (P.content store.now) }
     requires inside { IsInside (P.content store.now) t.now }
     ensures some { IfSome result (λ at. IsPlaced (P.content store.now) t.now offset len at) }
@@ -28,7 +28,7 @@ pub fn place_in_vmo<P: Pages>(store: &P, t: &Target, offset: u64, len: u64) -> O
 }
 
 // Whether the range lies inside the name. A range with `offset + len` past 2^64 does not.
-fn is_in_range<P: Pages>(store: &P, t: &Target, offset: u64, len: u64) -> bool
+fn is_in_range<P: PageStore>(store: &P, t: &Target, offset: u64, len: u64) -> bool
     requires good { IsGood (P.content store.now) }
     requires inside { IsInside (P.content store.now) t.now }
     ensures { IsTrue result ↔ (offset + len ≤ name_pages (P.content store.now) t.now * PAGE) }

@@ -8,11 +8,11 @@ ghost use Rattle.vm_model.specs.declared.reply.Reply.{Reply};
 ghost use Rattle.vm_model.specs.Contents.Content.{pages_of, IsGood};
 ghost use Rattle.vm_model.specs.Contents.Writing.{bytes_in};
 ghost use Rattle.vm_model.specs.Machine.Step.{reply_of};
-ghost use Rattle.pages.specs.Names.{IsInside};
+ghost use Rattle.page_store.specs.Names.{IsInside};
 ghost use Rattle.vmo_ops.specs.Targets.{with_content, DoesByName, IsPlaced, IsRefusalIn};
 
 use crate::ranges::{part_in_page, place_in_vmo, touched_pages};
-use pages::Pages;
+use page_store::{PageStore, read_page};
 use vm_base::{DATA_BYTES, Koid, PAGE, PageNo, Refusal};
 use vm_model::{Bytes4k, LentBytes};
 use vmo_table::Target;
@@ -22,7 +22,7 @@ use vmo_table::Target;
 ///
 /// - `InvalidArgs` if `len` is over `DATA_BYTES`;
 /// - `OutOfRange` if the range passes the name's end.
-pub fn read<P: Pages>(store: &P, t: &Target, offset: u64, len: u64) -> Result<Bytes4k, Refusal>
+pub fn read<P: PageStore>(store: &P, t: &Target, offset: u64, len: u64) -> Result<Bytes4k, Refusal>
     requires good { IsGood (P.content store.now) }
     requires inside { IsInside (P.content store.now) t.now }
     ensures { DoesByName (λ name. Command.VmoRead name offset len) t.now (P.content store.now)
@@ -37,7 +37,7 @@ pub fn read<P: Pages>(store: &P, t: &Target, offset: u64, len: u64) -> Result<By
 
 /// Reads as `read` does, into `room`, which has at least `DATA_BYTES` bytes, and lends the bytes that were read from
 /// there.
-pub fn read_into<'a, P: Pages>(
+pub fn read_into<'a, P: PageStore>(
     store: &P,
     t: &Target,
     offset: u64,
@@ -60,7 +60,12 @@ pub fn read_into<'a, P: Pages>(
 }
 
 /// Finds the place in the VMO, in bytes, of a range that is to be read. Refusals as for `read`. Nothing changes.
-pub fn ask_to_read<P: Pages>(store: &P, t: &Target, offset: u64, len: u64) -> Result<u64, Refusal>
+pub fn ask_to_read<P: PageStore>(
+    store: &P,
+    t: &Target,
+    offset: u64,
+    len: u64,
+) -> Result<u64, Refusal>
     requires good { IsGood (P.content store.now) }
     requires inside { IsInside (P.content store.now) t.now }
     ensures { let parts = with_content (P.content store.now) in
@@ -80,14 +85,14 @@ pub fn ask_to_read<P: Pages>(store: &P, t: &Target, offset: u64, len: u64) -> Re
 
 /// Reads the bytes of a range inside a VMO, `offset` bytes into it. Most ranges lie in one page.
 #[tactic(auto, using(vm_model::proofs::ContentLaws::pages_of_le))]
-pub fn read_range<P: Pages>(store: &P, v: Koid, offset: u64, out: &mut [u8])
+pub fn read_range<P: PageStore>(store: &P, v: Koid, offset: u64, out: &mut [u8])
     requires good { IsGood (P.content store.now) }
     requires inside { offset + length out.old ≤ pages_of (P.content store.now) v.0 * PAGE }
     ensures { out.new ≡ bytes_in (P.content store.now) v.0 offset (length out.old) }
 {
     let (first, end) = touched_pages(offset, out.len() as u64);
     if end - first == 1 {
-        store.read(v, first, offset % PAGE, out);
+        read_page(store, v, first, offset % PAGE, out);
     } else {
         read_pages(store, v, offset, out);
     }
@@ -95,7 +100,7 @@ pub fn read_range<P: Pages>(store: &P, v: Koid, offset: u64, out: &mut [u8])
 
 // Reads the bytes of a range inside the VMO, page by page.
 #[tactic(auto, using(crate::proofs::ReadLaws::read_laws))]
-fn read_pages<P: Pages>(store: &P, v: Koid, offset: u64, out: &mut [u8])
+fn read_pages<P: PageStore>(store: &P, v: Koid, offset: u64, out: &mut [u8])
     requires good { IsGood (P.content store.now) }
     requires inside { offset + length out.old ≤ pages_of (P.content store.now) v.0 * PAGE }
     ensures { out.new ≡ bytes_in (P.content store.now) v.0 offset (length out.old) }
@@ -105,7 +110,8 @@ fn read_pages<P: Pages>(store: &P, v: Koid, offset: u64, out: &mut [u8])
     for page in first..end {
         let part = part_in_page(offset, len, page);
         let until = part.from + part.len;
-        store.read(
+        read_page(
+            store,
             v,
             page,
             part.at,

@@ -8,14 +8,14 @@ ghost use Rattle.vm_model.specs.declared.command.Command.{Command};
 ghost use Rattle.vm_model.specs.Contents.Content.{pages_of, sole, used, IsGood};
 ghost use Rattle.vm_model.specs.Contents.Owning.{need};
 ghost use Rattle.vm_model.specs.Contents.Writing.{touched};
-ghost use Rattle.pages.specs.Names.{IsInside};
+ghost use Rattle.page_store.specs.Names.{IsInside};
 ghost use Rattle.vmo_ops.specs.Costs.{AsksToOwn, HasRows, LacksRoom};
 ghost use Rattle.vmo_ops.specs.Ranges.{touched_row, AreTouched};
 ghost use Rattle.vmo_ops.specs.Targets.{with_content, IsPlaced, IsBarred, IsRefusalIn};
 
 use crate::owning::{are_ample, need_of};
 use crate::ranges::{TouchedPages, place_in_vmo, touched_by};
-use pages::Pages;
+use page_store::PageStore;
 use vm_base::{HostMemory, Koid, PAGE, PageNo, Refusal};
 use vmo_table::Target;
 
@@ -30,7 +30,7 @@ pub struct RangeToChange {
 
 /// Returns the place of a range of a name in the name's VMO, in bytes. `AccessDenied` if the name may not write, else
 /// `OutOfRange` if the range passes the name's end.
-pub(crate) fn place_to_change<P: Pages>(
+pub(crate) fn place_to_change<P: PageStore>(
     store: &P,
     t: &Target,
     offset: u64,
@@ -54,7 +54,7 @@ pub(crate) fn place_to_change<P: Pages>(
 /// Makes a range of a name ready for owning its pages, and answers where it is in the VMO. It is refused as a change is,
 /// also for want of frames or of the host's memory. A refusal changes nothing.
 #[inline(always)]
-pub(crate) fn ready_to_own<P: Pages>(
+pub(crate) fn ready_to_own<P: PageStore>(
     store: &mut P,
     t: &Target,
     offset: u64,
@@ -86,7 +86,7 @@ pub(crate) fn ready_to_own<P: Pages>(
 /// range passes the name's end, else `NoMemory` if the pages that are not sole are more than the free frames. Nothing
 /// changes.
 #[inline(always)]
-pub fn ask_to_own<P: Pages>(
+pub fn ask_to_own<P: PageStore>(
     store: &P,
     t: &Target,
     offset: u64,
@@ -122,7 +122,7 @@ pub fn ask_to_own<P: Pages>(
 /// Returns how many rows of the store are enough to own pages of a VMO. `None` if and only if there are too few free frames.
 /// If the pages are few and frames are free for all of them, no page is looked at.
 #[inline(always)]
-pub(crate) fn rows_to_own<P: Pages>(store: &P, v: Koid, pages: TouchedPages) -> Option<u64>
+pub(crate) fn rows_to_own<P: PageStore>(store: &P, v: Koid, pages: TouchedPages) -> Option<u64>
     requires good { IsGood (P.content store.now) }
     requires vmo { IsSome ((P.content store.now).count v.0) }
     requires order { pages.first ≤ pages.end }
@@ -141,7 +141,7 @@ pub(crate) fn rows_to_own<P: Pages>(store: &P, v: Koid, pages: TouchedPages) -> 
 
 // Does what `rows_to_own` does for the pages from `first` to below `end`, by a look at those that are held.
 #[inline(never)]
-fn rows_needed<P: Pages>(store: &P, v: Koid, first: PageNo, end: PageNo) -> Option<u64>
+fn rows_needed<P: PageStore>(store: &P, v: Koid, first: PageNo, end: PageNo) -> Option<u64>
     requires good { IsGood (P.content store.now) }
     requires vmo { IsSome ((P.content store.now).count v.0) }
     requires order { first ≤ end }
@@ -164,7 +164,7 @@ fn rows_needed<P: Pages>(store: &P, v: Koid, first: PageNo, end: PageNo) -> Opti
 
 /// Makes room for owning pages that were asked for, if `rows` rows are enough. `HostMemory` only if one of them is not sole.
 #[inline(always)]
-pub(crate) fn room_to_own<P: Pages>(
+pub(crate) fn room_to_own<P: PageStore>(
     store: &mut P,
     v: Koid,
     pages: TouchedPages,
@@ -190,7 +190,7 @@ pub(crate) fn room_to_own<P: Pages>(
 
 // Returns whether each of these pages is sole, after there was no memory for rows. `HostMemory` if one is not.
 #[inline(never)]
-fn are_sole<P: Pages>(store: &P, v: Koid, pages: TouchedPages) -> Result<(), HostMemory>
+fn are_sole<P: PageStore>(store: &P, v: Koid, pages: TouchedPages) -> Result<(), HostMemory>
     requires good { IsGood (P.content store.now) }
     requires vmo { IsSome ((P.content store.now).count v.0) }
     requires order { pages.first ≤ pages.end }
@@ -208,7 +208,7 @@ fn are_sole<P: Pages>(store: &P, v: Koid, pages: TouchedPages) -> Result<(), Hos
 /// `HostMemory` only if one of these pages is not sole. If the range is short and frames are free for all of it, no
 /// page is looked at.
 #[inline(always)]
-pub fn reserve_to_own<P: Pages>(
+pub fn reserve_to_own<P: PageStore>(
     store: &mut P,
     v: Koid,
     offset: u64,

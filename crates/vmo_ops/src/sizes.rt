@@ -8,11 +8,11 @@ ghost use Rattle.vm_model.specs.declared.reply.Reply.{Reply};
 ghost use Rattle.vm_model.specs.Contents.Content.{pages_of, IsGood};
 ghost use Rattle.vm_model.specs.Naming.Pins.{any_pinned};
 ghost use Rattle.vm_model.specs.Machine.Step.{reply_of};
-ghost use Rattle.pages.specs.Names.{IsInside};
+ghost use Rattle.page_store.specs.Names.{IsInside};
 ghost use Rattle.pin_table.specs.Table.{pins_of};
 ghost use Rattle.vmo_ops.specs.Targets.{with_pins, DoesWith, IsRefusalIn};
 
-use pages::Pages;
+use page_store::PageStore;
 use pin_table::PinTable;
 use vm_base::{Koid, PAGE, PageNo, Refusal, VMO_PAGES, page_of, round_up};
 use vmo_table::Target;
@@ -21,7 +21,7 @@ use vmo_table::Target;
 /// it, and pages that come in are zero. Refusals, in their order: `AccessDenied` where the name may not
 /// write, `Unavailable` where it may not resize, `OutOfRange` where the size is over 2^48 bytes,
 /// `BadState` where a page past the new end is pinned. It never wants memory.
-pub fn resize<P: Pages>(
+pub fn resize<P: PageStore>(
     store: &mut P,
     pins: &PinTable,
     t: &Target,
@@ -41,7 +41,7 @@ pub fn resize<P: Pages>(
 }
 
 /// Finds the page count of a VMO that is to have `size` bytes. Refusals as for `resize`. Nothing changes.
-pub fn ask_to_resize<P: Pages>(
+pub fn ask_to_resize<P: PageStore>(
     store: &P,
     pins: &PinTable,
     t: &Target,
@@ -83,7 +83,7 @@ pub(crate) fn pages_within(offset: u64, size: u64) -> Option<PageNo>
 
 /// Reports whether a page of a VMO behind the first `pages` is pinned.
 #[tactic(auto, using(crate::proofs::PinnedLaws::pinned_past))]
-pub fn is_pinned_past<P: Pages>(store: &P, pins: &PinTable, v: Koid, pages: PageNo) -> bool
+pub fn is_pinned_past<P: PageStore>(store: &P, pins: &PinTable, v: Koid, pages: PageNo) -> bool
     requires { IsSome ((P.content store.now).count v.0) }
     ensures { result ≡ any_pinned (pins_of pins.now) v.0 pages (pages_of (P.content store.now) v.0) }
 {

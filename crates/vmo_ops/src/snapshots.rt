@@ -12,7 +12,7 @@ ghost use Rattle.vm_model.specs.Contents.Sharing.{snapshotted};
 ghost use Rattle.vm_model.specs.Naming.Pins.{is_pinned};
 ghost use Rattle.vm_model.specs.Machine.State.{State};
 ghost use Rattle.vm_model.specs.Machine.Step.{Step, seen_pages, reply_of};
-ghost use Rattle.pages.specs.Names.{IsInside};
+ghost use Rattle.page_store.specs.Names.{IsInside};
 ghost use Rattle.vmo_table.specs.Table.{names_of, keepers_of, IsNamed};
 ghost use Rattle.pin_table.specs.Table.{pins_of};
 ghost use Rattle.vmo_ops.specs.inside.Copies.{copies_of, IsSeenPart};
@@ -21,7 +21,7 @@ ghost use Rattle.vmo_ops.specs.Targets.{AreTogether, with_pins, with_tables, koi
 use crate::copies::{count_copies, own_copies};
 use crate::requests::ChildShape;
 use crate::sizes::pages_within;
-use pages::{Pages, pages_of_name};
+use page_store::{PageStore, pages_of_name};
 use pin_table::PinTable;
 use vm_base::{HostMemory, Koid, PAGE, PageNo, Refusal, VMO_PAGES, VmoName, in_page, page_of};
 use vmo_table::{Origin, Target, VmoTable};
@@ -29,7 +29,7 @@ use vmo_table::{Origin, Target, VmoTable};
 /// Makes a VMO that shows the pages of a part of what `t` stands for as they are now
 /// (`ZX_VMO_CHILD_SNAPSHOT`). A page is copied when one of the two VMOs is written to. A pinned page is copied at once,
 /// so that it keeps its frame for itself. Pages past the end of the name are zero.
-pub(crate) fn snapshot<P: Pages>(
+pub(crate) fn snapshot<P: PageStore>(
     store: &mut P,
     vmos: &mut VmoTable,
     pins: &PinTable,
@@ -95,7 +95,7 @@ pub struct SeenPart {
 /// - `NoMemory` if the pinned pages that it copies are more than the free frames.
 ///
 /// Nothing changes.
-pub fn ask_to_snapshot<P: Pages>(
+pub fn ask_to_snapshot<P: PageStore>(
     store: &P,
     pins: &PinTable,
     t: &Target,
@@ -141,7 +141,7 @@ fn is_misasked(offset: u64, resizable: bool, no_write: bool) -> bool
 
 // Makes a snapshot that owns its copies of pinned pages, and answers its koid. `part` is what it sees of `of`. `HostMemory`,
 // with nothing changed, if the host has too little memory.
-fn snapshot_owned<P: Pages>(
+fn snapshot_owned<P: PageStore>(
     store: &mut P,
     pins: &PinTable,
     of: Koid,
@@ -172,7 +172,7 @@ fn snapshot_owned<P: Pages>(
 
 // Returns the pages that a snapshot sees of a name: the first one, counted in the VMO, and how many there are. They are
 // at most `pages`, from the name's page `start` on. If the snapshot sees none, the first is 0.
-fn seen_part<P: Pages>(store: &P, t: &Target, start: PageNo, pages: PageNo) -> (PageNo, PageNo)
+fn seen_part<P: PageStore>(store: &P, t: &Target, start: PageNo, pages: PageNo) -> (PageNo, PageNo)
     requires good { IsGood (P.content store.now) }
     requires inside { IsInside (P.content store.now) t.now }
     ensures seen { result.1 ≡ seen_pages (P.content store.now) t.now start pages }

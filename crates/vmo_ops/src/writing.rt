@@ -7,14 +7,14 @@ ghost use Rattle.vm_model.specs.Contents.Content.{pages_of, sole, used, IsGood};
 ghost use Rattle.vm_model.specs.Contents.Owning.{need};
 ghost use Rattle.vm_model.specs.Contents.Writing.{touched, pieces, WritesPiece, Writes};
 ghost use Rattle.vm_model.specs.Machine.Step.{reply_of};
-ghost use Rattle.pages.specs.Names.{IsInside};
+ghost use Rattle.page_store.specs.Names.{IsInside};
 ghost use Rattle.vmo_ops.specs.Costs.{HasRows};
 ghost use Rattle.vmo_ops.specs.Ranges.{AreTouched};
 ghost use Rattle.vmo_ops.specs.Targets.{DoesByName};
 
 use crate::ranges::{TouchedPages, part_in_page};
 use crate::ready::ready_to_own;
-use pages::Pages;
+use page_store::{PageStore, write_page};
 use vm_base::{Koid, PAGE, PageNo, Refusal};
 use vmo_table::Target;
 
@@ -25,7 +25,12 @@ use vmo_table::Target;
 /// - `OutOfRange` if the range passes the name's end;
 /// - `NoMemory` if the pages that are not sole are more than the free frames;
 /// - `HostMemory`, only if some of these pages is not sole.
-pub fn write<P: Pages>(store: &mut P, t: &Target, offset: u64, bytes: &[u8]) -> Result<(), Refusal>
+pub fn write<P: PageStore>(
+    store: &mut P,
+    t: &Target,
+    offset: u64,
+    bytes: &[u8],
+) -> Result<(), Refusal>
     requires good { IsGood (P.content store.old) }
     requires inside { IsInside (P.content store.old) t.now }
     ensures { DoesByName (λ name. Command.VmoWrite name offset bytes.now) t.now (P.content store.old)
@@ -39,7 +44,7 @@ pub fn write<P: Pages>(store: &mut P, t: &Target, offset: u64, bytes: &[u8]) -> 
 
 /// Does what `write` does, and answers the pages of the VMO that the range touches.
 #[inline(always)]
-pub fn write_touching<P: Pages>(
+pub fn write_touching<P: PageStore>(
     store: &mut P,
     t: &Target,
     offset: u64,
@@ -61,7 +66,7 @@ pub fn write_touching<P: Pages>(
 }
 
 // Writes bytes inside the VMO, to the pages that they touch. There is room for it. Most ranges lie in one page.
-fn write_range<P: Pages>(store: &mut P, v: Koid, offset: u64, bytes: &[u8], pages: TouchedPages)
+fn write_range<P: PageStore>(store: &mut P, v: Koid, offset: u64, bytes: &[u8], pages: TouchedPages)
     requires touched { AreTouched offset (length bytes.now) pages }
     requires good { IsGood (P.content store.old) }
     requires inside { offset + length bytes.now ≤ pages_of (P.content store.old) v.0 * PAGE }
@@ -73,14 +78,14 @@ fn write_range<P: Pages>(store: &mut P, v: Koid, offset: u64, bytes: &[u8], page
 {
     let TouchedPages { first, end } = pages;
     if end - first == 1 {
-        write_part(store, v, first, offset % PAGE, bytes);
+        write_page(store, v, first, offset % PAGE, bytes);
     } else {
         write_pages(store, v, offset, bytes, pages);
     }
 }
 
 // Writes bytes inside the VMO, page by page. There is room for it.
-fn write_pages<P: Pages>(store: &mut P, v: Koid, offset: u64, bytes: &[u8], pages: TouchedPages)
+fn write_pages<P: PageStore>(store: &mut P, v: Koid, offset: u64, bytes: &[u8], pages: TouchedPages)
     requires touched { AreTouched offset (length bytes.now) pages }
     requires good { IsGood (P.content store.old) }
     requires inside { offset + length bytes.now ≤ pages_of (P.content store.old) v.0 * PAGE }
@@ -95,7 +100,7 @@ fn write_pages<P: Pages>(store: &mut P, v: Koid, offset: u64, bytes: &[u8], page
     for page in first..end {
         let part = part_in_page(offset, len, page);
         let until = part.from + part.len;
-        write_part(
+        write_page(
             store,
             v,
             page,
@@ -103,19 +108,4 @@ fn write_pages<P: Pages>(store: &mut P, v: Koid, offset: u64, bytes: &[u8], page
             &bytes[part.from as usize..until as usize],
         );
     }
-}
-
-/// Writes bytes to one page, from `at` bytes into the page on. The page is owned first.
-#[inline(always)]
-pub fn write_part<P: Pages>(store: &mut P, v: Koid, page: PageNo, at: u64, bytes: &[u8])
-    requires good { IsGood (P.content store.old) }
-    requires page { page < pages_of (P.content store.old) v.0 }
-    requires within { at + length bytes.now ≤ PAGE }
-    requires room { (sole (P.content store.old) v.0 page ≡ true)
-        ⊎ ((1 ≤ P.spare store.old) × (used (P.content store.old) < (P.content store.old).frames)) }
-    ensures writes { WritesPiece (P.content store.old)
-        (record { koid = v.0; page = page; at = at; bytes = bytes.now }) (P.content store.new) }
-    ensures spare { P.spare store.old ≤ P.spare store.new + 1 }
-{
-    store.write(v, page, at, bytes);
 }

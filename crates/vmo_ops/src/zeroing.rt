@@ -10,8 +10,8 @@ ghost use Rattle.vm_model.specs.Contents.Writing.{touched};
 ghost use Rattle.vm_model.specs.Naming.Pins.{is_pinned};
 ghost use Rattle.vm_model.specs.Contents.Zeroing.{zeroed, is_cleared, owned_by_zero, ZeroesPage, Zeroes};
 ghost use Rattle.vm_model.specs.Machine.Step.{reply_of};
-ghost use Rattle.pages.specs.Names.{IsInside};
-ghost use Rattle.pages.specs.Held.{held_from};
+ghost use Rattle.page_store.specs.Names.{IsInside};
+ghost use Rattle.page_store.specs.Held.{held_from};
 ghost use Rattle.pin_table.specs.Table.{pins_of};
 ghost use Rattle.vmo_ops.specs.Ranges.{AreTouched};
 ghost use Rattle.vmo_ops.specs.Targets.{with_pins, DoesWith, IsPlaced, IsRefusalIn};
@@ -22,7 +22,7 @@ use crate::held_pages::is_held_at;
 use crate::owning::{UNSEEN_PAGES, are_ample, is_sole, with_one};
 use crate::ranges::{PagePart, TouchedPages, part_in_page, touched_by, touched_pages};
 use crate::ready::{RangeToChange, place_to_change};
-use pages::Pages;
+use page_store::PageStore;
 use pin_table::PinTable;
 use vm_base::{HostMemory, Koid, PAGE, PAGE_BYTES, PageNo, Refusal, VMO_PAGES, page_of};
 use vmo_table::Target;
@@ -36,7 +36,7 @@ use vmo_table::Target;
 /// - `OutOfRange` if the range passes the name's end;
 /// - `NoMemory` if owning takes more frames than are free;
 /// - `HostMemory`, only if a page that the range touches is held.
-pub fn zero<P: Pages>(
+pub fn zero<P: PageStore>(
     store: &mut P,
     pins: &PinTable,
     t: &Target,
@@ -56,7 +56,7 @@ pub fn zero<P: Pages>(
 
 /// Does what `zero` does, and answers the pages of the VMO that the range touches.
 #[inline(always)]
-pub fn zero_touching<P: Pages>(
+pub fn zero_touching<P: PageStore>(
     store: &mut P,
     pins: &PinTable,
     t: &Target,
@@ -81,7 +81,7 @@ pub fn zero_touching<P: Pages>(
 }
 
 /// Finds a range of a name that is to be made zero. Refusals as for `zero`, without `HostMemory`. Nothing changes.
-pub fn ask_to_zero<P: Pages>(
+pub fn ask_to_zero<P: PageStore>(
     store: &P,
     pins: &PinTable,
     t: &Target,
@@ -113,7 +113,7 @@ pub fn ask_to_zero<P: Pages>(
 
 // Returns how many rows of the store are enough to zero a range inside a VMO. `None` if and only if owning takes more frames
 // than are free. If the range is short and frames are free for all of it, no page is looked at.
-fn rows_to_zero<P: Pages>(
+fn rows_to_zero<P: PageStore>(
     store: &P,
     pins: &PinTable,
     v: Koid,
@@ -146,7 +146,7 @@ fn rows_to_zero<P: Pages>(
 
 /// Returns how many rows of the store are enough to zero a range inside a VMO, if it needs no frame. If the range is short, no
 /// page is looked at.
-pub(crate) fn rows_to_clear<P: Pages>(
+pub(crate) fn rows_to_clear<P: PageStore>(
     store: &P,
     pins: &PinTable,
     v: Koid,
@@ -168,7 +168,7 @@ pub(crate) fn rows_to_clear<P: Pages>(
 }
 
 /// Makes room for zeroing a range that was asked for. `HostMemory` only if a page that it touches is held.
-pub(crate) fn room_to_zero<P: Pages>(
+pub(crate) fn room_to_zero<P: PageStore>(
     store: &mut P,
     pins: &PinTable,
     v: Koid,
@@ -204,7 +204,7 @@ pub struct ZeroCost {
 }
 
 /// Returns the cost of zeroing a range inside the VMO. The call looks at the held pages alone.
-pub fn cost_to_zero<P: Pages>(
+pub fn cost_to_zero<P: PageStore>(
     store: &P,
     pins: &PinTable,
     v: Koid,
@@ -231,7 +231,7 @@ pub fn cost_to_zero<P: Pages>(
 
 // Whether zeroing a range takes a frame for a held page that it touches: the page does not become zero as a whole, and
 // is not sole.
-fn takes_frame<P: Pages>(
+fn takes_frame<P: PageStore>(
     store: &P,
     pins: &PinTable,
     v: Koid,
@@ -261,7 +261,7 @@ fn is_cleared_page(pins: &PinTable, v: Koid, page: PageNo, part: PagePart) -> bo
 
 /// Zeroes a range inside the VMO: whole pages in a row at once, up to the next that is pinned or cut, and that page by
 /// itself. There is room for it.
-pub(crate) fn zero_pages<P: Pages>(
+pub(crate) fn zero_pages<P: PageStore>(
     store: &mut P,
     pins: &PinTable,
     v: Koid,
@@ -294,7 +294,7 @@ pub(crate) fn zero_pages<P: Pages>(
 }
 
 // Makes pages in a row zero, if there are any.
-fn zero_row<P: Pages>(store: &mut P, v: Koid, first: PageNo, end: PageNo)
+fn zero_row<P: PageStore>(store: &mut P, v: Koid, first: PageNo, end: PageNo)
     requires vmo { IsSome ((P.content store.old).count v.0) }
     requires range { (first ≤ end) × (end ≤ pages_of (P.content store.old) v.0) }
     requires room { held_from (P.content store.old) v.0 first (end - first) ≤ P.spare store.old }
@@ -330,7 +330,7 @@ static ZEROS: [u8; PAGE_BYTES] = [0; PAGE_BYTES];
 
 // Zeroes the part of a range that falls into one page, if the page is held. The page does not become zero as a whole: it
 // is pinned, or the range does not hold all of it.
-fn zero_part<P: Pages>(store: &mut P, v: Koid, offset: u64, len: u64, page: PageNo)
+fn zero_part<P: PageStore>(store: &mut P, v: Koid, offset: u64, len: u64, page: PageNo)
     requires good { IsGood (P.content store.old) }
     requires range { offset + len ≤ pages_of (P.content store.old) v.0 * PAGE }
     requires first { offset / PAGE ≤ page }

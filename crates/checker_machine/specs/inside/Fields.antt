@@ -1,5 +1,5 @@
 -- How the fields of the machine are seen, and what holds of them.
-use Rattle.checker_pages.specs.Eager.{eager_content}
+use Rattle.page_store.specs.Flat.{flat_content}
 use Rattle.checker_ready.specs.Notes.{rows_of, AreGoodNotes}
 use Rattle.machine.specs.Machine.{IsSoundMachine}
 use Rattle.checker_machine.specs.declared.checker_machine.CheckerMachine.TheInside.{Inside}
@@ -10,4 +10,4 @@ checker_parts_of a = record { pages = a.pages; machine = a.machine }
 
 -- The parts stand for a good machine, and the notes of ready pages are true.
 abbrev pub AreSound : CheckerParts → Type 0
-AreSound m = IsSoundMachine ready_by (λ c table notes. AreGoodNotes c table (rows_of notes)) (eager_content m.pages) m.machine
+AreSound m = IsSoundMachine ready_by (λ c table notes. AreGoodNotes c table (rows_of notes)) (flat_content m.pages) m.machine

@@ -25,7 +25,7 @@ overflow_add-counts-4 g c =
 pub returns : goal.returns
 returns g c =
     let is =
-    looks_held (g.P.Pages.content c.args.store.now) c.args.koid.0 c.args.page c.in-Held.tag c.in-Held.sole
+    looks_held (g.P.PageStore.content c.args.store.now) c.args.koid.0 c.args.page c.in-Held.tag c.in-Held.sole
     c.in-Held.ensures in
     AreCounts-page _ _ _ _ _ c.charges.result c.args.counts.now _ is c.charges.ensures c.requires.before refl
     (ap (λ (n : ℕ). c.args.counts.now.sole + n) c.from.ensures)

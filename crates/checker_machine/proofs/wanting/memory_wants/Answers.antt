@@ -3,15 +3,15 @@ use Rattle.vm_model.specs.Machine.State.{State, empty_state}
 use Rattle.vm_model.specs.Machine.Machine.{Machine}
 use Rattle.mapping_set.specs.Tables.{Mappings, table_of}
 use Rattle.region_tree.specs.Tree.{RegionRows, regions_of, spaces_of}
-use Rattle.checker_pages.specs.Eager.{Eager, eager_content}
+use Rattle.page_store.specs.Flat.{Flat, flat_content}
 use Rattle.checker_ready.specs.Notes.{Notes}
 use Rattle.checker_machine.specs.Machine.{ready_by}
 use Rattle.checker_machine.proofs.WantLaws.{lack_free, read_few, want_refused}
 use Rattle.checker_machine.proofs.wanting.memory_wants.Goals as goal
 
 -- the machine that is asked for memory
-abbrev asked : Eager → RegionRows → Mappings → Notes → State → Machine
-asked pages regions maps ready s = record { state = record s { content = eager_content pages; spaces = spaces_of (regions_of regions) (table_of maps) }; ready = ready_by ready }
+abbrev asked : Flat → RegionRows → Mappings → Notes → State → Machine
+asked pages regions maps ready s = record { state = record s { content = flat_content pages; spaces = spaces_of (regions_of regions) (table_of maps) }; ready = ready_by ready }
 
 pub wants_memory_to_read-requires : goal.wants_memory_to_read-requires
 wants_memory_to_read-requires c =

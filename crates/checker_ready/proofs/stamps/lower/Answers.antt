@@ -1,6 +1,6 @@
 use Rattle.std.proofs.Common.{sym, ap, ◌∙◌}
 use Rattle.pair_map.specs.Maps.{values_of}
-use Rattle.checker_pages.proofs.LinkLaws.{pair-same}
+use Rattle.page_store.proofs.LinkLaws.{pair-same}
 use Rattle.checker_ready.specs.Notes.{lowered}
 use Rattle.checker_ready.proofs.StampLaws.{none_else, lowered-old}
 use Rattle.checker_ready.proofs.stamps.lower.Goals as goal

@@ -1,6 +1,6 @@
 use Rattle.std.proofs.Common.{ap, ◌∙◌, arith}
-use Rattle.pages.specs.Needs.{need_by}
-use Rattle.pages.proofs.NeedLaws.{need-one}
+use Rattle.page_store.specs.Needs.{need_by}
+use Rattle.page_store.proofs.NeedLaws.{need-one}
 use Rattle.fault.proofs.NeedingLaws.{FitsAs-free, FitsAs-same}
 use Rattle.fault.proofs.needing.frames_for_one.Goals as goal
 

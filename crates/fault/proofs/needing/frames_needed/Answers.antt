@@ -1,6 +1,6 @@
 use Rattle.std.proofs.Common.{ap, sym, ◌∙◌}
-use Rattle.pages.specs.Needs.{need_by}
-use Rattle.pages.proofs.NeedLaws.{need-same, need-apart, need-third, need-last}
+use Rattle.page_store.specs.Needs.{need_by}
+use Rattle.page_store.proofs.NeedLaws.{need-same, need-apart, need-third, need-last}
 use Rattle.fault.proofs.needing.frames_needed.Goals as goal
 
 pub returns-then-show_same_page : goal.returns-then-show_same_page

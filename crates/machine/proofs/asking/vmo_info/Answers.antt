@@ -7,4 +7,4 @@ pub info-requires-clause-parts : goal.info-requires-clause-parts
 info-requires-clause-parts g c = parts_in c.requires
 
 pub returns-in-Some : goal.returns-in-Some
-returns-in-Some g c = info_named c.args.name _ c.requires.counted c.in-Some.ensures c.info.result (c.info.ensures (state_in (g.P.Pages.content c.args.pages.now) c.args.tables.now))
+returns-in-Some g c = info_named c.args.name _ c.requires.counted c.in-Some.ensures c.info.result (c.info.ensures (state_in (g.P.PageStore.content c.args.pages.now) c.args.tables.now))

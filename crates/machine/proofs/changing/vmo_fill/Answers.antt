@@ -11,4 +11,4 @@ fill_touching-outcome-requires-clause-inside g c = inside_named c.requires c.arg
 pub returns-in-Some : goal.returns-in-Some
 returns-in-Some g c =
     rw c.changed.ensures.reply (handles_range c.args.range.name (VmoFill c.args.range.name c.args.range.offset c.args.range.len c.args.byte) c.args.range.offset c.args.range.len (λ s reply. refl) tt c.requires.counted c.in-Some.ensures c.fill_touching-outcome.result
-    (c.fill_touching-outcome.ensures.step (state_in (g.P.Pages.content c.args.pages.now) c.args.tables.now) c.args.range.name (sym c.in-Some.ensures)) c.fill_touching-outcome.ensures.touched c.changed.ensures.change)
+    (c.fill_touching-outcome.ensures.step (state_in (g.P.PageStore.content c.args.pages.now) c.args.tables.now) c.args.range.name (sym c.in-Some.ensures)) c.fill_touching-outcome.ensures.touched c.changed.ensures.change)

@@ -13,7 +13,7 @@ resize-requires-clause-inside g c = inside_named c.requires c.args.name c.in-Som
 
 pub returns-in-Ok : goal.returns-in-Ok
 returns-in-Ok g c =
-    let s = state_in (g.P.Pages.content c.args.pages.now) c.args.tables.now in record {
+    let s = state_in (g.P.PageStore.content c.args.pages.now) c.args.tables.now in record {
       step = c.in-Ok.ensures s c.args.name (sym c.in-Some.ensures);
       changes = changed_named s c.args.name.0 (λ (target : Target). Change.Past target.koid (rounded c.args.size / PAGE)) c.in-Some.ensures (ap (λ (n : ℕ). Change.Past c.in-Some.target.koid n) c.page_count.ensures);
       counted = c.requires.counted;
@@ -22,5 +22,5 @@ returns-in-Ok g c =
 
 pub returns-in-Err : goal.returns-in-Err
 returns-in-Err g c =
-    let s = state_in (g.P.Pages.content c.args.pages.now) c.args.tables.now in
+    let s = state_in (g.P.PageStore.content c.args.pages.now) c.args.tables.now in
     record { step = c.in-Err.ensures s c.args.name (sym c.in-Some.ensures); changes = refl; counted = c.requires.counted; name = tt }

@@ -11,4 +11,4 @@ write_touching-outcome-requires-clause-inside g c = inside_named c.requires c.ar
 pub returns-in-Some : goal.returns-in-Some
 returns-in-Some g c =
     rw c.changed.ensures.reply (handles_range c.args.name (VmoWrite c.args.name c.args.offset c.args.bytes.now) c.args.offset (length c.args.bytes.now) (λ s reply. refl) tt c.requires.counted c.in-Some.ensures c.write_touching-outcome.result
-    (c.write_touching-outcome.ensures.step (state_in (g.P.Pages.content c.args.pages.now) c.args.tables.now) c.args.name (sym c.in-Some.ensures)) c.write_touching-outcome.ensures.touched c.changed.ensures.change)
+    (c.write_touching-outcome.ensures.step (state_in (g.P.PageStore.content c.args.pages.now) c.args.tables.now) c.args.name (sym c.in-Some.ensures)) c.write_touching-outcome.ensures.touched c.changed.ensures.change)

@@ -3,7 +3,7 @@ use Rattle.std.proofs.lemmas.Bool.{not-false}
 use Rattle.vm_model.specs.declared.command.Command.TheVariants.{VmarMap}
 use Rattle.vm_model.specs.Machine.State.{target_of}
 use Rattle.vm_model.proofs.RegionLaws.{region_bounds}
-use Rattle.pages.proofs.NameLaws.{name_few}
+use Rattle.page_store.proofs.NameLaws.{name_few}
 use Rattle.region_tree.specs.Tree.{regions_of}
 use Rattle.region_tree.proofs.NotedLaws.{apart-vacant}
 use Rattle.region_ops.specs.Spaces.{with_all}
@@ -24,7 +24,7 @@ ask_to_map-requires-clause-inside g c = rw c.of-of.ensures (inside_named c.requi
 
 pub returns-in-Err-clause-does : goal.returns-in-Err-clause-does
 returns-in-Err-clause-does g c =
-    handles_refused c.requires.counted (sym ((rw c.of-of.ensures at c.in-Err.ensures) (state_in (g.P.Pages.content c.args.pages.now) c.args.tables.now) c.args.request.mapped (sym c.in-Some-resolve.ensures))) tt
+    handles_refused c.requires.counted (sym ((rw c.of-of.ensures at c.in-Err.ensures) (state_in (g.P.PageStore.content c.args.pages.now) c.args.tables.now) c.args.request.mapped (sym c.in-Some-resolve.ensures))) tt
 
 pub first_page-requires-clause-end : goal.first_page-requires-clause-end
 first_page-requires-clause-end g c = (region_bounds _ c.requires.good.spaces.regions _ _ (sym c.in-Some.ensures.region) (not-false _ c.if-not-above.false)).0
@@ -32,7 +32,7 @@ first_page-requires-clause-end g c = (region_bounds _ c.requires.good.spaces.reg
 pub returns-in_err-first-clause-does : goal.returns-in_err-first-clause-does
 returns-in_err-first-clause-does g c = rw c.from_residual.ensures (record {
   place = record {
-    none = sym ((rw c.of-of.ensures at c.in-Ok.ensures.0) (state_in (g.P.Pages.content c.args.pages.now) c.args.tables.now) c.args.request.mapped (sym c.in-Some-resolve.ensures));
+    none = sym ((rw c.of-of.ensures at c.in-Ok.ensures.0) (state_in (g.P.PageStore.content c.args.pages.now) c.args.tables.now) c.args.request.mapped (sym c.in-Some-resolve.ensures));
     asks = refl;
     is_told = c.in_err-first.ensures.told.0;
     never = λ address is new effect. (rw c.by-wanted.ensures at c.in_err-first.ensures.told.1) effect.0 (told_at effect.0 is effect.1) effect.2;
@@ -43,15 +43,15 @@ returns-in_err-first-clause-does g c = rw c.from_residual.ensures (record {
 
 pub piece_at-piece-requires : goal.piece_at-piece-requires
 piece_at-piece-requires g c =
-    let s = state_in (g.P.Pages.content c.args.pages.now) c.args.tables.now in
+    let s = state_in (g.P.PageStore.content c.args.pages.now) c.args.tables.now in
     rw c.of-of.ensures (omega (arith, name_few s.content c.in-Some-resolve.target c.requires.good.content (inside_named c.requires c.args.request.mapped c.in-Some-resolve.ensures)))
 
 pub map_at-requires-clause-well : goal.map_at-requires-clause-well
-map_at-requires-clause-well g c = AreWell-all _ _ (state_in (g.P.Pages.content c.args.pages.now) c.args.tables.now).spaces (all_well_in c.requires)
+map_at-requires-clause-well g c = AreWell-all _ _ (state_in (g.P.PageStore.content c.args.pages.now) c.args.tables.now).spaces (all_well_in c.requires)
 
 pub map_at-requires-clause-place : goal.map_at-requires-clause-place
 map_at-requires-clause-place g c =
-    let s = state_in (g.P.Pages.content c.args.pages.now) c.args.tables.now in
+    let s = state_in (g.P.PageStore.content c.args.pages.now) c.args.tables.now in
     let none = sym ((rw c.of-of.ensures at c.in-Ok.ensures.0) s c.args.request.mapped (sym c.in-Some-resolve.ensures)) in
     rw (c.piece_at-piece.ensures, c.of-of.ensures, c.by-wanted.ensures)
     (puttable s c.args.request.region c.args.request.offset c.args.request.mapped c.args.request.vmo_offset c.args.request.len c.args.request.perm c.args.request.flags _ _
@@ -59,7 +59,7 @@ map_at-requires-clause-place g c =
 
 pub overflow_add-change : goal.overflow_add-change
 overflow_add-change g c =
-    let s = state_in (g.P.Pages.content c.args.pages.now) c.args.tables.now in
+    let s = state_in (g.P.PageStore.content c.args.pages.now) c.args.tables.now in
     let none = sym ((rw c.of-of.ensures at c.in-Ok.ensures.0) s c.args.request.mapped (sym c.in-Some-resolve.ensures)) in
     let may = puttable s c.args.request.region c.args.request.offset c.args.request.mapped c.args.request.vmo_offset c.args.request.len c.args.request.perm c.args.request.flags _ _
     (sym c.in-Some.ensures.region) (not-false _ c.if-not-above.false) (sym c.in-Some-resolve.ensures) _ none (rw c.by-wanted.ensures at c.in_ok-first.ensures.place) c.requires.good in
@@ -67,7 +67,7 @@ overflow_add-change g c =
 
 pub overflow_mul-result : goal.overflow_mul-result
 overflow_mul-result g c =
-    let s = state_in (g.P.Pages.content c.args.pages.now) c.args.tables.now in
+    let s = state_in (g.P.PageStore.content c.args.pages.now) c.args.tables.now in
     let none = sym ((rw c.of-of.ensures at c.in-Ok.ensures.0) s c.args.request.mapped (sym c.in-Some-resolve.ensures)) in
     let may = puttable s c.args.request.region c.args.request.offset c.args.request.mapped c.args.request.vmo_offset c.args.request.len c.args.request.perm c.args.request.flags _ _
     (sym c.in-Some.ensures.region) (not-false _ c.if-not-above.false) (sym c.in-Some-resolve.ensures) _ none (rw c.by-wanted.ensures at c.in_ok-first.ensures.place) c.requires.good in
@@ -76,7 +76,7 @@ overflow_mul-result g c =
 pub returns-in-Ok-map_at-clause-does : goal.returns-in-Ok-map_at-clause-does
 unfolding target_of
 returns-in-Ok-map_at-clause-does g c =
-    let s = state_in (g.P.Pages.content c.args.pages.now) c.args.tables.now in
+    let s = state_in (g.P.PageStore.content c.args.pages.now) c.args.tables.now in
     let asked = rw c.of-of.ensures at c.in-Ok.ensures.0 in
     let none = sym (asked s c.args.request.mapped (sym c.in-Some-resolve.ensures)) in
     let place = rw c.by-wanted.ensures at c.in_ok-first.ensures.place in
@@ -95,7 +95,7 @@ returns-in-Ok-map_at-clause-does g c =
 
 pub returns-in-Err-map_at-clause-does : goal.returns-in-Err-map_at-clause-does
 returns-in-Err-map_at-clause-does g c =
-    let s = state_in (g.P.Pages.content c.args.pages.now) c.args.tables.now in
+    let s = state_in (g.P.PageStore.content c.args.pages.now) c.args.tables.now in
     let puts = c.in-Err-map_at.ensures.puts in
     handles_lack (VmarMap c.args.request.region c.args.request.offset c.args.request.mapped c.args.request.vmo_offset c.args.request.len c.args.request.perm c.args.request.flags)
     c.requires.counted (sym ((rw c.of-of.ensures at c.in-Ok.ensures.0) s c.args.request.mapped (sym c.in-Some-resolve.ensures))) refl tt puts.0 puts.1 puts.2 puts.3

@@ -7,7 +7,7 @@ use Rattle.machine.proofs.naming.seen_part.Goals as goal
 
 pub returns : goal.returns
 returns g c =
-    let behind : c.saturating_sub-behind.result ≡ name_pages (g.P.Pages.content c.args.pages.now) c.args.target.now - c.args.offset / PAGE =
+    let behind : c.saturating_sub-behind.result ≡ name_pages (g.P.PageStore.content c.args.pages.now) c.args.target.now - c.args.offset / PAGE =
     c.saturating_sub-behind.ensures ∙ (λ i. c.pages_of_name.ensures i - c.page_of-start.ensures i) in
     let seen = c.min-seen.ensures ∙ (λ i. min (c.page_count.ensures i) (behind i)) in
     rw c.page_of-start.ensures (ap (λ (n : ℕ). let first = c.args.target.now.first + c.args.offset / PAGE in Change.Shared c.args.target.now.koid first (first + n)) seen)

@@ -14,10 +14,10 @@ create_child-requires-clause-parts g c = together_in c.requires.sound
 
 pub returns-in-Ok : goal.returns-in-Ok
 returns-in-Ok g c =
-    let s = state_in (g.P.Pages.content c.args.pages.now) c.args.tables.now in record {
+    let s = state_in (g.P.PageStore.content c.args.pages.now) c.args.tables.now in record {
       step = c.in-Ok.ensures.step s c.args.request.parent (sym c.in-Some.ensures);
       changes = changed_named s c.args.request.parent.0
-          (λ (target : Target). change_of_child c.args.request.kind (g.P.Pages.content c.args.pages.now) target c.args.request.shape.offset c.args.request.shape.size)
+          (λ (target : Target). change_of_child c.args.request.kind (g.P.PageStore.content c.args.pages.now) target c.args.request.shape.offset c.args.request.shape.size)
           c.in-Some.ensures c.child_change-change.ensures;
       counted = kept_counted c.requires.sound.counted c.in-Ok.ensures.keepers;
       name = omega arith;
@@ -25,7 +25,7 @@ returns-in-Ok g c =
 
 pub returns-in-Err : goal.returns-in-Err
 returns-in-Err g c =
-    let s = state_in (g.P.Pages.content c.args.pages.now) c.args.tables.now in record {
+    let s = state_in (g.P.PageStore.content c.args.pages.now) c.args.tables.now in record {
       step = c.in-Err.ensures.step s c.args.request.parent (sym c.in-Some.ensures);
       changes = refl;
       counted = kept_counted c.requires.sound.counted c.in-Err.ensures.keepers;

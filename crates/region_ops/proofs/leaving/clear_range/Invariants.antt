@@ -6,7 +6,7 @@ use Rattle.region_ops.proofs.leaving.clear_range.Given as goal
 
 abbrev pub invariant-loop-piece : goal.invariant-loop-piece
 invariant-loop-piece g l = record {
-  way : IsOnTheWay (g.P.Pages.content l.initial.store) l.initial.vmos (table_of l.initial.maps) (g.P.Pages.content l.store) l.vmos (table_of l.maps);
+  way : IsOnTheWay (g.P.PageStore.content l.initial.store) l.initial.vmos (table_of l.initial.maps) (g.P.PageStore.content l.store) l.vmos (table_of l.maps);
   cleared : with_pages (table_of l.maps) l.root.0 l.first (l.first + l.count) (λ p. None)
       ≡ with_pages (table_of l.initial.maps) l.root.0 l.first (l.first + l.count) (λ p. None);
   room : HasRoomLeft (mapping_spare l.initial.maps) (mapping_spare l.maps) (table_of l.maps l.root.0) l.first (l.first + l.count);

@@ -1,5 +1,5 @@
 use Rattle.std.proofs.Common.{sym, arith}
-use Rattle.pages.proofs.NameLaws.{IsInside-good, name_few}
+use Rattle.page_store.proofs.NameLaws.{IsInside-good, name_few}
 use Rattle.vm_model.proofs.RegionLaws.{region_bounds}
 use Rattle.mapping_set.specs.Tables.{table_of}
 use Rattle.region_tree.specs.Tree.{regions_of, spaces_of}
@@ -12,18 +12,18 @@ use Rattle.region_ops.proofs.mapping.map_in.Goals as goal
 
 pub ask_to_map-requires-clause-inside : goal.ask_to_map-requires-clause-inside
 ask_to_map-requires-clause-inside g c =
-    IsInside-good (with_all c.requires.well.rest (g.P.Pages.content c.args.store.now) c.args.vmos.now (spaces_of (regions_of c.args.regions.now) (table_of c.args.maps.now)))
+    IsInside-good (with_all c.requires.well.rest (g.P.PageStore.content c.args.store.now) c.args.vmos.now (spaces_of (regions_of c.args.regions.now) (table_of c.args.maps.now)))
     c.requires.named.0 _ c.requires.well.well.good c.requires.named.1
 
 pub returns-in-Err-clause-does : goal.returns-in-Err-clause-does
 returns-in-Err-clause-does g c = λ name named. record {
-  step = λ s well. Step-refused (with_all s (g.P.Pages.content c.args.store.now) c.args.vmos.now (spaces_of (regions_of c.args.regions.now) (table_of c.args.maps.now))) _ _ (sym (c.in-Err.ensures (with_all s (g.P.Pages.content c.args.store.now) c.args.vmos.now (spaces_of (regions_of c.args.regions.now) (table_of c.args.maps.now))) name named));
+  step = λ s well. Step-refused (with_all s (g.P.PageStore.content c.args.store.now) c.args.vmos.now (spaces_of (regions_of c.args.regions.now) (table_of c.args.maps.now))) _ _ (sym (c.in-Err.ensures (with_all s (g.P.PageStore.content c.args.store.now) c.args.vmos.now (spaces_of (regions_of c.args.regions.now) (table_of c.args.maps.now))) name named));
   counted = λ s well. well.counted;
 }
 
 pub piece_at-piece-requires : goal.piece_at-piece-requires
 piece_at-piece-requires g c =
-    let old = (with_all c.requires.well.rest (g.P.Pages.content c.args.store.now) c.args.vmos.now (spaces_of (regions_of c.args.regions.now) (table_of c.args.maps.now))) in
+    let old = (with_all c.requires.well.rest (g.P.PageStore.content c.args.store.now) c.args.vmos.now (spaces_of (regions_of c.args.regions.now) (table_of c.args.maps.now))) in
     let good = c.requires.well.well.good in
     omega (arith, name_few old.content c.args.request.mapped good.content (IsInside-good old c.requires.named.0 _ good c.requires.named.1))
 
@@ -32,14 +32,14 @@ map_at-requires-clause-well g c = AreWell-all _ _ (spaces_of (regions_of c.args.
 
 pub map_at-requires-clause-place : goal.map_at-requires-clause-place
 map_at-requires-clause-place g c =
-    let old = (with_all c.requires.well.rest (g.P.Pages.content c.args.store.now) c.args.vmos.now (spaces_of (regions_of c.args.regions.now) (table_of c.args.maps.now))) in
+    let old = (with_all c.requires.well.rest (g.P.PageStore.content c.args.store.now) c.args.vmos.now (spaces_of (regions_of c.args.regions.now) (table_of c.args.maps.now))) in
     rw (c.piece_at-piece.ensures, c.contains-overwriting.ensures tt)
     (puttable old c.args.request.region c.args.request.offset (record { 0 = c.requires.named.0 }) c.args.request.vmo_offset c.args.request.len c.args.request.perm c.args.request.flags _ _
     c.requires.above c.requires.live c.requires.named.1 _ (sym (c.in-Ok.ensures.0 old (record { 0 = c.requires.named.0 }) c.requires.named.1)) c.in-Ok.ensures.1 c.requires.well.well.good)
 
 pub overflow_mul-result : goal.overflow_mul-result
 overflow_mul-result g c =
-    let old = (with_all c.requires.well.rest (g.P.Pages.content c.args.store.now) c.args.vmos.now (spaces_of (regions_of c.args.regions.now) (table_of c.args.maps.now))) in
+    let old = (with_all c.requires.well.rest (g.P.PageStore.content c.args.store.now) c.args.vmos.now (spaces_of (regions_of c.args.regions.now) (table_of c.args.maps.now))) in
     let may = puttable old c.args.request.region c.args.request.offset (record { 0 = c.requires.named.0 }) c.args.request.vmo_offset c.args.request.len c.args.request.perm c.args.request.flags _ _
     c.requires.above c.requires.live c.requires.named.1 _ (sym (c.in-Ok.ensures.0 old (record { 0 = c.requires.named.0 }) c.requires.named.1)) c.in-Ok.ensures.1 c.requires.well.well.good in
     omega (arith, may.end)
@@ -47,19 +47,19 @@ overflow_mul-result g c =
 pub returns-in-Ok-map_at-clause-does : goal.returns-in-Ok-map_at-clause-does
 returns-in-Ok-map_at-clause-does g c = λ name named.
     map_does _ _ (spaces_of (regions_of c.args.regions.now) (table_of c.args.maps.now)) _ _ _ _ _ _ _ _ _ c.requires.above c.requires.live named _
-    (λ s. sym (c.in-Ok.ensures.0 (with_all s (g.P.Pages.content c.args.store.now) c.args.vmos.now (spaces_of (regions_of c.args.regions.now) (table_of c.args.maps.now))) name named)) c.in-Ok.ensures.1 _ _ _ (rw c.piece_at-piece.ensures at c.in-Ok-map_at.ensures.puts)
+    (λ s. sym (c.in-Ok.ensures.0 (with_all s (g.P.PageStore.content c.args.store.now) c.args.vmos.now (spaces_of (regions_of c.args.regions.now) (table_of c.args.maps.now))) name named)) c.in-Ok.ensures.1 _ _ _ (rw c.piece_at-piece.ensures at c.in-Ok-map_at.ensures.puts)
 
 pub returns-in-Err-map_at-clause-does : goal.returns-in-Err-map_at-clause-does
 returns-in-Err-map_at-clause-does g c = rw (c.in-Err-map_at.ensures.puts.0, c.in-Err-map_at.ensures.puts.1, c.in-Err-map_at.ensures.puts.2) (λ name named. record {
   step = λ s well.
       lacks_step _ _ _ _ _ _ _ _ _ _ c.requires.above c.requires.live named _
-      (sym (c.in-Ok.ensures.0 (with_all s (g.P.Pages.content c.args.store.now) c.args.vmos.now (spaces_of (regions_of c.args.regions.now) (table_of c.args.maps.now))) name named)) c.in-Ok.ensures.1;
+      (sym (c.in-Ok.ensures.0 (with_all s (g.P.PageStore.content c.args.store.now) c.args.vmos.now (spaces_of (regions_of c.args.regions.now) (table_of c.args.maps.now))) name named)) c.in-Ok.ensures.1;
   counted = λ s well. well.counted;
 })
 
 pub returns-in-Ok-map_at-clause-places : goal.returns-in-Ok-map_at-clause-places
 returns-in-Ok-map_at-clause-places g c = λ on.
-    let old = (with_all c.requires.well.rest (g.P.Pages.content c.args.store.now) c.args.vmos.now (spaces_of (regions_of c.args.regions.now) (table_of c.args.maps.now))) in
+    let old = (with_all c.requires.well.rest (g.P.PageStore.content c.args.store.now) c.args.vmos.now (spaces_of (regions_of c.args.regions.now) (table_of c.args.maps.now))) in
     let good = c.requires.well.well.good.spaces.regions in
     let apart = placed_apart old c.args.request.region c.args.request.offset (record { 0 = c.requires.named.0 }) c.args.request.vmo_offset c.args.request.len c.args.request.perm c.args.request.flags _ _
     c.requires.above c.requires.live c.requires.named.1 _ (sym (c.in-Ok.ensures.0 old (record { 0 = c.requires.named.0 }) c.requires.named.1)) c.in-Ok.ensures.1 in

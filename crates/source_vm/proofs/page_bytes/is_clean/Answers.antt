@@ -1,7 +1,7 @@
 use Rattle.std.proofs.Common.{◌∙◌, sym, ap, List, ℕ, arith}
 use Rattle.std.specs.Prelude.{nat_eq}
 use Rattle.std.specs.Cmp.Lexicographic.{pointwise}
-use Rattle.pages.proofs.LookLaws.{zero_frame, held_frame}
+use Rattle.page_store.proofs.LookLaws.{zero_frame, held_frame}
 use Rattle.source_vm.proofs.FillingLaws.{clean-zero, clean-held, read_whole}
 use Rattle.source_vm.proofs.page_bytes.is_clean.Goals as goal
 

@@ -1,5 +1,5 @@
 use Rattle.std.proofs.Common.{◌∙◌, sym, arith}
-use Rattle.pages.proofs.LookLaws.{zero_frame, held_frame}
+use Rattle.page_store.proofs.LookLaws.{zero_frame, held_frame}
 use Rattle.source_vm.specs.Table.{backings_of}
 use Rattle.source_vm.proofs.FillingLaws.{read_whole, text-held, text-free}
 use Rattle.source_vm.proofs.page_bytes.load_end.Goals as goal

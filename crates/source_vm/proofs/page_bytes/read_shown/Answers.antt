@@ -1,6 +1,6 @@
 use Rattle.std.proofs.Common.{◌∙◌, sym, ap, take, drop, length, true, false, List, ℕ, arith}
 use Rattle.page_store.proofs.PartLaws.{part_of_zeros}
-use Rattle.pages.proofs.LookLaws.{zero_frame, held_frame}
+use Rattle.page_store.proofs.LookLaws.{zero_frame, held_frame}
 use Rattle.source_vm.specs.Pages.{page_at}
 use Rattle.source_vm.specs.Table.{backings_of, loose_links_of}
 use Rattle.source_model.proofs.FillingLaws.{absent-held}

@@ -2,7 +2,7 @@ use Rattle.std.proofs.Common.{◌∙◌, sym, ap, arith}
 use Rattle.std.specs.Prelude.{is_some}
 use Rattle.vm_base.proofs.EntryLaws.{some_is, none_is}
 use Rattle.vm_model.proofs.ContentLaws.{pages_of_le}
-use Rattle.pages.proofs.LookLaws.{is_held_frame}
+use Rattle.page_store.proofs.LookLaws.{is_held_frame}
 use Rattle.source_model.proofs.LinkLaws.{below-held, below-seen, below-past, below-unlinked}
 use Rattle.source_vm.specs.Table.{loose_links_of}
 use Rattle.source_vm.proofs.walk.below.Goals as goal

@@ -1,5 +1,5 @@
 use Rattle.std.proofs.Common.{◌∙◌, sym}
-use Rattle.pages.proofs.LookLaws.{zero_frame, held_frame}
+use Rattle.page_store.proofs.LookLaws.{zero_frame, held_frame}
 use Rattle.source_model.proofs.FillingLaws.{absent-held}
 use Rattle.source_vm.specs.Table.{backings_of}
 use Rattle.source_vm.proofs.EndLaws.{absent-unheld}

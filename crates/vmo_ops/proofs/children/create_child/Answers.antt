@@ -16,5 +16,5 @@ returns-in-Slice-clause-step g c = λ rest parent named.
 
 pub returns-in-Reference-clause-step : goal.returns-in-Reference-clause-step
 returns-in-Reference-clause-step g c = λ rest parent named.
-    rw c.in-Reference.is (c.reference.ensures.step (g.P.Pages.content c.args.store.now)
+    rw c.in-Reference.is (c.reference.ensures.step (g.P.PageStore.content c.args.store.now)
     (record rest { pins = pins_of c.args.pins.now }) parent named)

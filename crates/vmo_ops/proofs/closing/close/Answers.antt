@@ -8,13 +8,13 @@ use Rattle.vmo_ops.proofs.closing.close.Goals as goal
 pub drop_gone-requires : goal.drop_gone-requires
 drop_gone-requires g c =
     let found = some_is _ c.requires.named in
-    leaving_vmo _ _ _ _ _ (g.P.Pages.content c.args.store.now) _ (name_vmo _ _ found.0 c.requires.parts.1.good found.1)
+    leaving_vmo _ _ _ _ _ (g.P.PageStore.content c.args.store.now) _ (name_vmo _ _ found.0 c.requires.parts.1.good found.1)
     (c.close.ensures.vmo found.0 found.1)
 
 pub returns-clause-step : goal.returns-clause-step
 returns-clause-step g c = λ rest counted.
-    let s = with_vmos rest (g.P.Pages.content c.args.store.now) c.args.vmos.now in
-    let d = g.P.Pages.content c.drop_gone.new.store in
+    let s = with_vmos rest (g.P.PageStore.content c.args.store.now) c.args.vmos.now in
+    let d = g.P.PageStore.content c.drop_gone.new.store in
     let found = some_is _ c.requires.named in
     let gone = settled_pruned s (unnamed s c.args.name.0) _ counted.good
     (LoosensAt-unnamed s c.args.name.0 found.0 counted.good found.1) _ c.close.ensures.names _ (counted.counted _) _ _

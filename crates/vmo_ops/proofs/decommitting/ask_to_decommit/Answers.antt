@@ -14,18 +14,18 @@ place_in_vmo-requires-clause-inside g c = named_inside _ _ c.requires.parts.good
 
 pub returns-then-not-t : goal.returns-then-not-t
 returns-then-not-t g c = λ rest name named.
-    let s = with_tables rest (g.P.Pages.content c.args.store.now) c.args.vmos.now c.args.pins.now in
+    let s = with_tables rest (g.P.PageStore.content c.args.store.now) c.args.vmos.now c.args.pins.now in
     by_name s name.0 _ named (decommit_rows s c.args.offset c.args.len) _ (hit _ _ _ (ap not c.if-not-t.true))
 
 pub returns-then-not-is_whole : goal.returns-then-not-is_whole
 returns-then-not-is_whole g c = λ rest name named.
-    let s = with_tables rest (g.P.Pages.content c.args.store.now) c.args.vmos.now c.args.pins.now in
+    let s = with_tables rest (g.P.PageStore.content c.args.store.now) c.args.vmos.now c.args.pins.now in
     by_name s name.0 _ named (decommit_rows s c.args.offset c.args.len) _
     (skip _ _ _ _ (ap not c.if-not-t.false) (hit _ _ _ (ap not (sym c.is_whole.ensures ∙ c.if-not-is_whole.true))))
 
 pub returns-then-not-may_decommit : goal.returns-then-not-may_decommit
 returns-then-not-may_decommit g c = λ rest name named.
-    let s = with_tables rest (g.P.Pages.content c.args.store.now) c.args.vmos.now c.args.pins.now in
+    let s = with_tables rest (g.P.PageStore.content c.args.store.now) c.args.vmos.now c.args.pins.now in
     let t = c.args.t.now in
     by_name s name.0 _ named (decommit_rows s c.args.offset c.args.len) _
     (skip _ _ _ _ (ap not c.if-not-t.false) (skip _ _ _ _ (ap not (sym c.is_whole.ensures ∙ c.if-not-is_whole.false))
@@ -34,7 +34,7 @@ returns-then-not-may_decommit g c = λ rest name named.
 
 pub returns-in_default : goal.returns-in_default
 returns-in_default g c = λ rest name named.
-    let s = with_tables rest (g.P.Pages.content c.args.store.now) c.args.vmos.now c.args.pins.now in
+    let s = with_tables rest (g.P.PageStore.content c.args.store.now) c.args.vmos.now c.args.pins.now in
     let t = c.args.t.now in
     by_name s name.0 _ named (decommit_rows s c.args.offset c.args.len) _
     (skip _ _ _ _ (ap not c.if-not-t.false) (skip _ _ _ _ (ap not (sym c.is_whole.ensures ∙ c.if-not-is_whole.false))
@@ -44,7 +44,7 @@ returns-in_default g c = λ rest name named.
 
 pub returns-then-pinned : goal.returns-then-pinned
 returns-then-pinned g c = λ rest name named.
-    let s = with_tables rest (g.P.Pages.content c.args.store.now) c.args.vmos.now c.args.pins.now in
+    let s = with_tables rest (g.P.PageStore.content c.args.store.now) c.args.vmos.now c.args.pins.now in
     let t = c.args.t.now in
     let placed = c.in-Some.ensures.some in
     by_name s name.0 _ named (decommit_rows s c.args.offset c.args.len) _
@@ -60,7 +60,7 @@ returns g c =
     let placed = c.in-Some.ensures.some in
     let whole = whole_parts c.args.offset c.args.len (sym c.is_whole.ensures ∙ c.if-not-is_whole.false) in (
       λ rest name named.
-          let s = with_tables rest (g.P.Pages.content c.args.store.now) c.args.vmos.now c.args.pins.now in
+          let s = with_tables rest (g.P.PageStore.content c.args.store.now) c.args.vmos.now c.args.pins.now in
           by_name s name.0 _ named (decommit_rows s c.args.offset c.args.len) _
           (skip _ _ _ _ (ap not c.if-not-t.false) (skip _ _ _ _ (ap not (sym c.is_whole.ensures ∙ c.if-not-is_whole.false))
           (skip _ _ _ _ (ap not (sym (of_lineage s t.koid.0 _ (λ (l : Lineage). may_decommit s.names s.lineage t.koid.0 l)

@@ -9,18 +9,18 @@ use Rattle.vmo_ops.proofs.ZeroLaws.{wants_held}
 use Rattle.vmo_ops.proofs.decommitting.decommit_touching.Goals as goal
 
 pub returns-in-Err-clause-step : goal.returns-in-Err-clause-step
-returns-in-Err-clause-step g c = λ s name named. Step-refused (with_tables s (g.P.Pages.content c.args.store.now) c.args.vmos.now c.args.pins.now) _ _ (c.in-Err.ensures s name named)
+returns-in-Err-clause-step g c = λ s name named. Step-refused (with_tables s (g.P.PageStore.content c.args.store.now) c.args.vmos.now c.args.pins.now) _ _ (c.in-Err.ensures s name named)
 
 pub returns-in_default-clause-step : goal.returns-in_default-clause-step
 returns-in_default-clause-step g c = λ rest name named.
-    let s = with_tables rest (g.P.Pages.content c.args.store.now) c.args.vmos.now c.args.pins.now in
+    let s = with_tables rest (g.P.PageStore.content c.args.store.now) c.args.vmos.now c.args.pins.now in
     let some : 0 < held_touched s.content c.args.t.now.koid.0 c.in-Ok.at c.args.len = c.in_default.ensures.err in
     rw c.room_to_zero.ensures.same (Step-lacks s _ (sym (c.in-Ok.ensures.0 rest name named))
     (wants_held s name.0 c.args.offset c.args.len c.args.t.now c.in-Ok.at named c.in-Ok.ensures.1.place some))
 
 pub returns-clause-step : goal.returns-clause-step
 returns-clause-step g c = λ rest name named.
-    let s = with_tables rest (g.P.Pages.content c.args.store.now) c.args.vmos.now c.args.pins.now in
+    let s = with_tables rest (g.P.PageStore.content c.args.store.now) c.args.vmos.now c.args.pins.now in
     decommit_done s name.0 c.args.t.now named name refl c.args.offset c.args.len c.in-Ok.at c.in-Ok.ensures.1 (sym (c.in-Ok.ensures.0 rest name named)) _ (rw c.room_to_zero.ensures.same at c.clear_pages.ensures)
 
 pub rows_to_clear-rows-requires-clause-vmo : goal.rows_to_clear-rows-requires-clause-vmo

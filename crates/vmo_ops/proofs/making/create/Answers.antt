@@ -5,8 +5,8 @@ use Rattle.vmo_ops.proofs.AskLaws.{Step-refused}
 use Rattle.vmo_ops.proofs.making.create.Goals as goal
 
 pub returns-in-Err-clause-step : goal.returns-in-Err-clause-step
-returns-in-Err-clause-step g c = λ s. Step-refused (with_vmos s (g.P.Pages.content c.args.store.now) c.args.vmos.now) _ _
-    (c.in-Err.ensures (with_vmos s (g.P.Pages.content c.args.store.now) c.args.vmos.now) c.args.name c.args.resizable c.requires.closed)
+returns-in-Err-clause-step g c = λ s. Step-refused (with_vmos s (g.P.PageStore.content c.args.store.now) c.args.vmos.now) _ _
+    (c.in-Err.ensures (with_vmos s (g.P.PageStore.content c.args.store.now) c.args.vmos.now) c.args.name c.args.resizable c.requires.closed)
 
 pub returns-in_default-clause-step : goal.returns-in_default-clause-step
 unfolding with_vmo

@@ -56,14 +56,14 @@ pub add_pin-requires-clause-koid : goal.add_pin-requires-clause-koid
 add_pin-requires-clause-koid g c = named_known _ _ c.requires.parts.1.good c.requires.named
 
 pub add_pin-requires-clause-few : goal.add_pin-requires-clause-few
-add_pin-requires-clause-few g c = few_keepers (with_tables c.requires.parts.0 (g.P.Pages.content c.args.store.now) c.args.vmos.now c.args.pins.now) c.args.vmos.now _ c.requires.parts.1.counted
+add_pin-requires-clause-few g c = few_keepers (with_tables c.requires.parts.0 (g.P.PageStore.content c.args.store.now) c.args.vmos.now c.args.pins.now) c.args.vmos.now _ c.requires.parts.1.counted
 
 pub returns-clause-step : goal.returns-clause-step
 returns-clause-step g c = λ s name named.
     let added = c.add_pin.ensures in
     rw (added.names, added.lineage, added.pins, c.room_to_pin.ensures.pins) (
-    pinned_step (with_tables s (g.P.Pages.content c.args.store.now) c.args.vmos.now c.args.pins.now) c.args.pin name c.args.offset c.args.len _ named c.requires.free
-    _ _ (g.P.Pages.content c.add_pin.new.store) _ c.in-Ok.ensures.ok (rw c.room_to_pin.ensures.content at added.owns) added.numbers
+    pinned_step (with_tables s (g.P.PageStore.content c.args.store.now) c.args.vmos.now c.args.pins.now) c.args.pin name c.args.offset c.args.len _ named c.requires.free
+    _ _ (g.P.PageStore.content c.add_pin.new.store) _ c.in-Ok.ensures.ok (rw c.room_to_pin.ensures.content at added.owns) added.numbers
     )
 
 pub returns-clause-counted : goal.returns-clause-counted
@@ -73,12 +73,12 @@ returns-clause-counted g c = λ s counted.
 
 pub returns-in-Err-clause-step : goal.returns-in-Err-clause-step
 returns-in-Err-clause-step g c = λ s name named.
-    Step-refused (with_tables s (g.P.Pages.content c.args.store.now) c.args.vmos.now c.args.pins.now) _ _
-    (c.in-Err.ensures.refusal c.args.pin (pins_of c.args.pins.now) c.requires.free (with_tables s (g.P.Pages.content c.args.store.now) c.args.vmos.now c.args.pins.now) name named)
+    Step-refused (with_tables s (g.P.PageStore.content c.args.store.now) c.args.vmos.now c.args.pins.now) _ _
+    (c.in-Err.ensures.refusal c.args.pin (pins_of c.args.pins.now) c.requires.free (with_tables s (g.P.PageStore.content c.args.store.now) c.args.vmos.now c.args.pins.now) name named)
 
 pub returns-in_default-clause-step : goal.returns-in_default-clause-step
 returns-in_default-clause-step g c = λ s name named.
-    let old = with_tables s (g.P.Pages.content c.args.store.now) c.args.vmos.now c.args.pins.now in
+    let old = with_tables s (g.P.PageStore.content c.args.store.now) c.args.vmos.now c.args.pins.now in
     rw (c.room_to_pin.ensures.content, c.room_to_pin.ensures.pins)
     (Step-lacks old _ (sym (c.in-Ok.ensures.refusal c.args.pin (pins_of c.args.pins.now) c.requires.free old name named)) refl)
 

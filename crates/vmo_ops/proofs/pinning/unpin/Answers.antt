@@ -20,13 +20,13 @@ release-requires g c = record {
 
 pub drop_gone-requires : goal.drop_gone-requires
 drop_gone-requires g c =
-    leaving_vmo _ _ _ _ _ (g.P.Pages.content c.args.store.now) _
+    leaving_vmo _ _ _ _ _ (g.P.PageStore.content c.args.store.now) _
     (pin_vmo _ _ _ c.requires.parts.1.good (sym c.remove.ensures.pin)) c.release.ensures.vmo
 
 pub returns-clause-step : goal.returns-clause-step
 returns-clause-step g c = λ rest is.
-    let s = with_tables rest (g.P.Pages.content c.args.store.now) c.args.vmos.now c.args.pins.now in
-    let d = g.P.Pages.content c.drop_gone.new.store in
+    let s = with_tables rest (g.P.PageStore.content c.args.store.now) c.args.vmos.now c.args.pins.now in
+    let d = g.P.PageStore.content c.drop_gone.new.store in
     let held = sym c.remove.ensures.pin in
     let v = c.remove.result.0.0 in
     let low = (is.good.pins c.args.pin.0 (pin_of c.remove.result) held).0 in

@@ -3,4 +3,4 @@ use Rattle.vmo_ops.proofs.AskLaws.{Step-refused}
 use Rattle.vmo_ops.proofs.reading.read_into.Goals as goal
 
 pub returns-in-Err : goal.returns-in-Err
-returns-in-Err g c = λ s name named. Step-refused (with_content (g.P.Pages.content c.args.store.now) s) _ _ (c.in-Err.ensures s name named)
+returns-in-Err g c = λ s name named. Step-refused (with_content (g.P.PageStore.content c.args.store.now) s) _ _ (c.in-Err.ensures s name named)

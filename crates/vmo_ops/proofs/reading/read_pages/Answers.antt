@@ -9,4 +9,4 @@ pub loop-page-preserved : goal.loop-page-preserved
 loop-page-preserved g c =
     let part = c.part_in_page-part.ensures in
     read_step _ _ _ c.requires.good (omega arith) (omega (arith, c.touched_pages-first.ensures.end)) part.at part.from
-    part.until part.within c.loop-page.auto.out c.read.auto.out c.read.ensures c.loop-page.invariant
+    part.until part.within c.loop-page.auto.out c.read_page.auto.out c.read_page.ensures c.loop-page.invariant

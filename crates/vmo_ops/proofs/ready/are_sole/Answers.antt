@@ -5,4 +5,4 @@ use Rattle.vmo_ops.proofs.ready.are_sole.Goals as goal
 pub returns-clause-err : goal.returns-clause-err
 returns-clause-err g c =
     let pages = c.args.pages in
-    need_any (g.P.Pages.content c.args.store.now) c.args.v.0 pages.first (pages.end - pages.first) (omega (arith, c.need_of.ensures, c.if-need_of-eq0.false))
+    need_any (g.P.PageStore.content c.args.store.now) c.args.v.0 pages.first (pages.end - pages.first) (omega (arith, c.need_of.ensures, c.if-need_of-eq0.false))

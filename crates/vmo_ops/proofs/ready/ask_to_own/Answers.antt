@@ -12,16 +12,16 @@ owned offset len t = touched (t.first * PAGE + offset) len
 
 pub returns-in-Err-clause-refusal : goal.returns-in-Err-clause-refusal
 returns-in-Err-clause-refusal g c = λ rest name named.
-    change_barred (with_content (g.P.Pages.content c.args.store.now) rest) name.0 _ named c.args.offset c.args.len (owned c.args.offset c.args.len) _ c.in-Err.ensures.err
+    change_barred (with_content (g.P.PageStore.content c.args.store.now) rest) name.0 _ named c.args.offset c.args.len (owned c.args.offset c.args.len) _ c.in-Err.ensures.err
 
 pub returns-in-None-clause-refusal : goal.returns-in-None-clause-refusal
 returns-in-None-clause-refusal g c = λ rest name named.
     let placed = c.in-Ok.ensures.ok in
-    change_lacks (with_content (g.P.Pages.content c.args.store.now) rest) name.0 _ named c.args.offset c.args.len (owned c.args.offset c.args.len)
+    change_lacks (with_content (g.P.PageStore.content c.args.store.now) rest) name.0 _ named c.args.offset c.args.len (owned c.args.offset c.args.len)
     placed.0 placed.1.range _ (ap (λ (a : ℕ). touched a c.args.len) (sym placed.1.place) ∙ c.touched_by-pages.ensures.row) c.in-None.ensures.none
 
 pub returns-in-Some-clause-refusal : goal.returns-in-Some-clause-refusal
 returns-in-Some-clause-refusal g c = λ rest name named.
     let placed = c.in-Ok.ensures.ok in
-    change_fits (with_content (g.P.Pages.content c.args.store.now) rest) name.0 _ named c.args.offset c.args.len (owned c.args.offset c.args.len)
+    change_fits (with_content (g.P.PageStore.content c.args.store.now) rest) name.0 _ named c.args.offset c.args.len (owned c.args.offset c.args.len)
     placed.0 placed.1.range _ (ap (λ (a : ℕ). touched a c.args.len) (sym placed.1.place) ∙ c.touched_by-pages.ensures.row) c.in-Some.ensures.some.1

@@ -10,6 +10,6 @@ returns-then-are_ample-clause-some g c =
       omega (
         arith,
         c.are_ample.ensures.free c.if-are_ample.true,
-        need-most (g.P.Pages.content c.args.store.now) c.args.v.0 pages.first (pages.end - pages.first),
+        need-most (g.P.PageStore.content c.args.store.now) c.args.v.0 pages.first (pages.end - pages.first),
       ),
     )

@@ -10,7 +10,7 @@ use Rattle.vmo_ops.proofs.snapshots.ask_to_snapshot.Goals as goal
 
 pub count_copies-copied-requires : goal.count_copies-copied-requires
 count_copies-copied-requires g c =
-    omega (arith, c.seen_part-first.ensures.inside, pages_of_le (g.P.Pages.content c.args.store.now) c.args.t.now.koid.0 c.requires.good)
+    omega (arith, c.seen_part-first.ensures.inside, pages_of_le (g.P.PageStore.content c.args.store.now) c.args.t.now.koid.0 c.requires.good)
 
 pub returns-then-is_misasked-clause-refusal : goal.returns-then-is_misasked-clause-refusal
 returns-then-is_misasked-clause-refusal g c = λ s name parent named closed.
@@ -23,7 +23,7 @@ returns-in_default-clause-refusal g c = λ s name parent named closed.
 
 pub returns-then-copied-from-clause-refusal : goal.returns-then-copied-from-clause-refusal
 returns-then-copied-from-clause-refusal g c = λ rest name parent named closed.
-    let s = with_pins (g.P.Pages.content c.args.store.now) (pins_of c.args.pins.now) rest in
+    let s = with_pins (g.P.PageStore.content c.args.store.now) (pins_of c.args.pins.now) rest in
     let seen = c.seen_part-first.ensures in
     snapshot_rows s name parent _ c.args.offset c.args.size c.args.resizable c.args.no_write _ _
     (asked-from {s = s} named closed (sym c.is_misasked.ensures ∙ c.if-is_misasked.false) c.in-Some.ensures.some c.page_of.ensures seen.seen seen.first) true
@@ -31,7 +31,7 @@ returns-then-copied-from-clause-refusal g c = λ rest name parent named closed.
 
 pub returns-clause-refusal : goal.returns-clause-refusal
 returns-clause-refusal g c = λ rest name parent named closed.
-    let s = with_pins (g.P.Pages.content c.args.store.now) (pins_of c.args.pins.now) rest in
+    let s = with_pins (g.P.PageStore.content c.args.store.now) (pins_of c.args.pins.now) rest in
     let seen = c.seen_part-first.ensures in
     snapshot_rows s name parent _ c.args.offset c.args.size c.args.resizable c.args.no_write _ _
     (asked-from {s = s} named closed (sym c.is_misasked.ensures ∙ c.if-is_misasked.false) c.in-Some.ensures.some c.page_of.ensures seen.seen seen.first) false

@@ -30,13 +30,13 @@ enter-requires-clause-parent g c =
 -- it is refused
 pub returns-in-Err-clause-step : goal.returns-in-Err-clause-step
 returns-in-Err-clause-step g c = λ rest parent named.
-    let s = with_tables rest (g.P.Pages.content c.args.store.now) c.args.vmos.now c.args.pins.now in
+    let s = with_tables rest (g.P.PageStore.content c.args.store.now) c.args.vmos.now c.args.pins.now in
     Step-refused s _ _ (c.in-Err.ensures.refusal s c.args.name parent named c.requires.closed)
 
 -- the host has too little memory for the name
 pub returns-in_default-clause-step : goal.returns-in_default-clause-step
 returns-in_default-clause-step g c = λ rest parent named.
-    let s = with_tables rest (g.P.Pages.content c.args.store.now) c.args.vmos.now c.args.pins.now in
+    let s = with_tables rest (g.P.PageStore.content c.args.store.now) c.args.vmos.now c.args.pins.now in
     let part = c.in-Ok.ensures.ok in
     rw (c.reserve.ensures.names, c.reserve.ensures.lineage)
     (copies-host (asked-of {s = s} part named c.requires.closed) (omega (arith, part.copies, part.free)))
@@ -44,7 +44,7 @@ returns-in_default-clause-step g c = λ rest parent named.
 -- or for the snapshot
 pub returns-in_default-snapshot_owned-clause-step : goal.returns-in_default-snapshot_owned-clause-step
 returns-in_default-snapshot_owned-clause-step g c = λ rest parent named.
-    let s = with_tables rest (g.P.Pages.content c.args.store.now) c.args.vmos.now c.args.pins.now in
+    let s = with_tables rest (g.P.PageStore.content c.args.store.now) c.args.vmos.now c.args.pins.now in
     let part = c.in-Ok.ensures.ok in
     rw (c.reserve.ensures.names, c.reserve.ensures.lineage, c.in_default-snapshot_owned.ensures.err)
     (copies-host (asked-of {s = s} part named c.requires.closed) (omega (arith, part.copies, part.free)))
@@ -52,7 +52,7 @@ returns-in_default-snapshot_owned-clause-step g c = λ rest parent named.
 -- the snapshot is there
 pub returns-clause-step : goal.returns-clause-step
 returns-clause-step g c = λ rest parent named.
-    let s = with_tables rest (g.P.Pages.content c.args.store.now) c.args.vmos.now c.args.pins.now in
+    let s = with_tables rest (g.P.PageStore.content c.args.store.now) c.args.vmos.now c.args.pins.now in
     let part = c.in-Ok.ensures.ok in
     copies-entered (asked-of {s = s} part named c.requires.closed) (omega (arith, part.copies, part.free))
     part.whole c.in-Ok-snapshot_owned.ensures.koid c.in-Ok-snapshot_owned.ensures.ok

@@ -8,15 +8,15 @@ use Rattle.vmo_ops.proofs.writing.write_pages.Goals as goal
 pub loop-page-init : goal.loop-page-init
 loop-page-init g c = search (rules, IsOwning-start)
 
-pub write_part-requires-clause-room : goal.write_part-requires-clause-room
-write_part-requires-clause-room g c = IsOwning-room c.loop-page.invariant c.loop-page-test.true
+pub write_page-requires-clause-room : goal.write_page-requires-clause-room
+write_page-requires-clause-room g c = IsOwning-room c.loop-page.invariant c.loop-page-test.true
 
 pub loop-page-preserved : goal.loop-page-preserved
 loop-page-preserved g c =
     let part = c.part_in_page-part.ensures in
-    IsOwning-written _ _ c.loop-page.invariant c.loop-page-test.true (omega arith) c.write_part.ensures.writes part.at
+    IsOwning-written _ _ c.loop-page.invariant c.loop-page-test.true (omega arith) c.write_page.ensures.writes part.at
     (part_bytes-slice c.args.offset (length c.args.bytes.now) c.loop-page.page _ _ part.from part.until _ refl)
-    c.write_part.ensures.spare
+    c.write_page.ensures.spare
 
 pub returns : goal.returns
 unfolding pieces

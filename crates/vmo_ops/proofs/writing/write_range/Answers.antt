@@ -7,8 +7,8 @@ use Rattle.vmo_ops.proofs.PartLaws.{part_at-one, part_bytes-one}
 use Rattle.vmo_ops.proofs.WriteLaws.{writing, IsOwning-written}
 use Rattle.vmo_ops.proofs.writing.write_range.Goals as goal
 
-pub write_part-requires-clause-room : goal.write_part-requires-clause-room
-write_part-requires-clause-room g c =
+pub write_page-requires-clause-room : goal.write_page-requires-clause-room
+write_page-requires-clause-room g c =
     let pages = c.requires.touched in
     let start = IsOwning-start (writing c.args.v.0 c.args.offset c.args.bytes.now) c.args.v.0 _ _ _ _ _ _
     c.requires.good c.requires.inside pages.end pages.order pages.row c.requires.room c.requires.free in
@@ -30,6 +30,6 @@ returns-then-end-first-eq1 g c =
     c.requires.inside pages.end pages.order pages.row c.requires.room c.requires.free in
     IsOwning-end
     (IsOwning-written c.args.offset bytes start (omega (arith, c.if-end-first-eq1.true)) (omega (arith, pages.first))
-    c.write_part.ensures.writes (part_at-one c.args.offset (length bytes) page pages.first inside)
-    (part_bytes-one c.args.offset (length bytes) page pages.first inside bytes refl) c.write_part.ensures.spare)
+    c.write_page.ensures.writes (part_at-one c.args.offset (length bytes) page pages.first inside)
+    (part_bytes-one c.args.offset (length bytes) page pages.first inside bytes refl) c.write_page.ensures.spare)
     (omega (arith, c.if-end-first-eq1.true)) refl

@@ -16,13 +16,13 @@ owned d pins offset len t = owned_by_zero d t.koid.0 (is_pinned pins t.koid.0) (
 
 pub returns-in-Err : goal.returns-in-Err
 returns-in-Err g c = λ rest name named.
-    let d = g.P.Pages.content c.args.store.now in
+    let d = g.P.PageStore.content c.args.store.now in
     let pins = pins_of c.args.pins.now in
     change_barred (with_pins d pins rest) name.0 _ named c.args.offset c.args.len (owned d pins c.args.offset c.args.len) _ c.in-Err.ensures.err
 
 pub returns-in-None : goal.returns-in-None
 returns-in-None g c = λ rest name named.
-    let d = g.P.Pages.content c.args.store.now in
+    let d = g.P.PageStore.content c.args.store.now in
     let pins = pins_of c.args.pins.now in
     let placed = c.in-Ok.ensures.ok in
     change_lacks (with_pins d pins rest) name.0 _ named c.args.offset c.args.len (owned d pins c.args.offset c.args.len)
@@ -30,7 +30,7 @@ returns-in-None g c = λ rest name named.
 
 pub returns-in-Some : goal.returns-in-Some
 returns-in-Some g c =
-    let d = g.P.Pages.content c.args.store.now in
+    let d = g.P.PageStore.content c.args.store.now in
     let pins = pins_of c.args.pins.now in
     let placed = c.in-Ok.ensures.ok in (
       λ rest name named.

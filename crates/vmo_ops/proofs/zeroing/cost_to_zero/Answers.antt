@@ -11,7 +11,7 @@ use Rattle.vmo_ops.proofs.zeroing.cost_to_zero.Goals as goal
 
 pub loop-page-preserved : goal.loop-page-preserved
 loop-page-preserved g c =
-    let content = g.P.Pages.content c.args.store.now in
+    let content = g.P.PageStore.content c.args.store.now in
     let next = c.in-Some.ensures in
     record {
       held = AreCounted-step (IsOfHeld-held content c.args.v.0) c.loop-page.invariant.held next
@@ -23,12 +23,12 @@ loop-page-preserved g c =
 
 pub returns-clause-held : goal.returns-clause-held
 returns-clause-held g c =
-    let of = IsOfHeld-held (g.P.Pages.content c.args.store.now) c.args.v.0 in
+    let of = IsOfHeld-held (g.P.PageStore.content c.args.store.now) c.args.v.0 in
     let all = AreCounted-end of c.loop-page.invariant.held c.in_default.ensures in
     grind (arith, all, held_touched-count)
 
 pub returns-clause-owned : goal.returns-clause-owned
 returns-clause-owned g c =
-    let of = IsOfHeld-takes (g.P.Pages.content c.args.store.now) c.args.v.0 _ c.args.offset c.args.len in
+    let of = IsOfHeld-takes (g.P.PageStore.content c.args.store.now) c.args.v.0 _ c.args.offset c.args.len in
     let all = AreCounted-end of c.loop-page.invariant.owned c.in_default.ensures in
     grind (arith, all, need-zero)

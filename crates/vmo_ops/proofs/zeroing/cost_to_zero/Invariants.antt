@@ -8,7 +8,7 @@ use Rattle.vmo_ops.proofs.zeroing.cost_to_zero.Given as goal
 
 abbrev pub invariant-loop-page : goal.invariant-loop-page
 invariant-loop-page g l =
-    let c = g.P.Pages.content l.store in
+    let c = g.P.PageStore.content l.store in
     record {
       held : AreCounted (is_held c l.v.0) l.first l.from l.end l.cost.held;
       owned : AreCounted (takes_frame l.v.0 (is_pinned (pins_of l.pins) l.v.0) l.offset l.len c) l.first l.from l.end

@@ -6,8 +6,8 @@ use Rattle.vmo_ops.proofs.zeroing.zero_pages.Given as goal
 
 abbrev pub invariant-loop-v : goal.invariant-loop-v
 invariant-loop-v g l =
-    IsZeroing l.v.0 (is_pinned (pins_of l.pins) l.v.0) l.offset l.len (g.P.Pages.content l.fn.store)
-    (g.P.Pages.content l.store) l.from l.end (g.P.Pages.spare l.store)
+    IsZeroing l.v.0 (is_pinned (pins_of l.pins) l.v.0) l.offset l.len (g.P.PageStore.content l.fn.store)
+    (g.P.PageStore.content l.store) l.from l.end (g.P.PageStore.spare l.store)
 
 abbrev pub decreases-loop-v : goal.decreases-loop-v
 decreases-loop-v g l = l.end - l.from

@@ -2,7 +2,7 @@ use Rattle.std.proofs.Common.{sym, ◌∙◌}
 use Rattle.mapping_set.specs.Backed.{AreBacked}
 use Rattle.mapping_set.specs.Tables.{table_of}
 use Rattle.vmo_ops.specs.Targets.{AreTogether}
-use Rattle.checker_pages.specs.Eager.{eager_content}
+use Rattle.page_store.specs.Flat.{flat_content}
 use Rattle.machine.specs.declared.groups.Group.{Group}
 use Rattle.machine.specs.Machine.{state_of}
 use Rattle.checker_machine.specs.Machine.{CheckerParts, checker_machine_of}
@@ -11,10 +11,10 @@ use Rattle.checker_machine.proofs.WantLaws.{lack_wants, none_lacks, parts_of}
 use Rattle.checker_machine.proofs.checker_machine.CheckerMachine.may_want_memory.Goals as goal
 
 -- what the questions require
-together : (m : CheckerParts) → AreSound m → AreTogether (eager_content m.pages) m.machine.vmos m.machine.pins
-together m sound = record { rest = state_of (eager_content m.pages) m.machine; good = sound.good.state }
+together : (m : CheckerParts) → AreSound m → AreTogether (flat_content m.pages) m.machine.vmos m.machine.pins
+together m sound = record { rest = state_of (flat_content m.pages) m.machine; good = sound.good.state }
 
-backed : (m : CheckerParts) → AreSound m → AreBacked (eager_content m.pages) (table_of m.machine.maps)
+backed : (m : CheckerParts) → AreSound m → AreBacked (flat_content m.pages) (table_of m.machine.maps)
 backed m sound = record { good = sound.good.state.content; vmos = sound.good.state.spaces.vmos }
 
 pub vmo_wants-requires-clause-parts : goal.vmo_wants-requires-clause-parts

@@ -28,4 +28,4 @@ pub returns : goal.returns
 unfolding checker_machine_of
 returns c =
     let s = (checker_machine_of (checker_parts_of c.self.inside)).state in
-    rw (← c.self.view_is) (frame_there s (s.pins c.args.pin.0) (pin_of (c.in-Some.koid, c.in-Some.first, c.in-Some.count)) c.args.at _ (rw c.pins.ensures at c.in-Some.ensures) c.if-at-count.false c.frame.ensures)
+    rw (← c.self.view_is) (frame_there s (s.pins c.args.pin.0) (pin_of (c.in-Some.koid, c.in-Some.first, c.in-Some.count)) c.args.at _ (rw c.pins.ensures at c.in-Some.ensures) c.if-at-count.false c.frame_at.ensures)

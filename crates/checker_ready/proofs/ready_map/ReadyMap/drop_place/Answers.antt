@@ -1,6 +1,6 @@
 use Rattle.std.proofs.Common.{ℕ, Option, None, ap, ◌∙◌, arith}
 use Rattle.pair_map.specs.Maps.{values_of}
-use Rattle.checker_pages.proofs.LinkLaws.{pair-here}
+use Rattle.page_store.proofs.LinkLaws.{pair-here}
 use Rattle.checker_ready.specs.declared.stamps.Kept.{Kept}
 use Rattle.checker_ready.specs.Notes.{notes_of}
 use Rattle.checker_ready.proofs.RowLaws.{rows-dropped, AreNotes-dropped}

@@ -4,7 +4,7 @@ use Rattle.fault.proofs.AskedLaws.{AreAsked-two}
 use Rattle.vm_model.proofs.PartLaws.{part_at-first, part_bytes-first, part_at-second, part_bytes-second}
 use Rattle.fault.proofs.ThroughLaws.{IsBetween, IsBetween-written, WritesSpace-two}
 use Rattle.vm_model.proofs.TouchedLaws.{touched-two}
-use Rattle.pages.proofs.NeedLaws.{first-free}
+use Rattle.page_store.proofs.NeedLaws.{first-free}
 use Rattle.fault.proofs.WritableLaws.{entry-found}
 use Rattle.fault.proofs.translations.Translations.write_both.Given.{Over}
 use Rattle.fault.proofs.translations.Translations.write_both.Goals as goal

@@ -1,7 +1,7 @@
 use Rattle.std.proofs.Common.{◌≡◌, Some}
 use Rattle.vm_model.specs.Contents.Zeroing.{zeroed}
 use Rattle.page_store.specs.Flat.{flat_of, flat_content}
-use Rattle.page_store.proofs.FlatLaws.{content-resized, IsFlat-resized, count_is, count_stays}
+use Rattle.page_store.proofs.VmoLaws.{content-resized, IsFlat-resized, count_is, count_stays}
 use Rattle.page_store.proofs.flat_store.FlatStorePageStore.set_count.Goals as goal
 
 pub replace-requires : goal.replace-requires

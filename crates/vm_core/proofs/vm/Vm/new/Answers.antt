@@ -1,4 +1,4 @@
-use Rattle.std.proofs.Common.{◌≡◌, ℕ, None, ap, ◌∙◌}
+use Rattle.std.proofs.Common.{◌≡◌, None, ap, ◌∙◌}
 use Rattle.fault.specs.Table.{translations_of}
 use Rattle.machine.proofs.StartLaws.{bare_machine-first}
 use Rattle.vm_core.proofs.StartLaws.{machine_of-bare, agrees_bare}

@@ -1,2 +1,0 @@
-pub mod Eager
-pub mod inside

@@ -1,5 +1,0 @@
-pub mod NameLaws
-pub mod LookLaws
-pub mod ChargeLaws
-pub mod NeedLaws
-pub mod HeldLaws
