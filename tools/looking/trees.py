@@ -8,7 +8,8 @@ from wording import Trouble
 from .clone_tree import nodes_of, tree_picture
 from .turns import TOP
 
-BUILT = TOP / "crates" / "vmotree" / "out" / "vmotree"
+# Where the program is installed, or where `rt ci` built it.
+BUILT = TOP / "vmotree" if (TOP / "installed").exists() else TOP / "crates" / "vmotree" / "out" / "vmotree"
 MOST_NODES = 200
 
 
