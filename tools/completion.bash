@@ -14,11 +14,11 @@ _vmosim() {
     if [ "$last" = --frames ]; then
         COMPREPLY=()
     elif [ -z "$verb" ] && [ "$COMP_CWORD" -eq 1 ]; then
-        _vmosim_offer "$verbs --proved --try --build --path --version --install --uninstall --help"
+        _vmosim_offer "$verbs --proved --try --build --path --tree --version --install --uninstall --help"
     elif [ -z "$verb" ] && [[ $last = --install || $last = --uninstall ]]; then
         _vmosim_offer '' -d
     elif [ -z "$verb" ]; then
-        case $last in --proved) _vmosim_offer "$verbs" ;; --try) _vmosim_offer "$verbs --path" ;; *) COMPREPLY=() ;; esac
+        case $last in --proved) _vmosim_offer "$verbs" ;; --try) _vmosim_offer "$verbs --path" ;; --tree) _vmosim_offer '--path' ;; *) COMPREPLY=() ;; esac
     elif [ "$verb" = work ]; then
         _vmosim_offer '--frames'
     elif [ "$last" = "$verb" ]; then

@@ -23,6 +23,7 @@ TOOLS = ("explain", "generate", "hunt", "look", "play", "shell", "transcript")
 UNNEEDED = ("browsing.py",)
 HOME, DOCUMENTS = "lib/vmosim", "share/doc/vmosim"
 LIST, FACTS = f"{HOME}/files", f"{HOME}/installed"
+# As tools/build_library names it.
 SONAME = "libvmosim.so.1"
 FILE, PROGRAM = 0o644, 0o755
 FAILED = 1
@@ -165,7 +166,9 @@ def left_out(built):
     if built.kind != "proved":
         yield "the proved program is not built" + ("; the same code compiled without its proof is installed" if built.program else ", nor the same code without its proof")
     if not built.tree:
-        yield "the program vmotree is not built; no tool draws clone trees"
+        yield "the program vmotree is not built ('./vmosim --tree' compiles it); no tool draws clone trees"
+    elif pathlib.Path(built.tree).parent.name == "tree":
+        yield "the program vmotree is installed as it was compiled without its proof"
     if not built.archive:
         yield "the library for C is not built (tools/build_library), so its header is left out too"
     elif not built.shared:
