@@ -14,9 +14,11 @@ _vmosim() {
     if [ "$last" = --frames ]; then
         COMPREPLY=()
     elif [ -z "$verb" ] && [ "$COMP_CWORD" -eq 1 ]; then
-        _vmosim_offer "$verbs --proved --try --build --path --version --help"
+        _vmosim_offer "$verbs --proved --try --build --path --tree --version --install --uninstall --help"
+    elif [ -z "$verb" ] && [[ $last = --install || $last = --uninstall ]]; then
+        _vmosim_offer '' -d
     elif [ -z "$verb" ]; then
-        case $last in --proved) _vmosim_offer "$verbs" ;; --try) _vmosim_offer "$verbs --path" ;; *) COMPREPLY=() ;; esac
+        case $last in --proved) _vmosim_offer "$verbs" ;; --try) _vmosim_offer "$verbs --path" ;; --tree) _vmosim_offer '--path' ;; *) COMPREPLY=() ;; esac
     elif [ "$verb" = work ]; then
         _vmosim_offer '--frames'
     elif [ "$last" = "$verb" ]; then
@@ -59,6 +61,6 @@ _vmosim_play() {
 }
 
 complete -o filenames -F _vmosim vmosim ./vmosim
-complete -o filenames -F _vmosim_look look tools/look
-complete -o filenames -F _vmosim_play play tools/play
-complete -o filenames -F _vmosim_shell shell tools/shell
+complete -o filenames -F _vmosim_look look tools/look vmosim-look
+complete -o filenames -F _vmosim_play play tools/play vmosim-play
+complete -o filenames -F _vmosim_shell shell tools/shell vmosim-shell

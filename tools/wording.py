@@ -22,12 +22,20 @@ class Trouble(Exception):
         return str(self.args[1])
 
 
+def called(tool):
+    """Returns what a tool is called: by its name on PATH if it is installed, and else by that in tools/."""
+    return f"vmosim-{tool}" if os.path.basename(sys.argv[0]).startswith("vmosim-") else f"tools/{tool}"
+
+
 class Words(argparse.ArgumentParser):
-    """The words of a command line of a tool, which stands in tools/ unless it names another folder. The help ends with the text given,
-    as it is laid out."""
+    """The words of a command line of a tool, which stands in tools/ unless it names another folder, or is installed. The help ends with the
+    text given, as it is laid out."""
 
     def __init__(self, tool, **more):
-        super().__init__(prog=tool if "/" in tool else f"tools/{tool}", allow_abbrev=False, formatter_class=argparse.RawDescriptionHelpFormatter, **more)
+        name = tool if "/" in tool else called(tool)
+        if "usage" in more:
+            more["usage"] = more["usage"].replace(f"tools/{tool} ", f"{name} ")
+        super().__init__(prog=name, allow_abbrev=False, formatter_class=argparse.RawDescriptionHelpFormatter, **more)
 
     def print_help(self, file=None):
         write_out([self.format_help()])

@@ -5,7 +5,7 @@ import os
 import pathlib
 from html import escape
 
-from wording import Trouble
+from wording import Trouble, called
 
 from .cells import styles
 from .drawing import FONT, all_rows, marks_of
@@ -83,7 +83,7 @@ class Trees:
 def page(turns, asked):
     """Yields the page of a script."""
     if len(asked.lines) > MOST_LINES:
-        raise Trouble(2, f"a page has at most {MOST_LINES:,} lines, and the script has {len(asked.lines):,}; tools/play --page shows "
+        raise Trouble(2, f"a page has at most {MOST_LINES:,} lines, and the script has {len(asked.lines):,}; {called('play')} --page shows "
                          f"up to 100,000, and --at {MOST_LINES} here the first")
     rows, trees, ranks, lines, machine = Rows(), Trees(asked), Ranks(asked.word), [], None
     for turn, machine in turns:

@@ -1,22 +1,22 @@
 """The clone tree behind lines of a script, with its hidden nodes, as `vmotree` draws it."""
-import os
-
 from machine_model.answering import counted
-from programs import run
+from programs import built, run
 from wording import Trouble
 
 from .clone_tree import nodes_of, tree_picture
-from .turns import TOP
-
-BUILT = TOP / "crates" / "vmotree" / "out" / "vmotree"
 MOST_NODES = 200
+
+
+def built_tree():
+    """Returns the file of vmotree, as `rt ci` built it or `./vmosim --tree` compiled it, or None if there is none."""
+    return built("--tree", "--path")
 
 
 def tree_program(asked):
     """Returns the file of vmotree, or None if there is none, or if the script is no script of `run`."""
     if asked.word != "run":
         return None
-    return asked.tree or (str(BUILT) if os.access(BUILT, os.X_OK) else None)
+    return asked.tree or built_tree()
 
 
 def tree_after(lines, asked):

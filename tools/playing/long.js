@@ -132,7 +132,7 @@ function showView() {
   if (!shown) return;
   find("view").dataset.line = shown.line;
   if (view === "tree") {
-    find("view").innerHTML = shown.tree === null ? "<p>The clone tree is drawn by the program vmotree, if it is built, and for the word run alone.</p>"
+    find("view").innerHTML = shown.tree === null ? "<p>The clone tree is drawn by the program vmotree, which <code>./vmosim --tree</code> compiles, and for the word run alone.</p>"
       : shown.tree.startsWith("<svg") ? shown.tree : `<pre>${escaped(shown.tree || "no VMO, so no tree")}</pre>`;
     return;
   }

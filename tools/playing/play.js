@@ -169,7 +169,7 @@ function showView() {
   } else if (!picture) {
     shown.innerHTML = data.error ? "" : "<p>The script is empty. Type a command, or choose an example.</p>";
   } else if (view === "tree") {
-    shown.innerHTML = picture.tree === null ? "<p>The clone tree is drawn by the program vmotree, which <code>rt ci</code> builds, and for the word run alone.</p>"
+    shown.innerHTML = picture.tree === null ? "<p>The clone tree is drawn by the program vmotree, which <code>./vmosim --tree</code> compiles, and for the word run alone.</p>"
       : picture.tree.startsWith("<svg") ? picture.tree : `<pre>${escaped(picture.tree || "no VMO, so no tree")}</pre>`;
   } else {
     shown.innerHTML = `${picture.picture}<p class="pays">${picture.used} frame${picture.used === 1 ? "" : "s"} used` +
