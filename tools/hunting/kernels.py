@@ -12,6 +12,8 @@ from wording import WRONG_WORD, Trouble
 # The most bytes of a line that are waited for. The rest is a line of its own.
 MOST_BYTES = 1 << 20
 PIECE = 1 << 16
+# How many seconds a kernel that says nothing is given to write at the end of its input.
+MOST_WAIT = 2
 
 
 class Lost(Exception):
@@ -24,6 +26,7 @@ class Kernel:
     def __init__(self, command, seconds):
         self.seconds = seconds
         self.rest = b""
+        self.has_said = False
         try:
             # A session of its own lets all processes of the command be ended at once.
             self.process = subprocess.Popen(command, stdin=subprocess.PIPE, stdout=subprocess.PIPE, bufsize=0, start_new_session=True)
@@ -67,6 +70,7 @@ class Kernel:
             piece = os.read(self.process.stdout.fileno(), PIECE)
             if not piece:
                 break
+            self.has_said = True
             self.rest += piece
         if not self.rest:
             return None
@@ -81,13 +85,24 @@ class Kernel:
             return "closes its output before the script ends"
         return f"is ended by signal {-status}" if status < 0 else f"ends with status {status}"
 
+    def flush_words(self):
+        """Asks of a kernel that never wrote a byte whether it flushes, if it writes at the end of its input."""
+        if self.has_said:
+            return ""
+        self.process.stdin.close()
+        is_late = select.select([self.process.stdout], [], [], MOST_WAIT)[0] and os.read(self.process.stdout.fileno(), PIECE)
+        return "; it writes its replies when its input ends: did it flush?" if is_late else ""
+
     def answer(self, line, replies):
         """Gives it a line, and adds the lines of its reply to those that are given."""
         deadline = time.monotonic() + self.seconds
         self.send(bytes_of([line]), deadline)
         left = 1 if command_of(line) else 0
         while left:
-            said = self.read_line(deadline)
+            try:
+                said = self.read_line(deadline)
+            except Lost as lost:
+                raise Lost(f"{lost}{self.flush_words()}") from None
             if said is None:
                 raise Lost(self.died())
             replies.append(normalised(said))

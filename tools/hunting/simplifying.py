@@ -1,4 +1,4 @@
-"""Simpler lines for a line of a script. Each differs in one argument or flag, or is a simpler command that gives the same name."""
+"""Simpler lines for a line of a script, and scripts with a name less. Each line differs in one argument or flag, or is a simpler command that gives the same name."""
 import re
 
 from machine_model import FORMS, PAGE
@@ -7,7 +7,7 @@ from machine_model.grammar import RIGHTS, TYPES, NoCommand, read_line, spell_lin
 NAME = re.compile("[vrp](0|[1-9][0-9]*)")
 # What is tried in the place of an argument, by its type, the simplest first.
 SIMPLER = {
-    "NUM": lambda value: [it for it in dict.fromkeys((0, PAGE, 2 * PAGE, value // PAGE * PAGE)) if it < value],
+    "NUM": lambda value: [it for it in dict.fromkeys((0, PAGE if value > PAGE else 1, 2 * PAGE, value // PAGE * PAGE)) if it < value],
     "BYTE": lambda value: [it for it in (0, 1) if it < value],
     "DATA": lambda value: [value[:1]] if len(value) > 1 else [],
     "KIND": lambda value: {"slice": ["snapshot"], "reference": ["snapshot", "slice"]}.get(value, []),
@@ -38,6 +38,15 @@ def simpler_lines(line):
         of = argument.split(":")[-1]
         simpler = SIMPLER.get(of if of in TYPES else "NUM", lambda _: [])
         yield from (spell_line(command, [*values[:at], it, *values[at + 1 :]], flags) for it in simpler(values[at]))
+
+
+def shorter_scripts(lines):
+    """Yields scripts with a line less: one that makes a child, whose parent stands in its place from there on, the last first."""
+    for at in reversed(range(len(lines))):
+        command, *names = lines[at].split(" ")[:3]
+        if command in ("vmo_create_child", "vmar_allocate") and len(names) == 2:
+            child, parent = names
+            yield lines[:at] + [" ".join(parent if it == child else it for it in line.split(" ")) for line in lines[at + 1 :]]
 
 
 def renamed(lines):

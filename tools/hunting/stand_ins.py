@@ -236,6 +236,29 @@ class FillHalfDone(Machine):
             raise
 
 
+class CopyNeedsTwo(Machine):
+    """A page that is shared is copied only if two frames are free."""
+
+    def lacks(self, pages):
+        pages = list(pages)
+        more = any(page in vmo.pages and not vmo.is_sole(page) for vmo, page in pages)
+        self.used += more
+        try:
+            return super().lacks(pages)
+        finally:
+            self.used -= more
+
+
+class CommitCountsHeld(Machine):
+    """A commit needs a free frame for each page of its range, also for those that it has."""
+
+    def vmo_commit(self, name, offset, length):
+        it = self.names.get(name)
+        if it and it.may_write and offset + length <= it.size() and pages_in(length) > self.frames - self.used:
+            raise Refusal("NO_MEMORY", "", 1)
+        super().vmo_commit(name, offset, length)
+
+
 class PinLeavesShared(Machine):
     """A pin of a page that is shared with a snapshot does not copy it."""
 
@@ -356,6 +379,8 @@ STAND_INS = {
     "a-fill-is-half-done": (FillHalfDone, "clones", 4),
     "a-write-reaches-a-snapshot": (WriteReachesSnapshot, "clones", 1024),
     "the-last-frame-is-kept": (LastFrameKept, "clones", 4),
+    "a-copy-needs-two-frames": (CopyNeedsTwo, "clones", 1024),
+    "a-commit-counts-what-it-has": (CommitCountsHeld, "clones", 1024),
     "a-pin-lets-its-frame-go": (UnpinForgetsOthers, "pins", 1024),
     "a-pin-leaves-a-page-shared": (PinLeavesShared, "pins", 1024),
     "a-decommit-of-a-pinned-page": (DecommitsPinned, "pins", 1024),

@@ -1,16 +1,25 @@
 """Trials: a script and the replies of a kernel, whether made up line by line or given, and the verdict on them."""
+import itertools
+import re
 from typing import NamedTuple
 
 from generating.commands import Commands, seeded
 from judging.filling import fill
 from judging.replies import UNSUPPORTED, transcript_of
 from judging.verdicts import judge
+from machine_model import PAGE
 
 from .kernels import Kernel, Lost
 
 
+# Stands in a command for how many frames the kernel is to have.
+FRAMES = "{frames}"
+# A trial may begin by taking all frames but these, by a VMO that no other line speaks of, if there are not too many.
+FULL_SHARE, FREE, MOST_FILLED, FILLING = 0.25, (0, 1, 1, 2, 2, 3, 5), 8192, "v12"
+
+
 class Hunt(NamedTuple):
-    """What is hunted for: the command that starts the kernel, the seconds that a reply may take, the program that judges, the frames
+    """What is hunted for: the command that starts the kernel, in which `{frames}` stands for the frames, the seconds that a reply may take, the program that judges, the frames
     of the machine, the seed, the theme of the lines, how many there are in a trial, the words of commands, kinds and flags that are
     left out, and whether no line lets the kernel choose a place."""
 
@@ -44,7 +53,7 @@ class Trial(NamedTuple):
 def run(hunt, lines, note=None, is_over=None):
     """Returns the trial of lines on a new kernel. Each turn is noted. The trial ends early, and is None, if it is over."""
     turns, lost = [], ""
-    with Kernel(hunt.command, hunt.seconds) as kernel:
+    with Kernel([it.replace(FRAMES, str(hunt.frames)) for it in hunt.command], hunt.seconds) as kernel:
         try:
             for line in lines:
                 if is_over and is_over():
@@ -62,10 +71,42 @@ def run(hunt, lines, note=None, is_over=None):
     return Trial(turns, judge(hunt.program, transcript_of(turns), hunt.frames), lost)
 
 
+def seed_of(hunt, number):
+    """Returns the seed of the trial of a number. The trials of a seed that is a number have the seeds from it on, so that those of two
+    hunts are those of one with as many trials."""
+    return str(int(hunt.seed) + number) if re.fullmatch("[0-9]{1,18}", str(hunt.seed)) else f"{hunt.seed} {number}"
+
+
+def filling(hunt, seed):
+    """Returns the lines that leave few frames free at the beginning of some trials."""
+    mixer = seeded(f"{seed} filling")
+    is_full = mixer.random() < FULL_SHARE and hunt.frames <= MOST_FILLED and hunt.theme != "host" and {"vmo_create", "vmo_commit"}.isdisjoint(hunt.without)
+    return filled(hunt.frames - mixer.choice(FREE)) if is_full else []
+
+
+def filled(frames):
+    """Returns the lines that take so many frames."""
+    size = frames * PAGE
+    return [f"vmo_create {FILLING} {size}", f"vmo_commit {FILLING} 0 {size}"] if frames > 0 else []
+
+
+def unfilled(lines):
+    """Yields lines without those of the VMO that fills the frames, if there is one, and all lines."""
+    kept = [it for it in lines if FILLING not in it.split(" ")]
+    yield from ([kept, lines] if 0 < len(kept) < len(lines) else [lines])
+
+
 def try_number(hunt, number, is_over=None):
     """Returns the trial of a number, whose lines are made up from the replies."""
-    commands = Commands(seeded(hunt.seed, number), hunt.theme, hunt.without, hunt.fixed)
-    trial = run(hunt, (commands.line() for _ in range(hunt.lines)), commands.note, is_over)
+    seed = seed_of(hunt, number)
+    commands = Commands(seeded(seed), hunt.theme, hunt.without, hunt.fixed)
+    lines = itertools.chain(filling(hunt, seed), (commands.line() for _ in range(hunt.lines)))
+
+    def note(line, replies):
+        if FILLING not in line.split(" "):
+            commands.note(line, replies)
+
+    trial = run(hunt, lines, note, is_over)
     has_none = trial and not trial.turns and not trial.is_found()
     return trial._replace(lost=f"answers {UNSUPPORTED} to every line") if has_none else trial
 

@@ -6,7 +6,7 @@ from machine_model import PAGE, Machine
 from machine_model.answering import are, counted
 from machine_model.grammar import NoCommand, read_line, seen
 from machine_model.limits import pages_in, touched
-from machine_model.regions import address_of, outside_words, taken_words
+from machine_model.regions import READY_TO_READ, READY_TO_WRITE, address_of, outside_words, taken_words
 
 from .replies import LINE_BYTES, command_of
 
@@ -25,7 +25,7 @@ HOST_CONDITIONS = {
 }
 ADDRESS = "OK 0x[1-9a-f][0-9a-f]*"
 NAMES = r"\b[vrp](?:0|[1-9][0-9]*)\b"
-EARLIER, MOST_STATES = 12, 24
+EARLIER, MOST_STATES, MOST_PAGES = 12, 24, 4
 
 
 def vmos_of(machine, names):
@@ -129,6 +129,53 @@ def why_host_memory(machine, word):
     return f"HOST_MEMORY may come only if {HOST_CONDITIONS[word]}"
 
 
+def fault_rows(machine, command):
+    """Returns of each page that an access touches its address, its mapping, and whether it takes a fault and why, by the model before
+    it."""
+    word, (name, address, of), _ = read_line(command)
+    length = len(of) if word == "mem_write" else of
+    rows = []
+    for page in touched(address, length):
+        it = machine.regions[name].shown_at(page)
+        ready = it.ready.get(page, 0)
+        is_fault = ready < (READY_TO_WRITE if word == "mem_write" else READY_TO_READ)
+        how = "is ready to read alone" if is_fault and ready else "is not ready" if is_fault else "is ready"
+        rows.append((page, it, is_fault, f"{address_of(page)} {how}"))
+    return rows
+
+
+def why_faults(machine, command, told):
+    """Says which pages of an access take a fault, if other faults were told; or nothing."""
+    rows = fault_rows(machine, command)
+    count = sum(is_fault for _, _, is_fault, _ in rows)
+    if not re.match(r"OK faults=\d+( |$)", told) or told.split(" ")[1] == f"faults={count}":
+        return ""
+    return f"it takes {counted(count, 'fault')}: {', '.join(words for _, _, _, words in rows[:MOST_PAGES])}{', ..' * (len(rows) > MOST_PAGES)}"
+
+
+def difference(told, answer):
+    """Says what differs between a reply line that was told and that of the model, if both say that the command is done; or nothing."""
+    words = told.split(" "), answer.split(" ")
+    if len(words[0]) != len(words[1]) or words[0][:1] != words[1][:1]:
+        return ""
+    found = [(its, it) for its, it in zip(*words) if its != it]
+    if len(found) == 1 and all(re.fullmatch("([0-9a-f]{2})+", it) for it in found[0]) and len(found[0][0]) == len(found[0][1]) > 2:
+        pairs = [(its, it) for its, it in zip(*(re.findall("..", it) for it in found[0]))]
+        at = next(at for at, (its, it) in enumerate(pairs) if its != it)
+        return f"byte {at} is {pairs[at][0]}, and not {pairs[at][1]}; {counted(sum(its != it for its, it in pairs), 'byte')} of {len(pairs)} differ"
+    return ", ".join(f"{shown(its)} in place of {it}" for its, it in found)
+
+
+def frames_words(before, after, told):
+    """Says how many frames a command needs and how many are free, if it takes any or none was said to be free; or nothing, if the
+    reason of the refusal says it."""
+    need = after.taken - before.taken
+    if after.refusal or not need and told != "NO_MEMORY":
+        return ""
+    free = before.frames - before.used
+    return f"it needs {counted(need, 'frame')}, and {free:,} of {before.frames:,} {are(free)} free"
+
+
 def why(before, after, command, told):
     """Says why a reply is not as it was told, by the models before and after the command; or nothing."""
     word = command_of(command)
@@ -141,8 +188,9 @@ def why(before, after, command, told):
     if word == "vmo_pin" and told.startswith("OK "):
         return why_pin(before, command, told)
     if told == "NO_MEMORY":
-        free = before.frames - before.used
-        return f"{free:,} of {counted(before.frames, 'frame')} {are(free)} free"
+        return frames_words(before, after, told)
+    if word in ("mem_read", "mem_write") and told.startswith("OK "):
+        return why_faults(before, command, told)
     if re.fullmatch("[A-Z_]+", told) and told in after.tried:
         return f"no condition of {told} holds"
     return ""
@@ -203,6 +251,24 @@ def states(machine, command):
     lines += [f"{it}: {line}" for it in sorted(regions) for line in machine.answer(f"maps {it}")]
     more = len(lines) - MOST_STATES
     return lines[:MOST_STATES] + ([f"and {counted(more, 'line')} more"] if more > 0 else [])
+
+
+def made_unready(turns, frames, command):
+    """Returns the address of the first page of an access that takes a fault though it was ready before, and the turn, by its index, that
+    left it so; or None. The machine has done the turns and not the access."""
+    machine = follow(turns, frames).machine
+    faults = [(page, it) for page, it, is_fault, _ in fault_rows(machine, command) if is_fault]
+    roots = {page: it.region.root.name for page, it in faults}
+    machine, was, lost = Machine(frames), {}, {}
+    for at, (line, replies) in enumerate(turns):
+        machine.answer(line, replies[0] if replies else "")
+        for page, root in roots.items():
+            it = machine.regions[root].shown_at(page) if root in machine.regions else None
+            ready = it.ready.get(page, 0) if it else 0
+            if ready < was.get(page, 0):
+                lost[page] = at
+            was[page] = ready
+    return next(((address_of(page), lost[page]) for page in roots if page in lost), None)
 
 
 def earlier(followed, done, command):

@@ -56,6 +56,12 @@ def taken_words(region, pages):
     return f"the child {it.name} lies {span}" if isinstance(it, Region) else f"the VMO with koid {it.vmo.koid} is mapped {span}"
 
 
+def nearest_words(region, page):
+    """Says which mapping of a root region is the nearest to a page."""
+    near = min(region.mappings, key=lambda it: max(it.pages.start - page, page - it.pages.stop + 1), default=None)
+    return f"the nearest mapping is {address_of(near.pages.start)} to {address_of(near.pages.stop)}" if near else f"nothing is mapped in {region.name}"
+
+
 class RegionCommands:
     """The commands on regions, as a part of a machine."""
 
@@ -258,10 +264,10 @@ class RegionCommands:
     # ---- accesses
 
     @staticmethod
-    def refused_page(page, it, right):
+    def refused_page(region, page, it, right):
         """Returns why a page refuses an access, by the name of the refusal and in words, or None."""
         if it is None:
-            return "NOT_FOUND", f"{address_of(page)} has no entry"
+            return "NOT_FOUND", f"{address_of(page)} has no entry; {nearest_words(region, page)}"
         if right not in it.rights:
             return "ACCESS_DENIED", f"{address_of(page)} may not be {DONE[right]}, its permissions are {spelled(it.rights)}"
         if page + it.ahead >= it.vmo.count:
@@ -275,7 +281,7 @@ class RegionCommands:
         long = right == "r" and length > MOST_READ and f"LEN = {length}, one read has at most {MOST_READ} bytes"
         self.refuse(("INVALID_ARGS", inner or long))
         pages = [(page, region.shown_at(page)) for page in touched(address, length)]
-        name, why = next(filter(None, (self.refused_page(page, it, right) for page, it in pages)), ("", ""))
+        name, why = next(filter(None, (self.refused_page(region, page, it, right) for page, it in pages)), ("", ""))
         self.refuse(*((it, name == it and why) for it in ("NOT_FOUND", "ACCESS_DENIED", "OUT_OF_RANGE")))
         return [(page, it, page + it.ahead) for page, it in pages]
 
