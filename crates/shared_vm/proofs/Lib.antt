@@ -1,4 +1,5 @@
 mod FourLaws
+mod AskingLaws
 mod RunLaws
 mod RoomLaws
 mod StartLaws

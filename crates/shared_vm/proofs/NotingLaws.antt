@@ -1,5 +1,5 @@
 -- A journal that takes little memory, and one deed more.
-use Rattle.std.proofs.Common.{◌≡◌, ℕ, ◌+◌, ◌≤◌, List, [], ◌∷◌, ◌++◌, length, refl, sym, ap, subst, ◌∙◌, append-nil, arith}
+use Rattle.std.proofs.Common.{◌≡◌, ℕ, ◌+◌, ◌-◌, ◌≤◌, List, [], ◌∷◌, ◌++◌, length, refl, sym, ap, subst, ◌∙◌, append-nil, arith}
 use Rattle.std.specs.List.{All}
 use Rattle.std.proofs.lemmas.List.{length-append, map_push}
 use Rattle.std.proofs.lemmas.List.Elements.{All-head, All-tail, All-push, All-weaker}
@@ -8,6 +8,7 @@ use Rattle.vm_model.specs.declared.answer.Answer.{Answer}
 use Rattle.vm_model.specs.declared.reply.Reply.{Reply}
 use Rattle.vm_model.specs.Machine.Lent.{reply_for}
 use Rattle.shared_vm.specs.declared.task.Deed.{Deed}
+use Rattle.shared_vm.specs.Journal.{data_bytes, data_numbers}
 use Rattle.shared_vm.specs.declared.place.Place.{Place}
 use Rattle.shared_vm.specs.declared.notes.Kept.{Kept}
 use Rattle.shared_vm.specs.declared.notes.Note.{Note}
@@ -44,8 +45,7 @@ module _ (bytes numbers bytes_more numbers_more : List ℕ) where
 
 -- one deed more
 module _ (reply : Reply) (bytes_old numbers_old bytes_new numbers_new : List ℕ) (kept : Kept) (keeps : Keeps reply bytes_old numbers_old kept bytes_new numbers_new)
-    (notes after : List Note) (actor : ℕ) (is_after : after ≡ notes ++ record { actor = actor; kept = kept } ∷ []) (spare bytes_room numbers_room : ℕ)
-    (old : IsJournal bytes_old numbers_old notes spare bytes_room numbers_room) where
+    (notes after : List Note) (actor : ℕ) (is_after : after ≡ notes ++ record { actor = actor; kept = kept } ∷ []) (old : IsJournal bytes_old numbers_old notes) where
   abbrev note : Note
   note = record { actor = actor; kept = kept }
 
@@ -70,22 +70,25 @@ module _ (reply : Reply) (bytes_old numbers_old bytes_new numbers_new : List ℕ
       ∙ ap (λ (all : List Note). deeds_at bytes numbers all) is_after
       ∙ map_push (deed_at bytes numbers) notes note
       ∙ ap (λ (r : Reply). deeds_at bytes numbers notes ++ deed_of actor r ∷ []) reply_is
-      ∙ ap (λ (ds : List Deed). ds ++ deed_of actor reply ∷ []) (deeds-more bytes_old numbers_old keeps.bytes_more keeps.numbers_more notes old.kept)
+      ∙ ap (λ (ds : List Deed). ds ++ deed_of actor reply ∷ []) (deeds-more bytes_old numbers_old keeps.bytes_more keeps.numbers_more notes old)
 
-  all_kept : All (IsNoteKept (length bytes_new) (length numbers_new)) after
-  all_kept =
+  pub IsJournal-added : IsJournal bytes_new numbers_new after
+  IsJournal-added =
       subst (λ (bs : List ℕ). All (IsNoteKept (length bs) (length numbers_new)) after) (sym keeps.bytes)
       (subst (λ (ns : List ℕ). All (IsNoteKept (length bytes) (length ns)) after) (sym keeps.numbers)
       (subst (λ (all : List Note). All (IsNoteKept (length bytes) (length numbers)) all) (sym is_after)
-      (All-push (IsNoteKept (length bytes) (length numbers)) notes note (all-more bytes_old numbers_old keeps.bytes_more keeps.numbers_more notes old.kept) is_kept)))
+      (All-push (IsNoteKept (length bytes) (length numbers)) notes note (all-more bytes_old numbers_old keeps.bytes_more keeps.numbers_more notes old) is_kept)))
 
-  pub IsJournal-added : (left bytes_after numbers_after : ℕ) → spare ≡ left + 1 → bytes_room ≤ bytes_after → numbers_room ≤ numbers_after
-      → IsJournal bytes_new numbers_new after left bytes_after numbers_after
-  IsJournal-added left bytes_after numbers_after e f g = record {
-    kept = all_kept;
-    bytes_left = omega (arith, e, f, old.bytes_left, keeps.bytes_few, ap (length {A = ℕ}) keeps.bytes, length-append bytes_old keeps.bytes_more);
-    numbers_left = omega (arith, e, g, old.numbers_left, keeps.numbers_few, ap (length {A = ℕ}) keeps.numbers, length-append numbers_old keeps.numbers_more);
-  }
+  -- the data takes no more room than the reply has
+  pub bytes_left : (room_old room_new len_old len_new : ℕ) → len_old ≡ length bytes_old → len_new ≡ length bytes_new → room_old ≤ room_new
+      → room_old - len_old ≤ room_new - len_new + data_bytes reply
+  bytes_left room_old room_new len_old len_new e f more =
+      omega (arith, e, f, more, keeps.bytes_few, ap (length {A = ℕ}) keeps.bytes, length-append bytes_old keeps.bytes_more)
+
+  pub numbers_left : (room_old room_new len_old len_new : ℕ) → len_old ≡ length numbers_old → len_new ≡ length numbers_new → room_old ≤ room_new
+      → room_old - len_old ≤ room_new - len_new + data_numbers reply
+  numbers_left room_old room_new len_old len_new e f more =
+      omega (arith, e, f, more, keeps.numbers_few, ap (length {A = ℕ}) keeps.numbers, length-append numbers_old keeps.numbers_more)
 
 -- ---- what is kept of one answer
 
@@ -131,7 +134,7 @@ module _ (answer : Answer) (bytes bytes_new numbers lent added : List ℕ) (plac
     numbers_more = [];
     bytes = is_grown bytes bytes_new lent added DATA_BYTES place same few grown start end;
     numbers = sym (append-nil numbers);
-    bytes_few = is_few bytes bytes_new lent added DATA_BYTES place same few grown start end;
+    bytes_few = omega (arith, ap (λ (a : Answer). data_bytes (reply_for a)) is);
     numbers_few = omega arith;
     reply_is = ap (λ (xs : List ℕ). Reply.Bytes xs) (is_part bytes bytes_new lent added DATA_BYTES place same few grown start end) ∙ ap reply_for (sym is);
     is_kept = is_place bytes bytes_new lent added DATA_BYTES place same few grown start end;
@@ -143,7 +146,7 @@ module _ (answer : Answer) (bytes bytes_new numbers lent added : List ℕ) (plac
     numbers_more = [];
     bytes = is_grown bytes bytes_new lent added DATA_BYTES place same few grown start end;
     numbers = sym (append-nil numbers);
-    bytes_few = is_few bytes bytes_new lent added DATA_BYTES place same few grown start end;
+    bytes_few = omega (arith, ap (λ (a : Answer). data_bytes (reply_for a)) is);
     numbers_few = omega arith;
     reply_is = ap (λ (xs : List ℕ). Reply.Access faults xs) (is_part bytes bytes_new lent added DATA_BYTES place same few grown start end) ∙ ap reply_for (sym is);
     is_kept = is_place bytes bytes_new lent added DATA_BYTES place same few grown start end;
@@ -157,7 +160,7 @@ Keeps-pins answer bytes numbers numbers_new lent added place same few grown star
   bytes = sym (append-nil bytes);
   numbers = is_grown numbers numbers_new lent added PIN_PAGES place same few grown start end;
   bytes_few = omega arith;
-  numbers_few = is_few numbers numbers_new lent added PIN_PAGES place same few grown start end;
+  numbers_few = omega (arith, ap (λ (a : Answer). data_numbers (reply_for a)) is);
   reply_is = ap (λ (xs : List ℕ). Reply.Pins xs) (is_part numbers numbers_new lent added PIN_PAGES place same few grown start end) ∙ ap reply_for (sym is);
   is_kept = is_place numbers numbers_new lent added PIN_PAGES place same few grown start end;
 }

@@ -1,12 +1,12 @@
 -- The tasks of lines that stand one behind another.
 use Rattle.std.proofs.Common.{◌≡◌, ℕ, List, [], ◌∷◌, ◌++◌, length, refl, ap, ◌∙◌}
 use Rattle.std.proofs.lemmas.List.{map_push}
-use Rattle.std.proofs.lemmas.List.Elements.{All-head, All-tail, All-weaker}
+use Rattle.std.proofs.lemmas.List.Elements.{All-head, All-tail}
 use Rattle.shared_vm.specs.declared.task.Task.{Task}
 use Rattle.shared_vm.specs.declared.place.Place.{Place}
 use Rattle.shared_vm.specs.inside.Places.{LiesWithin}
 use Rattle.shared_vm.specs.inside.TaskPlaces.{AreWithin, task_at, tasks_at, task_of_line}
-use Rattle.shared_vm.proofs.PlaceLaws.{part-more, LiesWithin-more, part-added}
+use Rattle.shared_vm.proofs.PlaceLaws.{part-more, part-added}
 
 -- the tasks stay, whatever is added behind their lines
 tasks-more : (bytes more : List ℕ) (places : List Place) → AreWithin bytes places → tasks_at (bytes ++ more) places ≡ tasks_at bytes places

@@ -1,9 +1,9 @@
 -- What the actors did, one deed after another, as a run of the machine.
-use Rattle.std.specs.Prelude.{◌≡◌, ℕ, ◌+◌, ◌≤◌, ◌==◌, List, [], ◌∷◌, ◌++◌, length, if◌then◌else◌, Some, slice_get}
+use Rattle.std.specs.Prelude.{◌≡◌, ℕ, ◌+◌, ◌<◌, ◌≤◌, ◌==◌, List, [], ◌∷◌, ◌++◌, length, if◌then◌else◌, Some, slice_get}
 use Rattle.vm_base.specs.declared.limits.TheConstants.{ACTOR_MAX}
 use Rattle.vm_base.specs.declared.refusal.Refusal.TheVariants.{Syntax}
 use Rattle.vm_model.specs.declared.reply.Reply.{Reply}
-use Rattle.vm_model.specs.declared.reply.Reply.TheVariants.{Refused}
+use Rattle.vm_model.specs.declared.reply.Reply.TheVariants.{Bytes, Access, Pins, Refused}
 use Rattle.vm_model.specs.Machine.Machine.{Machine, empty_machine}
 use Rattle.vm_model.specs.Machine.MachineStep.{MachineStep}
 use Rattle.shared_vm.specs.declared.task.Task.{Task}
@@ -18,6 +18,35 @@ one_by actor deed = if deed.actor == actor then 1 else 0
 abbrev pub done_by : ℕ → List Deed → ℕ
 done_by actor [] = 0
 done_by actor (deed ∷ deeds) = one_by actor deed + done_by actor deeds
+
+-- the bytes that a reply has as its data
+abbrev pub data_bytes : Reply → ℕ
+data_bytes (Bytes bytes) = length bytes
+data_bytes (Access faults bytes) = length bytes
+data_bytes reply = 0
+
+-- the numbers that a reply has as its data
+abbrev pub data_numbers : Reply → ℕ
+data_numbers (Pins numbers) = length numbers
+data_numbers reply = 0
+
+-- for how many further deeds there is room, and for how many bytes and numbers of their replies together
+pub record Spare : Type 0 where
+  pub deeds : ℕ
+  pub bytes : ℕ
+  pub numbers : ℕ
+
+-- there is room for a deed with this reply
+pub record Suffices (spare : Spare) (reply : Reply) : Type 0 where
+  pub deed : 0 < spare.deeds
+  pub bytes : data_bytes reply ≤ spare.bytes
+  pub numbers : data_numbers reply ≤ spare.numbers
+
+-- a deed with this reply took no more room than it needs
+pub record Leaves (old : Spare) (reply : Reply) (new : Spare) : Type 0 where
+  pub deeds : old.deeds ≤ new.deeds + 1
+  pub bytes : old.bytes ≤ new.bytes + data_bytes reply
+  pub numbers : old.numbers ≤ new.numbers + data_numbers reply
 
 -- from old, the task may have this reply and lead to new
 abbrev pub DoesTask : Task → Reply → Machine → Machine → Type 0

@@ -9,7 +9,8 @@ use Rattle.shared_vm.specs.declared.counts.Counts.{Counts}
 use Rattle.shared_vm.specs.declared.task.Task.{Task}
 use Rattle.shared_vm.specs.declared.task.Deed.{Deed}
 use Rattle.shared_vm.specs.Tasks.{Lists, tasks_of, task_count}
-use Rattle.shared_vm.specs.Journal.{done_by, IsNextTask, DoesTask, JournalRun}
+use Rattle.shared_vm.specs.Journal.{done_by, Spare, IsNextTask, DoesTask, JournalRun}
+use Rattle.shared_vm.specs.inside.Asking.{bytes_asked, numbers_asked, left_asked}
 
 -- A machine began with so many frames, the actors have tasks and did some of them, and the machine's parts and its store are
 -- what these deeds led to. S is the type of the store.
@@ -40,8 +41,9 @@ raised done actor =
     else (if actor == 2 then record done { a2 = done.a2 + 1 } else record done { a3 = done.a3 + 1 }))
 
 -- What holds of every room: the journal is a run, the deeds of each actor are counted, the journal has room for the deeds of the
--- tasks that are left, and the machine agrees with its store and gave a koid for a deed at most.
-pub record IsRoom {S : Type 0} (content : S → Content) (s : Session S) (done : Counts) (spare : ℕ) : Type 0 where
+-- tasks that are left and for the data of their replies, and the machine agrees with its store and gave a koid for a deed at
+-- most.
+pub record IsRoom {S : Type 0} (content : S → Content) (s : Session S) (done : Counts) (spare : Spare) : Type 0 where
   pub legal : IsLegal content s
   pub agrees : Agrees (content s.store) s.vm
   pub koids : (content s.store).next ≤ 1 + length s.journal
@@ -49,7 +51,9 @@ pub record IsRoom {S : Type 0} (content : S → Content) (s : Session S) (done :
   pub counted : (actor : ℕ) → actor ≤ ACTOR_MAX → actor_count done actor ≡ done_by actor s.journal
   pub within : (actor : ℕ) → actor ≤ ACTOR_MAX → actor_count done actor ≤ length (tasks_of s.lists actor)
   pub all : length s.journal ≡ done.a0 + done.a1 + done.a2 + done.a3
-  pub room : task_count s.lists ≤ length s.journal + spare
+  pub room : task_count s.lists ≤ length s.journal + spare.deeds
+  pub bytes : left_asked bytes_asked s.lists done ≤ spare.bytes
+  pub numbers : left_asked numbers_asked s.lists done ≤ spare.numbers
 
 -- the actor did its next task, and one deed more tells it
 pub record TurnsOnce {S : Type 0} (content : S → Content) (old new : Session S) (actor : ℕ) : Type 0 where

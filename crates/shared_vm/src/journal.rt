@@ -1,8 +1,9 @@
 //! What keeps the deeds of actors.
 
-ghost use Rattle.std.specs.Prelude.{◌≡◌, ℕ, ◌+◌, ◌-◌, ◌<◌, ◌≤◌, List, [], ◌∷◌, ◌++◌, vec_len, vec_capacity};
+ghost use Rattle.std.specs.Prelude.{◌≡◌, ◌-◌, ◌^◌, List, [], ◌∷◌, ◌++◌, vec_len, vec_capacity};
 ghost use Rattle.vm_model.specs.Machine.Lent.{reply_for};
 ghost use Rattle.shared_vm.specs.declared.task.Deed.{Deed};
+ghost use Rattle.shared_vm.specs.Journal.{Leaves, Spare, Suffices};
 
 use crate::task::Deed;
 use vm_model::Answer;
@@ -12,21 +13,21 @@ pub trait Journal: Drop {
     /// The deeds, the first one first.
     ghost deeds: { Self → List Deed };
 
-    /// The number of further deeds for which there is room.
-    ghost spare: { Self → ℕ };
+    /// For how many further deeds there is room, and for how much data of their replies.
+    ghost spare: { Self → Spare };
 
     /// Notes a deed behind the others: its actor, and the machine's answer.
     fn note(&mut self, actor: u32, answer: Answer<'_>)
-        requires { 0 < spare self.old }
+        requires { Suffices (spare self.old) (reply_for answer) }
         ensures deeds { deeds self.new ≡ deeds self.old ++ record { actor = actor; reply = reply_for answer.entry } ∷ [] }
-        ensures spare { spare self.old ≤ spare self.new + 1 };
+        ensures spare { Leaves (spare self.old) (reply_for answer.entry) (spare self.new) };
 }
 
-/// Each deed has its reply whole.
+/// Each deed has its reply whole, so there is room for all data that replies may have.
 impl Journal for Vec<Deed> {
     ghost deeds = { λ v. v.items };
 
-    ghost spare = { λ v. vec_capacity v - vec_len v };
+    ghost spare = { λ v. record { deeds = vec_capacity v - vec_len v; bytes = 2 ^ 64; numbers = 2 ^ 64 } };
 
     fn note(&mut self, actor: u32, answer: Answer<'_>) {
         let reply = answer.into_reply();

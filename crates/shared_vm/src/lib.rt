@@ -14,6 +14,7 @@
 #![tactic(auto)]
 
 mod acting;
+mod asking;
 mod counts;
 mod gate;
 mod journal;

@@ -2,13 +2,14 @@
 
 ghost use Rattle.std.specs.Prelude.{◌≡◌, ◌+◌, ◌^◌, ◌<◌, ◌≤◌, [], ◌∷◌, ◌++◌, length, slice_get, vec_len, vec_capacity, Some, IfOk, OnOk, OnErr};
 ghost use Rattle.script_io.specs.Faults.{HasCause, IsCutOff};
-ghost use Rattle.vm_base.specs.declared.limits.TheConstants.{DATA_BYTES, PIN_PAGES};
 ghost use Rattle.vm_model.specs.Machine.Lent.{reply_for};
 ghost use Rattle.shared_vm.specs.declared.task.Deed.{Deed};
+ghost use Rattle.shared_vm.specs.Journal.{Leaves, Suffices, data_bytes, data_numbers};
 ghost use Rattle.shared_vm.specs.Texts.{deed_text};
 ghost use Rattle.shared_vm.specs.inside.Noting.{Keeps};
 ghost use Rattle.shared_vm.specs.inside.Pending.{PassesOn};
 
+use crate::asking::Asked;
 use crate::journal::Journal;
 use crate::pending::PendingText;
 use crate::place::Place;
@@ -16,7 +17,7 @@ use crate::writing::add_deed;
 use script_io::Sink;
 use std::alloc::Global;
 use std::marker::Model;
-use vm_base::{DATA_BYTES, Failed, HostMemory, PIN_PAGES, TEXT_ROOM};
+use vm_base::{Failed, HostMemory, TEXT_ROOM};
 use vm_model::{Answer, LentBytes, LentNumbers};
 
 /// An answer as it is kept: the answer, or the place of its data.
@@ -54,29 +55,30 @@ impl Model for Notes {
 
     ghost view = { λ n. record {
       deeds = deeds_at n.bytes.items n.numbers.items n.notes.items;
-      spare = vec_capacity n.notes - vec_len n.notes;
+      spare = record {
+        deeds = vec_capacity n.notes - vec_len n.notes;
+        bytes = vec_capacity n.bytes - vec_len n.bytes;
+        numbers = vec_capacity n.numbers - vec_len n.numbers;
+      };
     } };
 
-    ghost invariant = { λ n. IsJournal n.bytes.items n.numbers.items n.notes.items (vec_capacity n.notes - vec_len n.notes)
-        (vec_capacity n.bytes) (vec_capacity n.numbers) };
+    ghost invariant = { λ n. IsJournal n.bytes.items n.numbers.items n.notes.items };
 }
 
 impl Notes {
-    /// Returns an empty journal with room for so many deeds, below 2^32. `HostMemory` if the host has too little memory. What the
-    /// replies do not fill of it is not touched.
-    pub(crate) fn new(alloc: Global, count: u64) -> Result<Notes, HostMemory>
-        requires { count < 2 ^ 32 }
+    /// Returns an empty journal with room for so many deeds, and for so much data of their replies. `HostMemory` if the host has
+    /// too little memory.
+    pub(crate) fn new(alloc: Global, count: u64, asked: Asked) -> Result<Notes, HostMemory>
         ensures deeds { IfOk result (λ n. n.deeds ≡ []) }
-        ensures spare { IfOk result (λ n. n.spare ≡ count) }
+        ensures spare { IfOk result (λ n. n.spare ≡ record { deeds = count; bytes = asked.bytes; numbers = asked.numbers }) }
     {
-        let count = count as usize;
-        let Ok(notes) = Vec::with_capacity(alloc, count) else {
+        let Ok(notes) = Vec::with_capacity(alloc, count as usize) else {
             return Err(HostMemory);
         };
-        let Ok(bytes) = Vec::with_capacity(alloc, count * DATA_BYTES) else {
+        let Ok(bytes) = Vec::with_capacity(alloc, asked.bytes as usize) else {
             return Err(HostMemory);
         };
-        let Ok(numbers) = Vec::with_capacity(alloc, count * PIN_PAGES) else {
+        let Ok(numbers) = Vec::with_capacity(alloc, asked.numbers as usize) else {
             return Err(HostMemory);
         };
         Ok(Notes {
@@ -88,9 +90,9 @@ impl Notes {
 
     /// Notes a deed, for which there is room.
     fn add(&mut self, actor: u32, answer: Answer<'_>)
-        requires { 0 < self.old.spare }
+        requires { Suffices self.old.spare (reply_for answer) }
         ensures deeds { self.new.deeds ≡ self.old.deeds ++ record { actor = actor; reply = reply_for answer.entry } ∷ [] }
-        ensures spare { self.old.spare ≡ self.new.spare + 1 }
+        ensures spare { Leaves self.old.spare (reply_for answer.entry) self.new.spare }
     {
         let kept = keep(answer, &mut self.bytes, &mut self.numbers);
         self.notes.push_reserved(Note { actor, kept });
@@ -154,8 +156,8 @@ impl Journal for Notes {
 
 /// Returns what is kept of an answer. Its data is copied behind the other data.
 fn keep(answer: Answer<'_>, bytes: &mut Vec<u8>, numbers: &mut Vec<u64>) -> Kept
-    requires bytes { vec_len bytes.old + DATA_BYTES ≤ vec_capacity bytes.old }
-    requires numbers { vec_len numbers.old + PIN_PAGES ≤ vec_capacity numbers.old }
+    requires bytes { vec_len bytes.old + data_bytes (reply_for answer) ≤ vec_capacity bytes.old }
+    requires numbers { vec_len numbers.old + data_numbers (reply_for answer) ≤ vec_capacity numbers.old }
     ensures keeps { Keeps (reply_for answer.entry) bytes.old.items numbers.old.items result bytes.new.items numbers.new.items }
     ensures bytes { vec_capacity bytes.old ≤ vec_capacity bytes.new }
     ensures numbers { vec_capacity numbers.old ≤ vec_capacity numbers.new }

@@ -8,6 +8,7 @@ ghost use Rattle.vm_core.specs.Vm.{Agrees, machine_of};
 ghost use Rattle.shared_vm.specs.Journal.{done_by, DoesTask};
 ghost use Rattle.shared_vm.specs.Rooms.{IsLegal, TakesTurn};
 ghost use Rattle.shared_vm.specs.Tasks.{task_count, tasks_of};
+ghost use Rattle.shared_vm.specs.inside.Asking.{all_asked, bytes_asked, numbers_asked};
 ghost use Rattle.shared_vm.specs.inside.TaskPlaces.{task_of_line};
 
 use crate::counts::Counts;
@@ -20,7 +21,7 @@ use page_store::PageStore;
 use script_text::read_call;
 use std::alloc::Global;
 use std::marker::Model;
-use vm_base::{HostMemory, Refusal};
+use vm_base::{DATA_BYTES, HostMemory, Refusal};
 use vm_core::Vm;
 use vm_model::Answer;
 
@@ -35,7 +36,7 @@ pub struct Room<P: PageStore, J: Journal = Vec<Deed>> {
     scripts: Scripts,
     /// The number of tasks that each actor did.
     done: Counts,
-    /// It has room for a deed for each task.
+    /// It has room for a deed for each task, and for the data of its reply.
     journal: J,
     data: LineRoom,
 }
@@ -99,7 +100,8 @@ impl<P: PageStore> Room<P, Notes> {
         ensures journal { IfOk result (λ r. r.journal ≡ []) }
         ensures legal { IfOk result (λ r. IsLegal P.content r) }
     {
-        let notes = Notes::new(alloc, scripts.count())?;
+        let asked = scripts.asked(&mut [0; DATA_BYTES]);
+        let notes = Notes::new(alloc, scripts.count(), asked)?;
         with_journal(alloc, frames, scripts, store, notes)
     }
 
@@ -160,7 +162,7 @@ impl<P: PageStore, J: Journal> Room<P, J> {
     }
 }
 
-/// Makes a room with a journal that has no deeds, and room for one of each task.
+/// Makes a room with a journal that has no deeds, and room for those of all tasks.
 fn with_journal<P: PageStore, J: Journal>(
     alloc: Global,
     frames: u32,
@@ -172,7 +174,9 @@ fn with_journal<P: PageStore, J: Journal>(
     requires frames { 1 ≤ frames × frames ≤ FRAMES }
     requires empty { P.content store ≡ nothing }
     requires bare { J.deeds journal ≡ [] }
-    requires room { task_count scripts ≤ J.spare journal }
+    requires room { task_count scripts ≤ (J.spare journal).deeds }
+    requires bytes { all_asked bytes_asked scripts ≤ (J.spare journal).bytes }
+    requires numbers { all_asked numbers_asked scripts ≤ (J.spare journal).numbers }
     ensures frames { IfOk result (λ r. r.frames ≡ frames) }
     ensures lists { IfOk result (λ r. r.lists ≡ scripts) }
     ensures journal { IfOk result (λ r. r.journal ≡ []) }

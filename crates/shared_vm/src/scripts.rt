@@ -1,12 +1,14 @@
 //! The tasks of the actors.
 
 ghost use Rattle.std.specs.Prelude.{◌≡◌, ◌+◌, ◌^◌, ◌<◌, ◌≤◌, length, OnOk, OnErr};
-ghost use Rattle.vm_base.specs.declared.limits.TheConstants.{LINE_BYTES};
+ghost use Rattle.vm_base.specs.declared.limits.TheConstants.{DATA_BYTES, LINE_BYTES};
 ghost use Rattle.vm_model.specs.Language.Reading.{reading_of_words, words, is_comment};
 ghost use Rattle.shared_vm.specs.Tasks.{actor_of, no_tasks, task_count, tasks_of, with_behind, with_line, with_reading, with_task};
+ghost use Rattle.shared_vm.specs.inside.Asking.{all_asked, bytes_asked, numbers_asked};
 ghost use Rattle.shared_vm.specs.inside.TaskPlaces.{says_nothing, task_of_line};
 ghost use Rattle.shared_vm.specs.declared.task.Task.TheVariants.{Outside};
 
+use crate::asking::{Asked, asked_in};
 use crate::task_list::TaskList;
 use script_text::next_word;
 use std::alloc::Global;
@@ -125,6 +127,23 @@ impl Scripts {
         ensures { result ≡ task_count self.now }
     {
         (self.a0.len() + self.a1.len() + self.a2.len() + self.a3.len()) as u64
+    }
+
+    /// Returns what the tasks of the actors ask for together. Bytes that a task writes are decoded to `written`.
+    pub(crate) fn asked(&self, written: &mut [u8]) -> Asked
+        requires few { task_count self.now < 2 ^ 32 }
+        requires written { DATA_BYTES ≤ length written.old }
+        ensures bytes { result.bytes ≡ all_asked bytes_asked self.now }
+        ensures numbers { result.numbers ≡ all_asked numbers_asked self.now }
+    {
+        let a0 = asked_in(&self.a0, written);
+        let a1 = asked_in(&self.a1, written);
+        let a2 = asked_in(&self.a2, written);
+        let a3 = asked_in(&self.a3, written);
+        Asked {
+            bytes: a0.bytes + a1.bytes + a2.bytes + a3.bytes,
+            numbers: a0.numbers + a1.numbers + a2.numbers + a3.numbers,
+        }
     }
 }
 

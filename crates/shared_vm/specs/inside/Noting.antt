@@ -1,5 +1,5 @@
 -- How a journal is kept that takes little memory.
-use Rattle.std.specs.Prelude.{◌≡◌, ℕ, ◌+◌, ◌-◌, ◌*◌, ◌≤◌, List, ◌++◌, length, map}
+use Rattle.std.specs.Prelude.{◌≡◌, ℕ, ◌-◌, ◌≤◌, List, ◌++◌, length, map}
 use Rattle.std.specs.List.{All}
 use Rattle.vm_base.specs.declared.limits.TheConstants.{DATA_BYTES, PIN_PAGES}
 use Rattle.vm_model.specs.declared.reply.Reply.{Reply}
@@ -8,12 +8,13 @@ use Rattle.shared_vm.specs.declared.task.Deed.{Deed}
 use Rattle.shared_vm.specs.declared.place.Place.{Place}
 use Rattle.shared_vm.specs.declared.notes.Kept.{Kept}
 use Rattle.shared_vm.specs.declared.notes.Note.{Note}
+use Rattle.shared_vm.specs.Journal.{Spare, data_bytes, data_numbers}
 use Rattle.shared_vm.specs.inside.Places.{items_at, LiesWithin}
 
 -- what contracts see: the deeds, and for how many more there is room
 pub record Noted : Type 0 where
   pub deeds : List Deed
-  pub spare : ℕ
+  pub spare : Spare
 
 -- the reply that was kept
 abbrev pub reply_at : List ℕ → List ℕ → Kept → Reply
@@ -46,11 +47,9 @@ IsKept bytes numbers (Kept.Pins place) = IsDataPlace numbers PIN_PAGES place
 abbrev pub IsNoteKept : ℕ → ℕ → Note → Type 0
 IsNoteKept bytes numbers note = IsKept bytes numbers note.kept
 
--- What holds of every such journal: the data of each reply is there, and there is room for the data of further deeds.
-pub record IsJournal (bytes numbers : List ℕ) (notes : List Note) (spare bytes_room numbers_room : ℕ) : Type 0 where
-  pub kept : All (IsNoteKept (length bytes) (length numbers)) notes
-  pub bytes_left : length bytes + spare * DATA_BYTES ≤ bytes_room
-  pub numbers_left : length numbers + spare * PIN_PAGES ≤ numbers_room
+-- what holds of every such journal: the data of each reply is there
+abbrev pub IsJournal : (bytes numbers : List ℕ) → List Note → Type 0
+IsJournal bytes numbers notes = All (IsNoteKept (length bytes) (length numbers)) notes
 
 -- a reply was kept, and its data added behind the other data
 pub record Keeps (reply : Reply) (bytes_old numbers_old : List ℕ) (kept : Kept) (bytes_new numbers_new : List ℕ) : Type 0 where
@@ -58,7 +57,7 @@ pub record Keeps (reply : Reply) (bytes_old numbers_old : List ℕ) (kept : Kept
   pub numbers_more : List ℕ
   pub bytes : bytes_new ≡ bytes_old ++ bytes_more
   pub numbers : numbers_new ≡ numbers_old ++ numbers_more
-  pub bytes_few : length bytes_more ≤ DATA_BYTES
-  pub numbers_few : length numbers_more ≤ PIN_PAGES
+  pub bytes_few : length bytes_more ≤ data_bytes reply
+  pub numbers_few : length numbers_more ≤ data_numbers reply
   pub reply_is : reply_at bytes_new numbers_new kept ≡ reply
   pub is_kept : IsKept (length bytes_new) (length numbers_new) kept

@@ -1,4 +1,3 @@
-use Rattle.std.proofs.Common.{ap, length, arith}
 use Rattle.vm_model.specs.Machine.Lent.{reply_for}
 use Rattle.shared_vm.specs.inside.TaskPlaces.{task_of_line}
 use Rattle.shared_vm.proofs.RoomLaws.{IsRoom-after, TurnsOnce-after, room_left, task_at}
@@ -6,8 +5,10 @@ use Rattle.shared_vm.proofs.room.Room.turn.Goals as goal
 
 pub note-requires : goal.note-requires
 note-requires g c =
-    room_left g.P.PageStore.content _ _ _ c.self.invariant c.args.actor c.requires
-    (omega (arith, c.if-at-len.false, c.of-at.ensures, c.len.ensures, ap length c.tasks-tasks.ensures))
+    room_left g.P.PageStore.content _ _ _ c.self.invariant c.args.actor c.requires (task_of_line c.line-line.result.now) (reply_for c.answer_to-answer.result)
+    c.answer_to-answer.new.vm c.answer_to-answer.new.store
+    (task_at c.self.inside.scripts c.args.actor _ _ _ _ c.tasks-tasks.ensures c.of-at.ensures c.line-line.ensures)
+    c.answer_to-answer.ensures.does
 
 pub invariant_of-self : goal.invariant_of-self
 invariant_of-self g c =
