@@ -1,7 +1,6 @@
 //! What keeps the deeds of actors.
 
 ghost use Rattle.std.specs.Prelude.{◌≡◌, ℕ, ◌+◌, ◌-◌, ◌<◌, ◌≤◌, List, [], ◌∷◌, ◌++◌, vec_len, vec_capacity};
-ghost use Rattle.vm_model.specs.Machine.Lent.{reply_for};
 ghost use Rattle.shared_vm.specs.declared.task.Deed.{Deed};
 
 use crate::task::Deed;
@@ -18,7 +17,7 @@ pub trait Journal: Drop {
     /// Notes a deed behind the others: its actor, and the machine's answer.
     fn note(&mut self, actor: u32, answer: Answer<'_>)
         requires { 0 < spare self.old }
-        ensures deeds { deeds self.new ≡ deeds self.old ++ record { actor = actor; reply = reply_for answer.entry } ∷ [] }
+        ensures deeds { deeds self.new ≡ deeds self.old ++ record { actor = actor; reply = answer.entry } ∷ [] }
         ensures spare { spare self.old ≤ spare self.new + 1 };
 }
 
@@ -29,7 +28,7 @@ impl Journal for Vec<Deed> {
     ghost spare = { λ v. vec_capacity v - vec_len v };
 
     fn note(&mut self, actor: u32, answer: Answer<'_>) {
-        let reply = answer.into_reply();
+        let reply = answer.into_owned();
         self.push_reserved(Deed { actor, reply });
     }
 }

@@ -3,7 +3,6 @@
 ghost use Rattle.std.specs.Prelude.{◌≡◌, ◌+◌, ◌^◌, ◌<◌, ◌≤◌, [], ◌∷◌, ◌++◌, length, slice_get, vec_len, vec_capacity, Some, IfOk, OnOk, OnErr};
 ghost use Rattle.script_io.specs.Faults.{HasCause, IsCutOff};
 ghost use Rattle.vm_base.specs.declared.limits.TheConstants.{DATA_BYTES, PIN_PAGES};
-ghost use Rattle.vm_model.specs.Machine.Lent.{reply_for};
 ghost use Rattle.shared_vm.specs.declared.task.Deed.{Deed};
 ghost use Rattle.shared_vm.specs.Texts.{deed_text};
 ghost use Rattle.shared_vm.specs.inside.Noting.{Keeps};
@@ -89,7 +88,7 @@ impl Notes {
     /// Notes a deed, for which there is room.
     fn add(&mut self, actor: u32, answer: Answer<'_>)
         requires { 0 < self.old.spare }
-        ensures deeds { self.new.deeds ≡ self.old.deeds ++ record { actor = actor; reply = reply_for answer.entry } ∷ [] }
+        ensures deeds { self.new.deeds ≡ self.old.deeds ++ record { actor = actor; reply = answer.entry } ∷ [] }
         ensures spare { self.old.spare ≡ self.new.spare + 1 }
     {
         let kept = keep(answer, &mut self.bytes, &mut self.numbers);
@@ -156,7 +155,7 @@ impl Journal for Notes {
 fn keep(answer: Answer<'_>, bytes: &mut Vec<u8>, numbers: &mut Vec<u64>) -> Kept
     requires bytes { vec_len bytes.old + DATA_BYTES ≤ vec_capacity bytes.old }
     requires numbers { vec_len numbers.old + PIN_PAGES ≤ vec_capacity numbers.old }
-    ensures keeps { Keeps (reply_for answer.entry) bytes.old.items numbers.old.items result bytes.new.items numbers.new.items }
+    ensures keeps { Keeps answer.entry bytes.old.items numbers.old.items result bytes.new.items numbers.new.items }
     ensures bytes { vec_capacity bytes.old ≤ vec_capacity bytes.new }
     ensures numbers { vec_capacity numbers.old ≤ vec_capacity numbers.new }
 {
