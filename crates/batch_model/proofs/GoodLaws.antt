@@ -18,9 +18,8 @@ use Rattle.vm_model.proofs.StepLaws.{AllOff-from_none, GivesName-from, place_ins
 use Rattle.batch_model.specs.declared.job.JobName.{JobName}
 use Rattle.batch_model.specs.declared.job.JobKind.{JobKind}
 use Rattle.batch_model.specs.declared.job.Job.{Job}
-use Rattle.batch_model.specs.declared.command.BatchCommand.{BatchCommand}
+use Rattle.batch_model.specs.BatchWords.{BatchCommand, BatchReply}
 use Rattle.batch_model.specs.declared.command.BatchCommand.TheVariants.{Plain as PlainCommand, Begin, Step, Drop}
-use Rattle.batch_model.specs.declared.command.BatchReply.{BatchReply}
 use Rattle.batch_model.specs.declared.command.BatchReply.TheVariants.{Plain as PlainReply, Left}
 use Rattle.batch_model.specs.Pieces.{plain_command, begun, whole_of, left_of, piece_len, piece_of, advanced, IsOfPages}
 use Rattle.batch_model.specs.Batch.{BatchState, batch_refusals, jobs_after, DoesPiece, IsRefusedBatch, BatchStepAfter, BatchStep, IsGoodJob, AreGoodJobs, IsGoodBatch, HasBatchRanges}

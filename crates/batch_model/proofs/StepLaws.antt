@@ -8,16 +8,15 @@ use Rattle.vm_base.specs.declared.refusal.Refusal.{Refusal}
 use Rattle.vm_base.specs.declared.refusal.Refusal.TheVariants.{BadHandle, InvalidArgs, HostMemory}
 use Rattle.vm_base.proofs.EntryLaws.{some_same, with_key-other, without_key-other}
 use Rattle.vm_base.proofs.SearchLaws.{eqb_apart}
-use Rattle.vm_model.specs.declared.reply.Reply.{Reply}
+use Rattle.vm_model.specs.Machine.Words.{Reply}
 use Rattle.vm_model.specs.declared.reply.Reply.TheVariants.{Done}
 use Rattle.vm_model.specs.Machine.Machine.{Machine}
 use Rattle.vm_model.specs.Machine.MachineStep.{MachineStep}
 use Rattle.vm_model.specs.Machine.Refusals.{first_of}
 use Rattle.batch_model.specs.declared.job.JobName.{JobName}
 use Rattle.batch_model.specs.declared.job.Job.{Job}
-use Rattle.batch_model.specs.declared.command.BatchCommand.{BatchCommand}
+use Rattle.batch_model.specs.BatchWords.{BatchCommand, BatchReply}
 use Rattle.batch_model.specs.declared.command.BatchCommand.TheVariants.{Plain as PlainCommand, Begin, Step, Drop}
-use Rattle.batch_model.specs.declared.command.BatchReply.{BatchReply}
 use Rattle.batch_model.specs.declared.command.BatchReply.TheVariants.{Plain as PlainReply, Left}
 use Rattle.batch_model.specs.Pieces.{left_of, piece_len, piece_of, advanced, IsOfPages}
 use Rattle.batch_model.specs.Batch.{BatchState, batch_refusals, jobs_after, PieceGives, DoesPiece, IsRefusedBatch, BatchStepAfter, BatchStep}

@@ -5,8 +5,7 @@ use Rattle.vm_base.specs.Entries.{with_key, without_key}
 use Rattle.vm_base.specs.declared.limits.TheConstants.{PAGE, VMO_PAGES}
 use Rattle.vm_base.specs.declared.refusal.Refusal.{Refusal}
 use Rattle.vm_base.specs.declared.refusal.Refusal.TheVariants.{BadHandle, NameInUse, InvalidArgs, OutOfRange, HostMemory}
-use Rattle.vm_model.specs.declared.command.Command.{Command}
-use Rattle.vm_model.specs.declared.reply.Reply.{Reply}
+use Rattle.vm_model.specs.Machine.Words.{Command, Reply}
 use Rattle.vm_model.specs.declared.reply.Reply.TheVariants.{Done, Refused}
 use Rattle.vm_model.specs.Language.Spelling.{HasRanges}
 use Rattle.vm_model.specs.Machine.State.{is_open, size_of}
@@ -14,9 +13,8 @@ use Rattle.vm_model.specs.Machine.Refusals.{first_of}
 use Rattle.vm_model.specs.Machine.Machine.{Machine, empty_machine, IsGoodMachine}
 use Rattle.vm_model.specs.Machine.MachineStep.{MachineStep}
 use Rattle.batch_model.specs.declared.job.Job.{Job}
-use Rattle.batch_model.specs.declared.command.BatchCommand.{BatchCommand}
+use Rattle.batch_model.specs.BatchWords.{BatchCommand, BatchReply}
 use Rattle.batch_model.specs.declared.command.BatchCommand.TheVariants.{Plain as PlainCommand, Begin, Step, Drop}
-use Rattle.batch_model.specs.declared.command.BatchReply.{BatchReply}
 use Rattle.batch_model.specs.declared.command.BatchReply.TheVariants.{Plain as PlainReply, Left}
 use Rattle.batch_model.specs.Pieces.{begun, left_of, piece_of, advanced, IsOfPages}
 

@@ -8,9 +8,8 @@ use Rattle.vm_model.specs.Language.Text.{reply_lines, ok_line, field}
 use Rattle.batch_model.specs.declared.job.JobName.{JobName}
 use Rattle.batch_model.specs.declared.job.JobKind.{JobKind}
 use Rattle.batch_model.specs.declared.job.JobKind.TheVariants.{Commit, Zero, Decommit}
-use Rattle.batch_model.specs.declared.command.BatchCommand.{BatchCommand}
+use Rattle.batch_model.specs.BatchWords.{BatchCommand, BatchReply}
 use Rattle.batch_model.specs.declared.command.BatchCommand.TheVariants.{Plain as PlainCommand, Begin, Step, Drop}
-use Rattle.batch_model.specs.declared.command.BatchReply.{BatchReply}
 use Rattle.batch_model.specs.declared.command.BatchReply.TheVariants.{Plain as PlainReply, Left}
 
 -- ---- reading

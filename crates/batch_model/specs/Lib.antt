@@ -1,5 +1,5 @@
 pub mod Pieces
 pub mod Batch
 pub mod BatchRuns
-pub mod BatchLent
+pub mod BatchWords
 pub mod BatchLanguage

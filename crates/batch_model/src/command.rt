@@ -2,13 +2,14 @@
 
 use crate::job::{JobKind, JobName};
 use vm_base::VmoName;
-use vm_model::{Command, Reply};
+use vm_model::{Bytes4k, Command, PinNumbers, Reply};
 
-/// A command of a machine with jobs. Offsets and lengths are in bytes from the first byte of the name.
+/// A command of a machine with jobs. Offsets and lengths are in bytes from the first byte of the name. `B` is the
+/// bytes that it writes.
 #[derive(Drop)]
-pub enum BatchCommand {
+pub enum BatchCommand<B: Drop = Bytes4k> {
     /// A command of the machine.
-    Plain(Command),
+    Plain(Command<B>),
     /// Begins a job on a range of whole pages. It does none of them yet.
     Begin {
         job: JobName,
@@ -28,11 +29,11 @@ pub enum BatchCommand {
     },
 }
 
-/// The reply of a machine with jobs to a command.
+/// The reply of a machine with jobs to a command. `B` is the bytes that were read, and `N` the numbers of pinned frames.
 #[derive(Drop)]
-pub enum BatchReply {
+pub enum BatchReply<B: Drop = Bytes4k, N: Drop = PinNumbers> {
     /// The reply of the machine itself.
-    Plain(Reply),
+    Plain(Reply<B, N>),
     /// It is done, and so many pages of the job are left.
     Left(u64),
 }

@@ -3,7 +3,7 @@ use Rattle.std.proofs.Common.{◌≡◌, ℕ, Option, None, Some, refl, sym, ap,
 use Rattle.vm_base.specs.declared.names.VmoName.{VmoName}
 use Rattle.vm_base.specs.declared.refusal.Refusal.{Refusal}
 use Rattle.vm_model.specs.declared.command.Command.TheVariants.{VmoSize}
-use Rattle.vm_model.specs.declared.reply.Reply.{Reply}
+use Rattle.vm_model.specs.Machine.Words.{Reply}
 use Rattle.vm_model.specs.Contents.Content.{Content}
 use Rattle.vm_model.specs.Space.Readiness.{settled}
 use Rattle.vm_model.specs.Machine.State.{State}
@@ -13,8 +13,7 @@ use Rattle.vm_model.specs.Machine.Refusals.{refusals, first_of}
 use Rattle.vm_model.proofs.ReadinessLaws.{keeps_frame-from, settled-same}
 use Rattle.vm_core.specs.Vm.{Agrees}
 use Rattle.batch_model.specs.declared.job.Job.{Job}
-use Rattle.batch_model.specs.declared.command.BatchCommand.{BatchCommand}
-use Rattle.batch_model.specs.declared.command.BatchReply.{BatchReply}
+use Rattle.batch_model.specs.BatchWords.{BatchCommand, BatchReply}
 use Rattle.batch_model.specs.Batch.{AreGoodJobs}
 use Rattle.batch_model.proofs.GoodLaws.{BatchStep-jobs}
 use Rattle.batch_vm.specs.Jobs.{jobs_of}

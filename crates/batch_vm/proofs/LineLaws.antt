@@ -9,8 +9,7 @@ use Rattle.vm_core.proofs.AgreeLaws.{agrees_good}
 use Rattle.vm_core.proofs.StartLaws.{filled_fresh}
 use Rattle.line_server.specs.Answering.{syntax_text}
 use Rattle.line_server.specs.Outcome.{SinkTakes, AnswersLine}
-use Rattle.batch_model.specs.declared.command.BatchCommand.{BatchCommand}
-use Rattle.batch_model.specs.declared.command.BatchReply.{BatchReply}
+use Rattle.batch_model.specs.BatchWords.{BatchCommand, BatchReply}
 use Rattle.batch_model.specs.Batch.{BatchState, BatchStep, IsGoodBatch, empty_batch}
 use Rattle.batch_model.specs.BatchLanguage.{BatchReading, Order, Outside, batch_reading, batch_text}
 use Rattle.batch_vm.specs.Batch.{BatchParts, batch_of, AgreesBatch}

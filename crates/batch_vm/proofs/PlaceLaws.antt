@@ -4,7 +4,7 @@ use Rattle.std.proofs.lemmas.Bool.{cases_lt, cond-true, cond-false, lt-ltb, le-l
 use Rattle.std.specs.Prelude.{nat_lt, option_and_then, codes}
 use Rattle.vm_base.specs.declared.limits.TheConstants.{NAMES}
 use Rattle.vm_model.specs.Language.Reading.{is_word, is_hex, has_leading_zero, below, digit, digits, number, vmo}
-use Rattle.batch_model.specs.declared.command.BatchCommand.{BatchCommand}
+use Rattle.batch_model.specs.BatchWords.{BatchCommand}
 use Rattle.batch_model.specs.BatchLanguage.{job_name, job_kind, begin_order, step_order, drop_order, job_order}
 use Rattle.batch_vm.specs.Places.{if_all, begin_at, step_at, drop_at, order_at}
 

@@ -5,8 +5,7 @@ use Rattle.vm_model.specs.Contents.Content.{Content}
 use Rattle.vm_model.specs.Machine.State.{State, is_open, size_of}
 use Rattle.vm_model.specs.Machine.Machine.{IsGoodMachine}
 use Rattle.vm_core.specs.Vm.{Parts, machine_of, Agrees}
-use Rattle.batch_model.specs.declared.command.BatchCommand.{BatchCommand}
-use Rattle.batch_model.specs.declared.command.BatchReply.{BatchReply}
+use Rattle.batch_model.specs.BatchWords.{BatchCommand, BatchReply}
 use Rattle.batch_model.specs.Batch.{BatchState, BatchStep, AreGoodJobs}
 use Rattle.batch_vm.specs.Jobs.{Jobs, jobs_of}
 

@@ -4,7 +4,7 @@ use Rattle.std.proofs.Common.{sym, subst}
 use Rattle.std.proofs.lemmas.Bool.Decides.{Decides-ltb}
 use Rattle.vm_base.specs.declared.limits.TheConstants.{LINE_BYTES}
 use Rattle.vm_model.specs.Language.Reading.{Outside as PlainOutside, reading, reading_of_words, words}
-use Rattle.batch_model.specs.declared.command.BatchReply.{BatchReply}
+use Rattle.batch_model.specs.BatchWords.{BatchReply}
 use Rattle.batch_model.specs.Batch.{BatchState, BatchStep, IsGoodBatch, empty_batch}
 use Rattle.batch_model.specs.BatchLanguage.{BatchReading, Blank, Order, Outside, batch_reading, reading_beside, job_order, batch_text}
 use Rattle.line_server.specs.Answering.{Answering, syntax_text}

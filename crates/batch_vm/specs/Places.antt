@@ -2,7 +2,7 @@
 use Rattle.std.specs.Prelude.{ℕ, nat_lt, List, length, codes, slice_get, if◌then◌else◌, Option, None, Some}
 use Rattle.vm_model.specs.Language.Reading.{is_word, number, vmo, ◌>>=◌}
 use Rattle.batch_model.specs.BatchLanguage.{job_name, job_kind}
-use Rattle.batch_model.specs.declared.command.BatchCommand.{BatchCommand}
+use Rattle.batch_model.specs.BatchWords.{BatchCommand}
 use Rattle.batch_model.specs.declared.command.BatchCommand.TheVariants.{Begin, Step, Drop}
 
 -- what the word at a place is read as

@@ -36,7 +36,6 @@ impl Batch {
     ghost use Rattle.vm_model.specs.Contents.Content.{Content, HasNoVmo};
     ghost use Rattle.vm_core.specs.Vm.{Agrees, bare_machine};
     ghost use Rattle.batch_model.specs.Batch.{BatchStep, IsGoodBatch, empty_batch};
-    ghost use Rattle.batch_model.specs.BatchLent.{batch_command_of, batch_reply_for};
     ghost use Rattle.batch_vm.specs.Batch.{batch_of};
 
     /// Makes a machine with no jobs and nothing else. It agrees with every store that has no VMO, whatever its next koid is,
@@ -67,7 +66,7 @@ impl Batch {
         let mut bytes = [0; DATA_BYTES];
         let mut numbers = [0; PIN_PAGES];
         self.answer(store, &command.lend(), &mut bytes, &mut numbers)
-            .into_reply()
+            .into_owned()
     }
 
     /// Does the event of `step` for a command whose bytes are lent. The answer lends what was read of `bytes`, which
@@ -83,7 +82,7 @@ impl Batch {
         requires next { (P.content store.old).next < KOIDS }
         requires bytes { DATA_BYTES ≤ length bytes.old }
         requires numbers { PIN_PAGES ≤ length numbers.old }
-        ensures step { BatchStep (batch_of (P.content store.old) self.old) (batch_command_of call.now) (batch_reply_for result)
+        ensures step { BatchStep (batch_of (P.content store.old) self.old) call.now result
             (batch_of (P.content store.new) self.new) }
         ensures agrees { Agrees (P.content store.new) self.new.vm }
         ensures good { IsGoodBatch (batch_of (P.content store.new) self.new) }

@@ -7,13 +7,13 @@ ghost use Rattle.vm_model.specs.Machine.Machine.{Machine, IsGoodMachine};
 ghost use Rattle.vm_model.specs.Machine.Refusals.{first_of};
 ghost use Rattle.vm_model.specs.Machine.State.{is_open, size_of};
 ghost use Rattle.vm_core.specs.Vm.{Agrees, machine_of};
+ghost use Rattle.batch_model.specs.declared.command.BatchCommand.TheVariants as BatchCommand;
 ghost use Rattle.batch_model.specs.Batch.{BatchStep};
-ghost use Rattle.batch_model.specs.BatchLent.{batch_reply_for};
 ghost use Rattle.batch_vm.specs.Batch.{DoesBatch, TellsSize};
 ghost use Rattle.batch_vm.specs.Jobs.{jobs_of};
 
 use crate::job_table::JobTable;
-use batch_model::{BatchAnswer, BatchCommand, Job, JobKind, JobName};
+use batch_model::{BatchAnswer, Job, JobKind, JobName};
 use page_store::PageStore;
 use vm_base::{PAGE, Refusal, VmoName};
 use vm_core::Vm;
@@ -86,7 +86,7 @@ fn begin_open(table: &mut JobTable, request: JobRequest, size: u64) -> BatchAnsw
     ensures { (m : Machine) → is_open m.state request.name.0 ≡ true → size ≡ size_of m.state request.name.0 →
         BatchStep (record { machine = m; jobs = jobs_of table.old })
         (BatchCommand.Begin request.job request.kind request.name request.offset request.len)
-        (batch_reply_for result) (record { machine = m; jobs = jobs_of table.new }) }
+        result (record { machine = m; jobs = jobs_of table.new }) }
 {
     let is_there = table.find(request.job).is_some();
     if let Some(refusal) = begin_refusal(is_there, request.offset, request.len, size) {
@@ -119,7 +119,7 @@ pub fn begin<P: PageStore>(
     requires numbers { PIN_PAGES ≤ length numbers.old }
     ensures { DoesBatch (P.content store.old) (record { vm = vm.old; jobs = table.old })
         (BatchCommand.Begin request.job request.kind request.name request.offset request.len)
-        (batch_reply_for result) (P.content store.new) (record { vm = vm.new; jobs = table.new }) }
+        result (P.content store.new) (record { vm = vm.new; jobs = table.new }) }
 {
     let Some(size) = size_of(store, vm, request.name, bytes, numbers) else {
         return BatchAnswer::Plain(Answer::Refused(Refusal::BadHandle));

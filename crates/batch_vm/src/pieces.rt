@@ -1,7 +1,6 @@
 //! The pieces of a job.
 
 ghost use Rattle.std.specs.Prelude.{◌≡◌, ◌+◌, ◌≤◌};
-ghost use Rattle.vm_model.specs.Machine.Lent.{command_of};
 ghost use Rattle.batch_model.specs.Pieces.{plain_command, left_of, piece_len};
 ghost use Rattle.batch_model.specs.Batch.{IsGoodJob};
 
@@ -30,7 +29,7 @@ pub fn piece_len(job: &Job, pages: u64) -> u64
 
 /// Returns the plain command on `len` bytes of a job, from the next on.
 pub fn piece_call(job: &Job, len: u64) -> Call<'static>
-    ensures { command_of result ≡ plain_command job.now.kind job.now.name job.now.next len }
+    ensures { result ≡ plain_command job.now.kind job.now.name job.now.next len }
 {
     let name = job.name;
     let offset = job.next;

@@ -1,10 +1,9 @@
 //! What one line says to a machine with jobs.
 
-ghost use Rattle.std.specs.Prelude.{◌≡◌, ◌≤◌, length, nat_lt, None, option_map, if◌then◌else◌};
+ghost use Rattle.std.specs.Prelude.{◌≡◌, ◌≤◌, length, nat_lt, None, if◌then◌else◌};
 ghost use Rattle.vm_base.specs.declared.limits.TheConstants.{DATA_BYTES, LINE_BYTES};
 ghost use Rattle.vm_model.specs.Language.Reading.{words};
 ghost use Rattle.batch_model.specs.BatchLanguage.{batch_reading, job_order};
-ghost use Rattle.batch_model.specs.BatchLent.{batch_command_of};
 ghost use Rattle.batch_vm.specs.BatchLines.{batch_reading_of, batch_reading_of_call};
 ghost use Rattle.batch_vm.specs.Places.{begin_at, step_at, drop_at, order_at};
 
@@ -29,7 +28,7 @@ pub fn read_batch_line(line: &[u8]) -> Result<BatchLine, SyntaxFault>
 {
     let mut room = [0; DATA_BYTES];
     match read_batch_call(line, &mut room)? {
-        Some(call) => Ok(BatchLine::Order(call.to_command())),
+        Some(call) => Ok(BatchLine::Order(call.to_owned())),
         None => Ok(BatchLine::Blank),
     }
 }
@@ -56,7 +55,7 @@ pub fn read_batch_call<'a>(
 
 /// Returns the command on jobs that a line is, or `None` if it is none.
 fn job_call<'a>(line: &[u8]) -> Option<BatchCall<'a>>
-    ensures { option_map batch_command_of result ≡ (if nat_lt LINE_BYTES (length line.now) then None else job_order (words line.now)) }
+    ensures { result ≡ (if nat_lt LINE_BYTES (length line.now) then None else job_order (words line.now)) }
 {
     if line.len() > LINE_BYTES {
         return None;
@@ -66,7 +65,7 @@ fn job_call<'a>(line: &[u8]) -> Option<BatchCall<'a>>
 
 /// Returns the same of a line of any length.
 fn call_of_words<'a>(line: &[u8]) -> Option<BatchCall<'a>>
-    ensures { option_map batch_command_of result ≡ order_at (words line.now) }
+    ensures { result ≡ order_at (words line.now) }
 {
     let verb = word(line, 0)?;
     if verb == b"begin".as_slice() {
@@ -82,7 +81,7 @@ fn call_of_words<'a>(line: &[u8]) -> Option<BatchCall<'a>>
 
 /// Reads `begin JOB KIND VMO OFFSET LEN`, behind its first word.
 fn begin_call<'a>(line: &[u8]) -> Option<BatchCall<'a>>
-    ensures { option_map batch_command_of result ≡ begin_at (words line.now) }
+    ensures { result ≡ begin_at (words line.now) }
 {
     let job = job_name_at(line, 1)?;
     let kind = job_kind_at(line, 2)?;
@@ -103,7 +102,7 @@ fn begin_call<'a>(line: &[u8]) -> Option<BatchCall<'a>>
 
 /// Reads `step JOB PAGES`, behind its first word.
 fn step_call<'a>(line: &[u8]) -> Option<BatchCall<'a>>
-    ensures { option_map batch_command_of result ≡ step_at (words line.now) }
+    ensures { result ≡ step_at (words line.now) }
 {
     let job = job_name_at(line, 1)?;
     let pages = number_at(line, 2)?;
@@ -115,7 +114,7 @@ fn step_call<'a>(line: &[u8]) -> Option<BatchCall<'a>>
 
 /// Reads `drop JOB`, behind its first word.
 fn drop_call<'a>(line: &[u8]) -> Option<BatchCall<'a>>
-    ensures { option_map batch_command_of result ≡ drop_at (words line.now) }
+    ensures { result ≡ drop_at (words line.now) }
 {
     let job = job_name_at(line, 1)?;
     if has_more(line, 2) {

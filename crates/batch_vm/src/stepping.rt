@@ -2,18 +2,17 @@
 
 ghost use Rattle.std.specs.Prelude.{◌≡◌, ◌+◌, ◌<◌, ◌≤◌, length, Some};
 ghost use Rattle.vm_base.specs.declared.limits.TheConstants.{DATA_BYTES, KOIDS, PIN_PAGES};
-ghost use Rattle.vm_model.specs.Machine.Lent.{reply_for};
 ghost use Rattle.vm_model.specs.Machine.Machine.{Machine};
 ghost use Rattle.vm_core.specs.Vm.{Agrees};
+ghost use Rattle.batch_model.specs.declared.command.BatchCommand.TheVariants as BatchCommand;
 ghost use Rattle.batch_model.specs.declared.job.Job.{Job as JobSpec};
 ghost use Rattle.batch_model.specs.Batch.{BatchStep, PieceGives, AreGoodJobs};
-ghost use Rattle.batch_model.specs.BatchLent.{batch_reply_for};
 ghost use Rattle.batch_vm.specs.Batch.{DoesBatch};
 ghost use Rattle.batch_vm.specs.Jobs.{jobs_of};
 
 use crate::job_table::JobTable;
 use crate::pieces::{pages_left, piece_call, piece_len};
-use batch_model::{BatchAnswer, BatchCommand, Job, JobName};
+use batch_model::{BatchAnswer, Job, JobName};
 use page_store::PageStore;
 use vm_base::Refusal;
 use vm_core::Vm;
@@ -30,8 +29,8 @@ fn note_piece<'a>(
 ) -> BatchAnswer<'a>
     requires there { jobs_of table.old name.0 ≡ Some held }
     requires inside { held.next + len ≤ held.end }
-    ensures { PieceGives (reply_for answer.entry) (jobs_of table.old) name.0 (record held { next = held.next + len })
-        (batch_reply_for result) (jobs_of table.new) }
+    ensures { PieceGives answer.entry (jobs_of table.old) name.0 (record held { next = held.next + len })
+        result (jobs_of table.new) }
 {
     match answer {
         Answer::Done => {
@@ -69,7 +68,7 @@ pub fn do_piece<'a, P: PageStore>(
     requires bytes { DATA_BYTES ≤ length bytes.old }
     requires numbers { PIN_PAGES ≤ length numbers.old }
     ensures { DoesBatch (P.content store.old) (record { vm = vm.old; jobs = table.old }) (BatchCommand.Step request.job request.pages)
-        (batch_reply_for result) (P.content store.new) (record { vm = vm.new; jobs = table.new }) }
+        result (P.content store.new) (record { vm = vm.new; jobs = table.new }) }
 {
     let Some(held) = table.find(request.job) else {
         return BatchAnswer::Plain(Answer::Refused(Refusal::BadHandle));
@@ -85,7 +84,7 @@ pub fn do_piece<'a, P: PageStore>(
 /// Gives a job up. What was done of it stays so.
 pub fn drop_job(table: &mut JobTable, job: JobName) -> BatchAnswer<'static>
     ensures { (m : Machine) → BatchStep (record { machine = m; jobs = jobs_of table.old }) (BatchCommand.Drop job)
-        (batch_reply_for result) (record { machine = m; jobs = jobs_of table.new }) }
+        result (record { machine = m; jobs = jobs_of table.new }) }
 {
     if table.find(job).is_none() {
         return BatchAnswer::Plain(Answer::Refused(Refusal::BadHandle));

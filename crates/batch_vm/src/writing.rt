@@ -5,7 +5,6 @@ ghost use Rattle.std.specs.Io.KnownBytes.{Appends};
 ghost use Rattle.script_io.specs.Faults.{HasCause, IsCutOff};
 ghost use Rattle.vm_model.specs.Language.Text.{ok_line, field};
 ghost use Rattle.batch_model.specs.BatchLanguage.{batch_reply_lines, batch_text, left_line};
-ghost use Rattle.batch_model.specs.BatchLent.{batch_reply_for};
 
 use batch_model::{BatchAnswer, BatchReply};
 use line_server::push_answer;
@@ -63,8 +62,8 @@ pub fn push_batch_answer<K: Sink>(
     buffer: &mut [u8],
 ) -> Result<(), Failed>
     requires { TEXT_ROOM ≤ length buffer.old }
-    ensures ok { OnOk result (Appends (K.contents sink.old) (K.contents sink.new) (batch_text (batch_reply_for answer.now))) }
-    ensures err { OnErr result (IsCutOff (K.contents sink.old) (K.contents sink.new) (batch_text (batch_reply_for answer.now))) }
+    ensures ok { OnOk result (Appends (K.contents sink.old) (K.contents sink.new) (batch_text answer.now)) }
+    ensures err { OnErr result (IsCutOff (K.contents sink.old) (K.contents sink.new) (batch_text answer.now)) }
     ensures cause { HasCause (K.faults sink.old) (K.faults sink.new) result }
 {
     match answer {

@@ -10,8 +10,8 @@ use Rattle.vm_base.specs.declared.names.RegionName.{RegionName}
 use Rattle.vm_base.specs.declared.names.VmoName.{VmoName}
 use Rattle.vm_base.specs.declared.refusal.Refusal.{Refusal}
 use Rattle.vm_base.specs.declared.refusal.Refusal.TheVariants.{BadHandle}
-use Rattle.vm_model.specs.declared.call.Call.{Call}
-use Rattle.vm_model.specs.declared.command.Command.{Command}
+use Rattle.vm_model.specs.Machine.Words.{Command}
+use Rattle.vm_model.specs.declared.command.Command.TheVariants as Command
 use Rattle.vm_model.specs.declared.command.Command.TheVariants.{VmoChild, MemRead}
 use Rattle.vm_model.specs.declared.command.ChildKind.{ChildKind}
 use Rattle.vm_model.specs.declared.command.ChildKind.TheVariants.{Snapshot, Slice, Reference}
@@ -22,7 +22,6 @@ use Rattle.vm_model.specs.Contents.Content.{Content}
 use Rattle.vm_model.specs.Contents.Writing.{touched}
 use Rattle.vm_model.specs.Space.Mappings.{is_mapped_in}
 use Rattle.vm_model.specs.Space.Regions.{region_of}
-use Rattle.vm_model.specs.Machine.Lent.{command_of}
 use Rattle.vm_model.specs.Machine.State.{State, koid_of}
 use Rattle.vm_model.specs.Machine.Refusals.{refusals, first_of}
 use Rattle.vm_model.specs.Machine.Step.{may_lack_memory, touches_any}
@@ -63,18 +62,18 @@ lack_asked s command (Ok a) is may free refused = is ∙ lack_free s command (fr
 lack_asked s command (Err refusal) is may free refused = is ∙ lack_refused s command (refused refusal refl)
 
 -- what is no access may want memory of the machine where the state may lack it
-lack_want : (m : Machine) (call : Call) → (group_of call ≡ Group.Memory → ⊥) → may_want_memory m (command_of call) ≡ may_lack_memory m.state (command_of call)
-lack_want m (Call.MemRead region addr len) other = absurd (other refl)
-lack_want m (Call.MemWrite region addr bytes) other = absurd (other refl)
+lack_want : (m : Machine) (call : Command) → (group_of call ≡ Group.Memory → ⊥) → may_want_memory m call ≡ may_lack_memory m.state call
+lack_want m (Command.MemRead region addr len) other = absurd (other refl)
+lack_want m (Command.MemWrite region addr bytes) other = absurd (other refl)
 lack_want m _ other = refl
 
-pub lack_wants : (m : Machine) (call : Call) {result : Bool} (group : Group) → group_of call ≡ group → (group ≡ Group.Memory → ⊥) → result ≡ may_lack m.state (command_of call) → result ≡ may_want m (command_of call)
+pub lack_wants : (m : Machine) (call : Command) {result : Bool} (group : Group) → group_of call ≡ group → (group ≡ Group.Memory → ⊥) → result ≡ may_lack m.state call → result ≡ may_want m call
 lack_wants m call group e other is =
-    is ∙ ap (λ (b : Bool). not (is_some (first_of (refusals m.state (command_of call)))) && b) (sym (lack_want m call (λ memory. other (sym e ∙ memory))))
+    is ∙ ap (λ (b : Bool). not (is_some (first_of (refusals m.state call))) && b) (sym (lack_want m call (λ memory. other (sym e ∙ memory))))
 
 -- a question about the whole machine wants none
-pub none_lacks : (s : State) (call : Call) → group_of call ≡ Group.Machine → false ≡ may_lack s (command_of call)
-none_lacks s Call.Stat e = refl
+pub none_lacks : (s : State) (call : Command) → group_of call ≡ Group.Machine → false ≡ may_lack s call
+none_lacks s Command.Stat e = refl
 none_lacks s _ e = absurd cc
 
 -- a read that nothing refuses is of few bytes

@@ -5,9 +5,7 @@ ghost use Rattle.std.specs.Option.{option_map};
 ghost use Rattle.vm_base.specs.declared.limits.TheConstants.{DATA_BYTES, FRAMES, KOIDS, PIN_PAGES};
 ghost use Rattle.vm_base.specs.declared.names.Tag.{Tag};
 ghost use Rattle.vm_base.specs.declared.refusal.Refusal.{Refusal};
-ghost use Rattle.vm_model.specs.declared.answer.Answer.{Answer};
-ghost use Rattle.vm_model.specs.declared.reply.Reply.{Reply};
-ghost use Rattle.vm_model.specs.Machine.Lent.{command_of, reply_for};
+ghost use Rattle.vm_model.specs.declared.reply.Reply.TheVariants as Reply;
 ghost use Rattle.vm_model.specs.Machine.Refusals.{refusals, first_of};
 ghost use Rattle.moving_model.specs.Moving.{tells_place};
 
@@ -73,8 +71,8 @@ impl CheckerMachine {
     /// Returns whether want of memory may be the reply to a call (`HostMemory`): nothing refuses it, and it may want
     /// memory.
     pub fn may_want_memory(&self, call: &Call<'_>) -> bool
-        ensures { result ≡ (not (is_some (first_of (refusals (checker_machine_of self.now).state (command_of call.now))))
-            && may_want_memory (checker_machine_of self.now) (command_of call.now)) }
+        ensures { result ≡ (not (is_some (first_of (refusals (checker_machine_of self.now).state call.now)))
+            && may_want_memory (checker_machine_of self.now) call.now) }
     {
         let (vmos, pins) = (self.machine.vmos(), self.machine.pins());
         let (regions, maps) = (self.machine.regions(), self.machine.maps());
@@ -104,17 +102,17 @@ impl CheckerMachine {
         requires bytes { DATA_BYTES ≤ length bytes.old }
         requires numbers { PIN_PAGES ≤ length numbers.old }
         ensures step { MatchResult result (λ given. MatchOption given
-            ((checker_machine_of self.new ≡ checker_machine_of self.old) × (tells_place (command_of call.now) ≡ true)
-            × (first_of (refusals (checker_machine_of self.old).state (command_of call.now)) ≡ None)
-            × ((new : Machine) → MachineStep (checker_machine_of self.old) (command_of call.now) (Reply.Address told) new → ⊥))
-            (λ answer. MachineStep (checker_machine_of self.old) (command_of call.now) (reply_for answer) (checker_machine_of self.new)))
+            ((checker_machine_of self.new ≡ checker_machine_of self.old) × (tells_place call.now ≡ true)
+            × (first_of (refusals (checker_machine_of self.old).state call.now) ≡ None)
+            × ((new : Machine) → MachineStep (checker_machine_of self.old) call.now (Reply.Address told) new → ⊥))
+            (λ answer. MachineStep (checker_machine_of self.old) call.now answer (checker_machine_of self.new)))
             (λ lack. checker_machine_of self.new ≡ checker_machine_of self.old) }
-        ensures lack { OnErr result ((first_of (refusals (checker_machine_of self.old).state (command_of call.now)) ≡ None)
-            × (may_want_memory (checker_machine_of self.old) (command_of call.now) ≡ true)) }
+        ensures lack { OnErr result ((first_of (refusals (checker_machine_of self.old).state call.now) ≡ None)
+            × (may_want_memory (checker_machine_of self.old) call.now ≡ true)) }
         ensures own { MatchResult result (λ given. MatchOption given ⊤
-            (λ answer. reply_for answer ≢ Reply.Refused Refusal.HostMemory)) (λ lack. ⊤) }
-        ensures place { MatchResult result (λ given. MatchOption given ⊤ (λ answer. tells_place (command_of call.now) ≡ true
-            → (address : ℕ) → reply_for answer ≡ Reply.Address address → address ≡ told)) (λ lack. ⊤) }
+            (λ answer. answer ≢ Reply.Refused Refusal.HostMemory)) (λ lack. ⊤) }
+        ensures place { MatchResult result (λ given. MatchOption given ⊤ (λ answer. tells_place call.now ≡ true
+            → (address : ℕ) → answer ≡ Reply.Address address → address ≡ told)) (λ lack. ⊤) }
         ensures good { IsGoodMachine (checker_machine_of self.new) }
         ensures next { (checker_machine_of self.new).state.content.next ≤ (checker_machine_of self.old).state.content.next + 1 }
         ensures frames { (checker_machine_of self.new).state.content.frames ≡ (checker_machine_of self.old).state.content.frames }
@@ -154,8 +152,8 @@ impl CheckerMachine {
 /// Returns the answer, if there is one. `HostMemory` if it is that the host has too little memory.
 #[inline(always)]
 fn own(given: Option<Answer<'_>>) -> Result<Option<Answer<'_>>, HostMemory>
-    ensures given { MatchResult result (λ own. own ≡ given.entry) (λ lack. given.entry ≡ Some (Answer.Refused Refusal.HostMemory)) }
-    ensures own { MatchResult result (λ own. MatchOption own ⊤ (λ answer. reply_for answer ≢ Reply.Refused Refusal.HostMemory)) (λ lack. ⊤) }
+    ensures given { MatchResult result (λ own. own ≡ given.entry) (λ lack. given.entry ≡ Some (Reply.Refused Refusal.HostMemory)) }
+    ensures own { MatchResult result (λ own. MatchOption own ⊤ (λ answer. answer ≢ Reply.Refused Refusal.HostMemory)) (λ lack. ⊤) }
 {
     match given {
         Some(Answer::Refused(Refusal::HostMemory)) => Err(HostMemory),

@@ -3,9 +3,8 @@
 
 ghost use Rattle.std.specs.Prelude.{◌≡◌, ◌≤◌, Bool, IsSome, not};
 ghost use Rattle.std.specs.List.{list_any};
-ghost use Rattle.vm_model.specs.declared.command.Command.{Command};
+ghost use Rattle.vm_model.specs.declared.command.Command.TheVariants as Command;
 ghost use Rattle.vm_model.specs.Contents.Content.{Content, is_held, sole};
-ghost use Rattle.vm_model.specs.Machine.Lent.{command_of};
 ghost use Rattle.vm_model.specs.Machine.State.{State};
 ghost use Rattle.mapping_set.specs.Backed.{AreBacked};
 ghost use Rattle.mapping_set.specs.Tables.{table_of, places_of};
@@ -49,7 +48,7 @@ pub(crate) fn vmo_wants(
 ) -> bool
     requires group { group_of call.now ≡ Group.Vmo }
     requires parts { AreTogether (flat_content pages.now) vmos.now pins.now }
-    ensures { (s : State) → result ≡ may_lack (with_tables s (flat_content pages.now) vmos.now pins.now) (command_of call.now) }
+    ensures { (s : State) → result ≡ may_lack (with_tables s (flat_content pages.now) vmos.now pins.now) call.now }
 {
     match call {
         Call::VmoCreate { name, size, .. } => create_wants(vmos, *name, *size),
@@ -127,7 +126,7 @@ pub(crate) fn pages_want(
 ) -> bool
     requires group { group_of call.now ≡ Group.Pages }
     requires parts { AreTogether (flat_content pages.now) vmos.now pins.now }
-    ensures { (s : State) → result ≡ may_lack (with_tables s (flat_content pages.now) vmos.now pins.now) (command_of call.now) }
+    ensures { (s : State) → result ≡ may_lack (with_tables s (flat_content pages.now) vmos.now pins.now) call.now }
 {
     match call {
         Call::VmoWrite {
@@ -231,7 +230,7 @@ pub(crate) fn pin_wants(
 ) -> bool
     requires group { group_of call.now ≡ Group.Pin }
     requires parts { AreTogether (flat_content pages.now) vmos.now pins.now }
-    ensures { (s : State) → result ≡ may_lack (with_tables s (flat_content pages.now) vmos.now pins.now) (command_of call.now) }
+    ensures { (s : State) → result ≡ may_lack (with_tables s (flat_content pages.now) vmos.now pins.now) call.now }
 {
     match call {
         Call::VmoPin {
@@ -273,7 +272,7 @@ pub(crate) fn region_wants(
     requires parts { AreParts (flat_content pages.now) vmos.now }
     requires noted { AreNoted (regions_of regions.now) (places_of maps.now) }
     ensures { (s : State) → result ≡ may_lack (with_all s (flat_content pages.now) vmos.now
-        (spaces_of (regions_of regions.now) (table_of maps.now))) (command_of call.now) }
+        (spaces_of (regions_of regions.now) (table_of maps.now))) call.now }
 {
     match region_command(call) {
         RegionCommand::Create(region) => regions.get(region).is_none(),
@@ -386,7 +385,7 @@ pub(crate) fn memory_wants(
     ensures { (s : State) → result ≡ may_want (record {
       state = record s { content = flat_content pages.now; spaces = spaces_of (regions_of regions.now) (table_of maps.now) };
       ready = ready_by ready.now;
-    }) (command_of call.now) }
+    }) call.now }
 {
     match call {
         Call::MemRead { region, addr, len } => {

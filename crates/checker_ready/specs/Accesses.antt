@@ -1,7 +1,7 @@
 -- What refuses an access through mappings, to those who have a part of the machine.
 use Rattle.std.specs.Prelude.{◌≡◌, Option}
 use Rattle.vm_base.specs.declared.refusal.Refusal.{Refusal}
-use Rattle.vm_model.specs.declared.command.Command.{Command}
+use Rattle.vm_model.specs.Machine.Words.{Command}
 use Rattle.vm_model.specs.Contents.Content.{Content}
 use Rattle.vm_model.specs.Space.AddressSpaces.{Spaces}
 use Rattle.vm_model.specs.Machine.State.{State}

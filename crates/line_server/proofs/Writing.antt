@@ -6,7 +6,7 @@ use Rattle.std.specs.Io.KnownBytes.{Appends}
 use Rattle.std.proofs.KnownBytes.{Appends-trans}
 use Rattle.std.proofs.lemmas.List.{length-append, take_all}
 use Rattle.script_io.specs.Faults.{IsCutOff}
-use Rattle.vm_model.specs.declared.reply.Reply.{Reply}
+use Rattle.vm_model.specs.Machine.Words.{Reply}
 use Rattle.vm_model.specs.declared.reply.Reply.TheVariants.{Done, Number, Bytes, Pins, Address, Access, Faults, Info}
 use Rattle.vm_model.specs.declared.reply.Reply.TheVariants.{Runs, Stat, Refused}
 use Rattle.vm_model.specs.Language.Text.{reply_lines, text}

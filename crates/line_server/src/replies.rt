@@ -4,7 +4,6 @@ ghost use Rattle.std.specs.Prelude.{◌≤◌, length, OnOk, OnErr};
 ghost use Rattle.std.specs.Io.KnownBytes.{Appends};
 ghost use Rattle.script_io.specs.Faults.{HasCause, IsCutOff};
 ghost use Rattle.vm_model.specs.Language.Text.{text};
-ghost use Rattle.vm_model.specs.Machine.Lent.{reply_for};
 ghost use Rattle.line_server.specs.Answering.{syntax_text};
 
 use reply_text::{answer_line_count, write_answer_line};
@@ -21,8 +20,8 @@ pub fn push_answer<K: Sink>(
     buffer: &mut [u8],
 ) -> Result<(), Failed>
     requires { TEXT_ROOM ≤ length buffer.old }
-    ensures ok { OnOk result (Appends (K.contents sink.old) (K.contents sink.new) (text (reply_for answer.now))) }
-    ensures err { OnErr result (IsCutOff (K.contents sink.old) (K.contents sink.new) (text (reply_for answer.now))) }
+    ensures ok { OnOk result (Appends (K.contents sink.old) (K.contents sink.new) (text answer.now)) }
+    ensures err { OnErr result (IsCutOff (K.contents sink.old) (K.contents sink.new) (text answer.now)) }
     ensures cause { HasCause (K.faults sink.old) (K.faults sink.new) result }
 {
     // Nearly all answers have one line.

@@ -2,8 +2,7 @@
 use Rattle.std.proofs.Common.{◌≡◌, ℕ, ◌+◌, ◌*◌, true, false, Bool, Option, None, Some, refl, sym, ap, subst, ◌∙◌, arith}
 use Rattle.vm_base.specs.declared.limits.TheConstants.{PAGE}
 use Rattle.vm_base.specs.declared.refusal.Refusal.TheVariants.{HostMemory}
-use Rattle.vm_model.specs.declared.command.Command.{Command}
-use Rattle.vm_model.specs.declared.reply.Reply.{Reply}
+use Rattle.vm_model.specs.Machine.Words.{Command, Reply}
 use Rattle.vm_model.specs.declared.reply.Reply.TheVariants.{Address, Refused}
 use Rattle.vm_model.specs.declared.space.Entry.{Entry}
 use Rattle.vm_model.specs.declared.space.Region.{Region}
@@ -75,7 +74,7 @@ pub place_for : {spaces : Spaces} {name : ℕ} {fixed limited : Bool} {offset co
 place_for place = record { over = λ e. absurd cc; free = λ e. place }
 
 -- the address that is told is that of a page, if it is answered for one
-pub told_at : {told : Option ℕ} {address : ℕ} (first : ℕ) → told ≡ Some address → Address address ≡ Address (first * PAGE) → told ≡ Some (first * PAGE)
+pub told_at : {told : Option ℕ} {address : ℕ} (first : ℕ) → told ≡ Some address → ◌≡◌ {A = Reply} (Address address) (Address (first * PAGE)) → told ≡ Some (first * PAGE)
 told_at first is e = is ∙ ap Some (address_same e) where
-  address_same : {a b : ℕ} → Address a ≡ Address b → a ≡ b
+  address_same : {a b : ℕ} → ◌≡◌ {A = Reply} (Address a) (Address b) → a ≡ b
   address_same f = cc

@@ -1,7 +1,6 @@
 -- What a machine of the commands is to its callers, whatever keeps its pages and what they are ready for.
 use Rattle.std.specs.Prelude.{◌≡◌, ℕ, true, Option, None, Some, IsSome}
-use Rattle.vm_model.specs.declared.command.Command.{Command}
-use Rattle.vm_model.specs.declared.reply.Reply.{Reply}
+use Rattle.vm_model.specs.Machine.Words.{Command, Reply}
 use Rattle.vm_model.specs.declared.reply.Reply.TheVariants.{Address}
 use Rattle.vm_model.specs.Contents.Content.{Content}
 use Rattle.vm_model.specs.Space.Readiness.{Ready}

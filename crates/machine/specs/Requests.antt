@@ -1,5 +1,6 @@
 -- The command that a request stands for.
-use Rattle.vm_model.specs.declared.command.Command.{Command}
+use Rattle.vm_model.specs.Machine.Words.{Command}
+use Rattle.vm_model.specs.declared.command.Command.TheVariants as Command
 use Rattle.machine.specs.declared.requests.RegionCommand.{RegionCommand}
 
 abbrev pub command_by : RegionCommand → Command

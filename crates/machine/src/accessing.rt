@@ -4,8 +4,7 @@
 
 ghost use Rattle.std.specs.Prelude.{◌≤◌, length};
 ghost use Rattle.vm_base.specs.declared.limits.TheConstants.{DATA_BYTES};
-ghost use Rattle.vm_model.specs.declared.command.Command.{Command};
-ghost use Rattle.vm_model.specs.Machine.Lent.{reply_for};
+ghost use Rattle.vm_model.specs.declared.command.Command.TheVariants as Command;
 ghost use Rattle.mapping_set.specs.Tables.{table_of};
 ghost use Rattle.mapping_set.specs.Backed.{AreBacked};
 ghost use Rattle.vm_model.specs.Machine.MachineStep.{MachineStep};
@@ -33,7 +32,7 @@ pub(crate) fn mem_read<'a, P: PageStore, R: ReadyPages<P>>(
     requires notes { R.AreTrue (P.content pages.now) (table_of tables.now.maps) ready.old }
     requires room { DATA_BYTES ≤ length room.old }
     ensures step { MachineStep (machine_of_parts R.ready (P.content pages.now) (parts_of tables.now ready.old))
-        (Command.MemRead range.region range.addr range.len) (reply_for result)
+        (Command.MemRead range.region range.addr range.len) result
         (machine_of_parts R.ready (P.content pages.now) (parts_of tables.now ready.new)) }
     ensures notes { R.AreTrue (P.content pages.now) (table_of tables.now.maps) ready.new }
 {
@@ -73,7 +72,7 @@ pub(crate) fn mem_write<P: PageStore, R: ReadyPages<P>>(
     requires notes { R.AreTrue (P.content pages.old) (table_of tables.now.maps) ready.old }
     requires bytes { length bytes.now ≤ DATA_BYTES }
     ensures step { MachineStep (machine_of_parts R.ready (P.content pages.old) (parts_of tables.now ready.old))
-        (Command.MemWrite region addr bytes.now) (reply_for result)
+        (Command.MemWrite region addr bytes.now) result
         (machine_of_parts R.ready (P.content pages.new) (parts_of tables.now ready.new)) }
     ensures notes { R.AreTrue (P.content pages.new) (table_of tables.now.maps) ready.new }
 {

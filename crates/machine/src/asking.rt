@@ -3,8 +3,7 @@
 
 ghost use Rattle.std.specs.Prelude.{◌≤◌, length};
 ghost use Rattle.vm_base.specs.declared.limits.TheConstants.{DATA_BYTES};
-ghost use Rattle.vm_model.specs.declared.command.Command.{Command};
-ghost use Rattle.vm_model.specs.Machine.Lent.{reply_for};
+ghost use Rattle.vm_model.specs.declared.command.Command.TheVariants as Command;
 ghost use Rattle.ready_pages.specs.declared.change.Change.{Change};
 ghost use Rattle.machine.specs.inside.Steps.{Handles, IsSoundState};
 
@@ -25,7 +24,7 @@ pub(crate) fn vmo_read<'a, P: PageStore>(
     requires sound { IsSoundState (P.content pages.now) tables.now }
     requires room { DATA_BYTES ≤ length room.old }
     ensures { Handles (P.content pages.now) tables.now (Command.VmoRead range.name range.offset range.len)
-        (reply_for result) Change.None (P.content pages.now) tables.now }
+        result Change.None (P.content pages.now) tables.now }
 {
     let Some(target) = tables.vmos.resolve(range.name) else {
         return Answer::Refused(Refusal::BadHandle);
@@ -39,7 +38,7 @@ pub(crate) fn vmo_read<'a, P: PageStore>(
 /// Answers the size in bytes of what the name stands for.
 pub(crate) fn vmo_size<P: PageStore>(pages: &P, tables: &Tables, name: VmoName) -> Answer<'static>
     requires { IsSoundState (P.content pages.now) tables.now }
-    ensures { Handles (P.content pages.now) tables.now (Command.VmoSize name) (reply_for result) Change.None
+    ensures { Handles (P.content pages.now) tables.now (Command.VmoSize name) result Change.None
         (P.content pages.now) tables.now }
 {
     match tables.vmos.resolve(name) {
@@ -51,7 +50,7 @@ pub(crate) fn vmo_size<P: PageStore>(pages: &P, tables: &Tables, name: VmoName) 
 /// Tells what the VMO holds for which the name stands.
 pub(crate) fn vmo_info<P: PageStore>(pages: &P, tables: &Tables, name: VmoName) -> Answer<'static>
     requires { IsSoundState (P.content pages.now) tables.now }
-    ensures { Handles (P.content pages.now) tables.now (Command.VmoInfo name) (reply_for result) Change.None
+    ensures { Handles (P.content pages.now) tables.now (Command.VmoInfo name) result Change.None
         (P.content pages.now) tables.now }
 {
     match tables.vmos.resolve(name) {

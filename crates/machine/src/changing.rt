@@ -3,9 +3,8 @@
 //! operation of its name. The pages that it touched are answered as those whose frames may have changed.
 
 ghost use Rattle.std.specs.Prelude.{◌≡◌, MatchResult};
-ghost use Rattle.vm_model.specs.declared.command.Command.{Command};
-ghost use Rattle.vm_model.specs.declared.reply.Reply.{Reply};
-ghost use Rattle.vm_model.specs.Machine.Lent.{reply_for};
+ghost use Rattle.vm_model.specs.declared.reply.Reply.TheVariants as Reply;
+ghost use Rattle.vm_model.specs.declared.command.Command.TheVariants as Command;
 ghost use Rattle.vm_model.specs.Machine.Step.{reply_of};
 ghost use Rattle.machine.specs.inside.Steps.{Handles, IsSoundState};
 ghost use Rattle.ready_pages.specs.declared.change.Change.{Change};
@@ -27,7 +26,7 @@ pub(crate) fn vmo_write<P: PageStore>(
 ) -> (Answer<'static>, Change)
     requires { IsSoundState (P.content pages.old) tables.now }
     ensures { Handles (P.content pages.old) tables.now (Command.VmoWrite name offset bytes.now)
-        (reply_for result.0) result.1 (P.content pages.new) tables.now }
+        result.0 result.1 (P.content pages.new) tables.now }
 {
     match tables.vmos.resolve(name) {
         Some(target) => {
@@ -47,7 +46,7 @@ pub(crate) fn vmo_fill<P: PageStore>(
 ) -> (Answer<'static>, Change)
     requires { IsSoundState (P.content pages.old) tables.now }
     ensures { Handles (P.content pages.old) tables.now (Command.VmoFill range.name range.offset range.len byte)
-        (reply_for result.0) result.1 (P.content pages.new) tables.now }
+        result.0 result.1 (P.content pages.new) tables.now }
 {
     match tables.vmos.resolve(range.name) {
         Some(target) => {
@@ -66,7 +65,7 @@ pub(crate) fn vmo_commit<P: PageStore>(
 ) -> (Answer<'static>, Change)
     requires { IsSoundState (P.content pages.old) tables.now }
     ensures { Handles (P.content pages.old) tables.now (Command.VmoCommit range.name range.offset range.len)
-        (reply_for result.0) result.1 (P.content pages.new) tables.now }
+        result.0 result.1 (P.content pages.new) tables.now }
 {
     match tables.vmos.resolve(range.name) {
         Some(target) => {
@@ -85,7 +84,7 @@ pub(crate) fn vmo_zero<P: PageStore>(
 ) -> (Answer<'static>, Change)
     requires { IsSoundState (P.content pages.old) tables.now }
     ensures { Handles (P.content pages.old) tables.now (Command.VmoZero range.name range.offset range.len)
-        (reply_for result.0) result.1 (P.content pages.new) tables.now }
+        result.0 result.1 (P.content pages.new) tables.now }
 {
     match tables.vmos.resolve(range.name) {
         Some(target) => {
@@ -110,7 +109,7 @@ pub(crate) fn vmo_decommit<P: PageStore>(
 ) -> (Answer<'static>, Change)
     requires { IsSoundState (P.content pages.old) tables.now }
     ensures { Handles (P.content pages.old) tables.now (Command.VmoDecommit range.name range.offset range.len)
-        (reply_for result.0) result.1 (P.content pages.new) tables.now }
+        result.0 result.1 (P.content pages.new) tables.now }
 {
     match tables.vmos.resolve(range.name) {
         Some(target) => {
@@ -137,7 +136,7 @@ pub(crate) fn vmo_set_size<P: PageStore>(
 ) -> (Answer<'static>, Change)
     requires { IsSoundState (P.content pages.old) tables.now }
     ensures { Handles (P.content pages.old) tables.now (Command.VmoSetSize name size)
-        (reply_for result.0) result.1 (P.content pages.new) tables.now }
+        result.0 result.1 (P.content pages.new) tables.now }
 {
     let Some(target) = tables.vmos.resolve(name) else {
         return (Answer::Refused(Refusal::BadHandle), Change::None);
@@ -156,7 +155,7 @@ pub(crate) fn vmo_set_size<P: PageStore>(
 
 // The answer to a command that changed pages of a VMO, or the refusal, and what the command may have changed.
 fn changed(koid: Koid, outcome: Result<TouchedPages, Refusal>) -> (Answer<'static>, Change)
-    ensures reply { reply_for result.0 ≡ reply_of (λ _. Reply.Done) outcome }
+    ensures reply { result.0 ≡ reply_of (λ _. Reply.Done) outcome }
     ensures change { MatchResult outcome (λ touched. result.1 ≡ Change.Frames koid touched.first touched.end)
         (λ _. result.1 ≡ Change.None) }
 {

@@ -4,7 +4,6 @@
 ghost use Rattle.std.specs.Prelude.{◌≡◌, ◌≢◌, ◌<◌, ◌≤◌, length, ⊤, MatchOption};
 ghost use Rattle.mapping_set.specs.Tables.{table_of};
 ghost use Rattle.vm_base.specs.declared.limits.TheConstants.{DATA_BYTES, KOIDS, PIN_PAGES};
-ghost use Rattle.vm_model.specs.Machine.Lent.{command_of, reply_for};
 ghost use Rattle.vm_model.specs.Machine.Given.{GivesName};
 ghost use Rattle.vm_model.specs.Machine.State.{State};
 ghost use Rattle.vm_model.specs.Machine.Step.{Step};
@@ -54,10 +53,10 @@ pub(crate) fn on_tables<'a, P: PageStore>(
     requires bytes { DATA_BYTES ≤ length bytes.old }
     requires numbers { PIN_PAGES ≤ length numbers.old }
     ensures does { MatchOption result
-        (Misses (P.content pages.old) tables.old (command_of call.now) told (P.content pages.new) tables.new)
-        (λ done. Handles (P.content pages.old) tables.old (command_of call.now) (reply_for done.0) done.1
+        (Misses (P.content pages.old) tables.old call.now told (P.content pages.new) tables.new)
+        (λ done. Handles (P.content pages.old) tables.old call.now done.0 done.1
         (P.content pages.new) tables.new) }
-    ensures place { MatchOption result ⊤ (λ done. IsAtPlace (command_of call.now) told (reply_for done.0)) }
+    ensures place { MatchOption result ⊤ (λ done. IsAtPlace call.now told done.0) }
 {
     match group_of(call) {
         Group::Vmo => Some(on_vmo(pages, tables, call)),
@@ -77,7 +76,7 @@ pub(crate) fn on_vmo<P: PageStore>(
     requires group { group_of call.now ≡ Group.Vmo }
     requires sound { IsSoundState (P.content pages.old) tables.old }
     requires next { (P.content pages.old).next < KOIDS }
-    ensures { Handles (P.content pages.old) tables.old (command_of call.now) (reply_for result.0) result.1
+    ensures { Handles (P.content pages.old) tables.old call.now result.0 result.1
         (P.content pages.new) tables.new }
 {
     match call {
@@ -129,7 +128,7 @@ pub(crate) fn on_pages<'a, P: PageStore>(
     requires group { group_of call.now ≡ Group.Pages }
     requires sound { IsSoundState (P.content pages.old) tables.now }
     requires bytes { DATA_BYTES ≤ length bytes.old }
-    ensures { Handles (P.content pages.old) tables.now (command_of call.now) (reply_for result.0) result.1
+    ensures { Handles (P.content pages.old) tables.now call.now result.0 result.1
         (P.content pages.new) tables.now }
 {
     match call {
@@ -177,7 +176,7 @@ pub(crate) fn on_pin<'a, P: PageStore>(
     requires group { group_of call.now ≡ Group.Pin }
     requires sound { IsSoundState (P.content pages.old) tables.old }
     requires numbers { PIN_PAGES ≤ length numbers.old }
-    ensures { Handles (P.content pages.old) tables.old (command_of call.now) (reply_for result.0) result.1
+    ensures { Handles (P.content pages.old) tables.old call.now result.0 result.1
         (P.content pages.new) tables.new }
 {
     match call {
@@ -207,10 +206,10 @@ pub(crate) fn on_region<P: PageStore>(
     requires group { group_of call.now ≡ Group.Region }
     requires sound { IsSoundState (P.content pages.old) tables.old }
     ensures does { MatchOption result
-        (Misses (P.content pages.old) tables.old (command_of call.now) told (P.content pages.new) tables.new)
-        (λ done. Handles (P.content pages.old) tables.old (command_of call.now) (reply_for done.0) done.1
+        (Misses (P.content pages.old) tables.old call.now told (P.content pages.new) tables.new)
+        (λ done. Handles (P.content pages.old) tables.old call.now done.0 done.1
         (P.content pages.new) tables.new) }
-    ensures place { MatchOption result ⊤ (λ done. IsAtPlace (command_of call.now) told (reply_for done.0)) }
+    ensures place { MatchOption result ⊤ (λ done. IsAtPlace call.now told done.0) }
 {
     match region_command(call) {
         RegionCommand::Create(region) => Some((root_create(tables, region), Change::None)),
@@ -229,10 +228,10 @@ pub(crate) fn on_region<P: PageStore>(
 /// Answers a question about the whole machine.
 pub(crate) fn on_machine<P: PageStore>(pages: &P, call: &Call<'_>) -> Answer<'static>
     requires { group_of call.now ≡ Group.Machine }
-    ensures step { (s : State) → Step (record s { content = P.content pages.now }) (command_of call.now) (reply_for result)
+    ensures step { (s : State) → Step (record s { content = P.content pages.now }) call.now result
         (record s { content = P.content pages.now }) }
-    ensures change { (s : State) → Change.None ≡ change_after s (command_of call.now) (reply_for result) }
-    ensures name { GivesName (command_of call.now) }
+    ensures change { (s : State) → Change.None ≡ change_after s call.now result }
+    ensures name { GivesName call.now }
 {
     match call {
         Call::Stat => Answer::Stat(stat(pages)),
@@ -253,8 +252,8 @@ pub(crate) fn on_memory<'a, P: PageStore, R: ReadyPages<P>>(
     requires notes { R.AreTrue (P.content pages.old) (table_of tables.now.maps) ready.old }
     requires bytes { DATA_BYTES ≤ length bytes.old }
     ensures step { MachineStep (machine_of_parts R.ready (P.content pages.old) (parts_of tables.now ready.old))
-        (command_of call.now) (reply_for result) (machine_of_parts R.ready (P.content pages.new) (parts_of tables.now ready.new)) }
-    ensures name { GivesName (command_of call.now) }
+        call.now result (machine_of_parts R.ready (P.content pages.new) (parts_of tables.now ready.new)) }
+    ensures name { GivesName call.now }
     ensures notes { R.AreTrue (P.content pages.new) (table_of tables.now.maps) ready.new }
 {
     match call {

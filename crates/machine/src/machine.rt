@@ -2,7 +2,6 @@
 
 ghost use Rattle.std.specs.Prelude.{◌≡◌, ◌≢◌, ◌+◌, ◌<◌, ◌≤◌, length, ⊤, MatchOption};
 ghost use Rattle.vm_base.specs.declared.limits.TheConstants.{DATA_BYTES, KOIDS, PIN_PAGES};
-ghost use Rattle.vm_model.specs.Machine.Lent.{command_of, reply_for};
 ghost use Rattle.vm_model.specs.Machine.MachineStep.{MachineStep};
 ghost use Rattle.mapping_set.specs.Tables.{places_of};
 ghost use Rattle.region_tree.specs.Tree.{regions_of, AreNoted};
@@ -119,7 +118,7 @@ impl<R: ReadyNotes> Machine<R> {
         requires next { (P.content pages.old).next < KOIDS }
         requires bytes { DATA_BYTES ≤ length bytes.old }
         requires numbers { PIN_PAGES ≤ length numbers.old }
-        ensures step { MachineStep (machine_of_parts R.ready (P.content pages.old) self.old) (command_of call.now) (reply_for result)
+        ensures step { MachineStep (machine_of_parts R.ready (P.content pages.old) self.old) call.now result
             (machine_of_parts R.ready (P.content pages.new) self.new) }
         ensures sound { IsSoundMachine R.ready R.AreTrue (P.content pages.new) self.new }
         ensures next { (P.content pages.new).next ≤ (P.content pages.old).next + 1 }
@@ -149,11 +148,11 @@ impl<R: ReadyNotes> Machine<R> {
         requires bytes { DATA_BYTES ≤ length bytes.old }
         requires numbers { PIN_PAGES ≤ length numbers.old }
         ensures step { MatchOption result
-            (LacksPlace (machine_of_parts R.ready (P.content pages.old) self.old) (command_of call.now) told
+            (LacksPlace (machine_of_parts R.ready (P.content pages.old) self.old) call.now told
             (machine_of_parts R.ready (P.content pages.new) self.new))
-            (λ answer. MachineStep (machine_of_parts R.ready (P.content pages.old) self.old) (command_of call.now) (reply_for answer)
+            (λ answer. MachineStep (machine_of_parts R.ready (P.content pages.old) self.old) call.now answer
             (machine_of_parts R.ready (P.content pages.new) self.new)) }
-        ensures place { MatchOption result ⊤ (λ answer. IsAtPlace (command_of call.now) told (reply_for answer)) }
+        ensures place { MatchOption result ⊤ (λ answer. IsAtPlace call.now told answer) }
         ensures sound { IsSoundMachine R.ready R.AreTrue (P.content pages.new) self.new }
         ensures next { (P.content pages.new).next ≤ (P.content pages.old).next + 1 }
         ensures frames { (P.content pages.new).frames ≡ (P.content pages.old).frames }
@@ -185,11 +184,11 @@ impl<R: ReadyNotes> Machine<R> {
         requires bytes { DATA_BYTES ≤ length bytes.old }
         requires numbers { PIN_PAGES ≤ length numbers.old }
         ensures step { MatchOption result
-            (LacksPlace (machine_of_parts R.ready (P.content pages.old) self.old) (command_of call.now) told
+            (LacksPlace (machine_of_parts R.ready (P.content pages.old) self.old) call.now told
             (machine_of_parts R.ready (P.content pages.new) self.new))
-            (λ answer. MachineStep (machine_of_parts R.ready (P.content pages.old) self.old) (command_of call.now) (reply_for answer)
+            (λ answer. MachineStep (machine_of_parts R.ready (P.content pages.old) self.old) call.now answer
             (machine_of_parts R.ready (P.content pages.new) self.new)) }
-        ensures place { MatchOption result ⊤ (λ answer. IsAtPlace (command_of call.now) told (reply_for answer)) }
+        ensures place { MatchOption result ⊤ (λ answer. IsAtPlace call.now told answer) }
         ensures sound { IsSoundMachine R.ready R.AreTrue (P.content pages.new) self.new }
         ensures next { (P.content pages.new).next ≤ (P.content pages.old).next + 1 }
         ensures frames { (P.content pages.new).frames ≡ (P.content pages.old).frames }

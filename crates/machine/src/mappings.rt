@@ -3,9 +3,8 @@
 //! else, or may be accessed otherwise, are answered.
 
 ghost use Rattle.std.specs.Prelude.{⊤, MatchOption};
-ghost use Rattle.vm_model.specs.declared.command.Command.{Command};
+ghost use Rattle.vm_model.specs.declared.command.Command.TheVariants as Command;
 ghost use Rattle.vm_model.specs.Contents.Content.{Content};
-ghost use Rattle.vm_model.specs.Machine.Lent.{reply_for};
 ghost use Rattle.ready_pages.specs.declared.change.Change.{Change};
 ghost use Rattle.machine.specs.inside.Fields.{IsCounted};
 ghost use Rattle.machine.specs.inside.Steps.{Handles, IsSoundState, Misses};
@@ -35,10 +34,10 @@ pub(crate) fn vmar_map<P: PageStore>(
         told (P.content pages.new) tables.new)
         (λ done. Handles (P.content pages.old) tables.old
         (Command.VmarMap request.region request.offset request.mapped request.vmo_offset request.len request.perm request.flags)
-        (reply_for done.0) done.1 (P.content pages.new) tables.new) }
+        done.0 done.1 (P.content pages.new) tables.new) }
     ensures place { MatchOption result ⊤ (λ done. IsAtPlace
         (Command.VmarMap request.region request.offset request.mapped request.vmo_offset request.len request.perm request.flags)
-        told (reply_for done.0)) }
+        told done.0) }
 {
     let Some(above) = tables.regions.get(request.region) else {
         return Some((Answer::Refused(Refusal::BadHandle), Change::None));
@@ -89,7 +88,7 @@ pub(crate) fn vmar_unmap<P: PageStore>(
 ) -> (Answer<'static>, Change)
     requires { IsSoundState (P.content pages.old) tables.old }
     ensures { Handles (P.content pages.old) tables.old (Command.VmarUnmap range.region range.addr range.len)
-        (reply_for result.0) result.1 (P.content pages.new) tables.new }
+        result.0 result.1 (P.content pages.new) tables.new }
 {
     let above = match region_ops::ask_for_region(&tables.regions, range.region) {
         Ok(above) => above,
@@ -125,7 +124,7 @@ pub(crate) fn vmar_protect(
 ) -> (Answer<'static>, Change)
     requires { IsCounted tables.old }
     ensures { (c : Content) → Handles c tables.old (Command.VmarProtect range.region range.addr range.len perm)
-        (reply_for result.0) result.1 c tables.new }
+        result.0 result.1 c tables.new }
 {
     let above = match region_ops::ask_for_region(&tables.regions, range.region) {
         Ok(above) => above,
@@ -150,7 +149,7 @@ pub(crate) fn vmar_protect(
 #[tactic(auto, unfolding(vm_model::specs::Space::Regions::region_of, vm_base::specs::Entries::passes))]
 pub(crate) fn list_maps(tables: &Tables, region: RegionName) -> Answer<'static>
     requires { IsCounted tables.now }
-    ensures { (c : Content) → Handles c tables.now (Command.Maps region) (reply_for result) Change.None c tables.now }
+    ensures { (c : Content) → Handles c tables.now (Command.Maps region) result Change.None c tables.now }
 {
     let listed = match region_ops::ask_for_region(&tables.regions, region) {
         Ok(listed) => listed,

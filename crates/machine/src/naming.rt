@@ -2,8 +2,7 @@
 
 ghost use Rattle.std.specs.Prelude.{◌≡◌, ◌<◌};
 ghost use Rattle.vm_base.specs.declared.limits.TheConstants.{KOIDS};
-ghost use Rattle.vm_model.specs.declared.command.Command.{Command};
-ghost use Rattle.vm_model.specs.Machine.Lent.{reply_for};
+ghost use Rattle.vm_model.specs.declared.command.Command.TheVariants as Command;
 ghost use Rattle.vm_model.specs.Contents.Content.{IsGood};
 ghost use Rattle.page_store.specs.Names.{IsInside};
 ghost use Rattle.machine.specs.inside.Changes.{change_of_child, shared_part};
@@ -27,7 +26,7 @@ pub(crate) fn vmo_create<P: PageStore>(
 ) -> Answer<'static>
     requires sound { IsSoundState (P.content pages.old) tables.old }
     requires next { (P.content pages.old).next < KOIDS }
-    ensures { Handles (P.content pages.old) tables.old (Command.VmoCreate name size resizable) (reply_for result) Change.None
+    ensures { Handles (P.content pages.old) tables.old (Command.VmoCreate name size resizable) result Change.None
         (P.content pages.new) tables.new }
 {
     if tables.vmos.resolve(name).is_some() {
@@ -51,7 +50,7 @@ pub(crate) fn vmo_create_child<P: PageStore>(
     requires next { (P.content pages.old).next < KOIDS }
     ensures { Handles (P.content pages.old) tables.old
         (Command.VmoChild name request.parent request.kind request.shape.offset request.shape.size request.shape.resizable
-        request.shape.no_write) (reply_for result.0) result.1 (P.content pages.new) tables.new }
+        request.shape.no_write) result.0 result.1 (P.content pages.new) tables.new }
 {
     let Some(target) = tables.vmos.resolve(request.parent) else {
         return (Answer::Refused(Refusal::BadHandle), Change::None);
@@ -115,7 +114,7 @@ pub(crate) fn vmo_close<P: PageStore>(
     name: VmoName,
 ) -> Answer<'static>
     requires { IsSoundState (P.content pages.old) tables.old }
-    ensures { Handles (P.content pages.old) tables.old (Command.VmoClose name) (reply_for result) Change.None
+    ensures { Handles (P.content pages.old) tables.old (Command.VmoClose name) result Change.None
         (P.content pages.new) tables.new }
 {
     if tables.vmos.resolve(name).is_none() {

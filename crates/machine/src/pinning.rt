@@ -2,8 +2,7 @@
 
 ghost use Rattle.std.specs.Prelude.{◌≡◌, ◌+◌, ◌*◌, ◌≤◌, length};
 ghost use Rattle.vm_base.specs.declared.limits.TheConstants.{PIN_PAGES, VMO_PAGES};
-ghost use Rattle.vm_model.specs.declared.command.Command.{Command};
-ghost use Rattle.vm_model.specs.Machine.Lent.{reply_for};
+ghost use Rattle.vm_model.specs.declared.command.Command.TheVariants as Command;
 ghost use Rattle.machine.specs.inside.Changes.{range_part};
 ghost use Rattle.ready_pages.specs.declared.change.Change.{Change};
 ghost use Rattle.machine.specs.inside.Steps.{Handles, IsSoundState};
@@ -28,7 +27,7 @@ pub(crate) fn vmo_pin<'a, P: PageStore>(
     requires sound { IsSoundState (P.content pages.old) tables.old }
     requires room { PIN_PAGES ≤ length room.old }
     ensures { Handles (P.content pages.old) tables.old (Command.VmoPin request.pin request.range.name
-        request.range.offset request.range.len) (reply_for result.0) result.1 (P.content pages.new) tables.new }
+        request.range.offset request.range.len) result.0 result.1 (P.content pages.new) tables.new }
 {
     let range = request.range;
     let Some(target) = tables.vmos.resolve(range.name) else {
@@ -68,7 +67,7 @@ pub(crate) fn vmo_unpin<P: PageStore>(
     pin: PinName,
 ) -> Answer<'static>
     requires { IsSoundState (P.content pages.old) tables.old }
-    ensures { Handles (P.content pages.old) tables.old (Command.VmoUnpin pin) (reply_for result) Change.None
+    ensures { Handles (P.content pages.old) tables.old (Command.VmoUnpin pin) result Change.None
         (P.content pages.new) tables.new }
 {
     if tables.pins.get(pin).is_none() {

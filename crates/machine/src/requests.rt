@@ -1,7 +1,6 @@
 //! What commands ask for, as values.
 
 ghost use Rattle.std.specs.Prelude.{◌≡◌};
-ghost use Rattle.vm_model.specs.Machine.Lent.{command_of};
 ghost use Rattle.machine.specs.Groups.{group_of};
 ghost use Rattle.machine.specs.Requests.{command_by};
 ghost use Rattle.machine.specs.declared.groups.Group.{Group};
@@ -43,7 +42,7 @@ pub enum RegionCommand {
 #[inline(always)]
 pub fn region_command(call: &Call<'_>) -> RegionCommand
     requires { group_of call.now ≡ Group.Region }
-    ensures { command_by result ≡ command_of call.now }
+    ensures { command_by result ≡ call.now }
 {
     match call {
         Call::RootCreate { region } => RegionCommand::Create(*region),

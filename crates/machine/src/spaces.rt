@@ -1,9 +1,8 @@
 //! The commands on regions: `root_create`, `vmar_allocate`, `vmar_destroy`.
 
 ghost use Rattle.std.specs.Prelude.{⊤, MatchOption};
-ghost use Rattle.vm_model.specs.declared.command.Command.{Command};
+ghost use Rattle.vm_model.specs.declared.command.Command.TheVariants as Command;
 ghost use Rattle.vm_model.specs.Contents.Content.{Content};
-ghost use Rattle.vm_model.specs.Machine.Lent.{reply_for};
 ghost use Rattle.ready_pages.specs.declared.change.Change.{Change};
 ghost use Rattle.machine.specs.inside.Fields.{IsCounted};
 ghost use Rattle.machine.specs.inside.Steps.{Handles, IsSoundState, Misses};
@@ -20,7 +19,7 @@ use vm_model::Answer;
 /// Makes an address space with its root region. `NameInUse` if the name was ever given.
 pub(crate) fn root_create(tables: &mut Tables, region: RegionName) -> Answer<'static>
     requires { IsCounted tables.old }
-    ensures { (c : Content) → Handles c tables.old (Command.RootCreate region) (reply_for result) Change.None c tables.new }
+    ensures { (c : Content) → Handles c tables.old (Command.RootCreate region) result Change.None c tables.new }
 {
     match region_ops::create_root(&mut tables.regions, &tables.maps, region) {
         Ok(()) => Answer::Done,
@@ -45,10 +44,10 @@ pub(crate) fn vmar_allocate(
         told c tables.new)
         (λ answer. Handles c tables.old
         (Command.VmarAllocate region request.parent request.offset request.len request.flags request.caps)
-        (reply_for answer) Change.None c tables.new) }
+        answer Change.None c tables.new) }
     ensures place { MatchOption result ⊤ (λ answer. IsAtPlace
         (Command.VmarAllocate region request.parent request.offset request.len request.flags request.caps)
-        told (reply_for answer)) }
+        told answer) }
 {
     let Some(above) = tables.regions.get(request.parent) else {
         return Some(Answer::Refused(Refusal::BadHandle));
@@ -94,7 +93,7 @@ pub(crate) fn vmar_destroy<P: PageStore>(
     region: RegionName,
 ) -> (Answer<'static>, Change)
     requires { IsSoundState (P.content pages.old) tables.old }
-    ensures { Handles (P.content pages.old) tables.old (Command.VmarDestroy region) (reply_for result.0) result.1
+    ensures { Handles (P.content pages.old) tables.old (Command.VmarDestroy region) result.0 result.1
         (P.content pages.new) tables.new }
 {
     let dying = match region_ops::ask_for_region(&tables.regions, region) {

@@ -6,7 +6,7 @@ use Rattle.std.specs.List.{list_any}
 use Rattle.vm_base.specs.declared.refusal.Refusal.{Refusal}
 use Rattle.vm_base.specs.declared.refusal.Refusal.TheVariants.{HostMemory, AccessDenied, OutOfRange, NotFound}
 use Rattle.vm_base.proofs.EntryLaws.{some_same}
-use Rattle.vm_model.specs.declared.command.Command.{Command}
+use Rattle.vm_model.specs.Machine.Words.{Command, Reply}
 use Rattle.vm_model.specs.declared.command.Command.TheVariants.{VmoChild, MemRead, MemWrite}
 use Rattle.vm_model.specs.declared.command.ChildKind.TheVariants.{Snapshot, Slice, Reference}
 use Rattle.vm_model.specs.declared.reply.Reply.TheVariants.{Refused}
@@ -65,7 +65,7 @@ first_host (row ∷ rows) none e = go row.0 e (first_host rows) (parts (is_host 
   go true f rest none = absurd (let same = ap is_host (some_same f) in let off = none.0 in cc)
   go false f rest none = rest none.1 f
 
-refused_same : {a b : Refusal} → Refused a ≡ Refused b → a ≡ b
+refused_same : {a b : Refusal} → ◌≡◌ {A = Reply} (Refused a) (Refused b) → a ≡ b
 refused_same e = cc
 
 -- Want of memory comes only so, and leaves the machine as it is.

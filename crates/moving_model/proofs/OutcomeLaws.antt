@@ -12,10 +12,9 @@ use Rattle.vm_base.specs.declared.refusal.Refusal.TheVariants.{HostMemory}
 use Rattle.vm_base.proofs.EntryLaws.{some_same, none_is}
 use Rattle.vm_base.specs.declared.names.PinName.{PinName}
 use Rattle.vm_base.specs.declared.names.VmoName.{VmoName}
-use Rattle.vm_model.specs.declared.command.Command.{Command}
+use Rattle.vm_model.specs.Machine.Words.{Command, Reply}
 use Rattle.vm_model.specs.declared.command.Command.TheVariants.{VmoChild, VmoWrite, VmoFill, VmoCommit, VmoZero, VmoPin, VmarAllocate, VmarMap, MemRead, MemWrite}
 use Rattle.vm_model.specs.declared.command.ChildKind.TheVariants.{Snapshot}
-use Rattle.vm_model.specs.declared.reply.Reply.{Reply}
 use Rattle.vm_model.specs.declared.reply.Reply.TheVariants.{Done, Address, Faults, Refused}
 use Rattle.vm_model.specs.declared.space.Entry.{Entry}
 use Rattle.vm_model.specs.declared.space.Readiness.TheVariants.{Write}
@@ -93,11 +92,11 @@ twin_outcome old one other command reply rest good twin first second now then =
     content_outcome old one other command reply rest twin.by twin.within (λ v p held pinned e. twin.stays v p held pinned (pinned_alone old.state v p good pinned) e)
     first second twin.is (settled-twins (is_pinned old.state.pins) old.state.content one.state.content other.state.content rest.spaces.table old.ready twin) now then
 
-address_same : {a b : ℕ} → Address a ≡ Address b → a ≡ b
+address_same : {a b : ℕ} → ◌≡◌ {A = Reply} (Address a) (Address b) → a ≡ b
 address_same e = cc
 
 -- the address tells the page
-first_same : (a b : ℕ) → Address (a * PAGE) ≡ Address (b * PAGE) → a ≡ b
+first_same : (a b : ℕ) → ◌≡◌ {A = Reply} (Address (a * PAGE)) (Address (b * PAGE)) → a ≡ b
 first_same a b e = let same = address_same e in omega (arith, same)
 
 -- ---- writes through mappings

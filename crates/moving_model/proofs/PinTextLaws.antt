@@ -13,7 +13,7 @@ use Rattle.vm_base.specs.declared.names.VmoName.{VmoName}
 use Rattle.vm_base.specs.declared.refusal.Refusal.{Refusal}
 use Rattle.vm_base.proofs.EntryLaws.{with_key-same}
 use Rattle.vm_model.specs.declared.command.Command.TheVariants.{VmoPin}
-use Rattle.vm_model.specs.declared.reply.Reply.{Reply}
+use Rattle.vm_model.specs.Machine.Words.{Reply}
 use Rattle.vm_model.specs.declared.reply.Reply.TheVariants.{Pins, Refused}
 use Rattle.vm_model.specs.Contents.Content.{Content, sole, IsGood}
 use Rattle.vm_model.specs.Language.Text.{reply_lines}

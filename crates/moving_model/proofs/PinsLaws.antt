@@ -7,10 +7,9 @@ use Rattle.vm_base.specs.Entries.{with_key, without_key}
 use Rattle.vm_base.specs.declared.limits.TheConstants.{NAMES}
 use Rattle.vm_base.specs.declared.refusal.Refusal.{Refusal}
 use Rattle.vm_base.proofs.EntryLaws.{some_same, with_key-same, with_key-cases, without_key-some, any_entry_at, any_entry_found}
-use Rattle.vm_model.specs.declared.command.Command.{Command}
+use Rattle.vm_model.specs.Machine.Words.{Command, Reply}
 use Rattle.vm_model.specs.declared.command.Command.TheVariants.{VmoChild, VmoPin, VmoUnpin, VmarAllocate, VmarMap, MemRead, MemWrite}
 use Rattle.vm_model.specs.declared.command.ChildKind.TheVariants.{Snapshot}
-use Rattle.vm_model.specs.declared.reply.Reply.{Reply}
 use Rattle.vm_model.specs.declared.reply.Reply.TheVariants.{Pins}
 use Rattle.vm_model.specs.Contents.Content.{Page}
 use Rattle.vm_model.specs.Naming.Pins.{Pin, covers, is_pinned}
@@ -84,7 +83,7 @@ old_pinned old one r command reply good step kept v p held before after e =
     let tag : held.tag ≡ was.0.tag = sym (ap (λ (a : Page). a.tag) page) ∙ still.2 in
     ap r.to tag ∙ (kept v p was.0 before was.1 ∙ sym tag)
 
-pins_same : {a b : List ℕ} → Pins a ≡ Pins b → a ≡ b
+pins_same : {a b : List ℕ} → ◌≡◌ {A = Reply} (Pins a) (Pins b) → a ≡ b
 pins_same e = cc
 
 heads_same : {a b : ℕ} {xs ys : List ℕ} → ◌≡◌ {A = List ℕ} (a ∷ xs) (b ∷ ys) → (a ≡ b) × (xs ≡ ys)

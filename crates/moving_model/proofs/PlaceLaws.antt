@@ -10,10 +10,9 @@ use Rattle.vm_base.specs.Pages.{rounded}
 use Rattle.vm_base.specs.declared.limits.TheConstants.{PAGE, ROOT_END}
 use Rattle.vm_base.specs.declared.refusal.Refusal.{Refusal}
 use Rattle.vm_base.proofs.EntryLaws.{some_is}
-use Rattle.vm_model.specs.declared.command.Command.{Command}
+use Rattle.vm_model.specs.Machine.Words.{Command, Reply}
 use Rattle.vm_model.specs.declared.command.Command.TheVariants.{VmoChild, VmarAllocate, VmarMap, MemRead, MemWrite}
 use Rattle.vm_model.specs.declared.command.ChildKind.TheVariants.{Snapshot}
-use Rattle.vm_model.specs.declared.reply.Reply.{Reply}
 use Rattle.vm_model.specs.declared.reply.Reply.TheVariants.{Address, Refused}
 use Rattle.vm_model.specs.Language.Text.{reply_lines}
 use Rattle.vm_model.specs.declared.space.Region.{Region}
@@ -43,7 +42,7 @@ below_root s name first end good given live reaches =
 address_fits : (a first end : ℕ) → a ≡ first * PAGE → first ≤ end → end ≤ ROOT_END → a < 2 ^ 64
 address_fits a first end e h l = omega (arith, e, h, l)
 
-told : {a b : ℕ} → Address a ≡ Address b → a ≡ b
+told : {a b : ℕ} → ◌≡◌ {A = Reply} (Address a) (Address b) → a ≡ b
 told e = cc
 
 effect_address : (old new : Machine) (command : Command) (a : ℕ) → IsGoodMachine old → first_of (refusals old.state command) ≡ None → MachineEffect old command (Address a) new → a < 2 ^ 64

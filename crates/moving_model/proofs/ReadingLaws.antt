@@ -8,7 +8,7 @@ use Rattle.vm_base.specs.declared.names.VmoName.{VmoName}
 use Rattle.vm_base.specs.declared.names.RegionName.{RegionName}
 use Rattle.vm_base.specs.declared.names.PinName.{PinName}
 use Rattle.vm_base.proofs.EntryLaws.{some_same}
-use Rattle.vm_model.specs.declared.command.Command.{Command}
+use Rattle.vm_model.specs.Machine.Words.{Command}
 use Rattle.vm_model.specs.declared.command.Command.TheVariants.{VmoClose, VmoSize, VmoRead, VmoCommit, VmoDecommit, VmoZero, VmoPin, VmoUnpin, VmoInfo, RootCreate, VmarUnmap, VmarDestroy, Maps, MemRead, Stat}
 use Rattle.vm_model.specs.Language.Reading.{digit, digits, below, has_leading_zero, name_behind, vmo, region, pin, number, byte, byte_data, perm, child_kind, arg, end, named, ranged, vmo_create, vmo_create_child, vmo_set_size, vmo_write, vmo_fill, vmo_pin, vmar_allocate, vmar_map, vmar_protect, mem_write, by_word, commands, command, is_word, is_comment, Blank, Order, Outside, order_or_outside, reading_of_words, words, reading}
 use Rattle.vm_model.specs.Machine.Given.{GivesName}

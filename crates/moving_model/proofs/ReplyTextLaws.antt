@@ -5,7 +5,7 @@ use Rattle.vm_base.proofs.SearchLaws.{eqb_same}
 use Rattle.std.specs.Prelude.{codes}
 use Rattle.vm_base.specs.declared.refusal.Refusal.{Refusal}
 use Rattle.vm_base.specs.declared.refusal.Refusal.TheVariants.{Syntax, BadHandle, NameInUse, BadState, AccessDenied, InvalidArgs, NotSupported, Unavailable, OutOfRange, BufferTooSmall, NotFound, AlreadyExists, NoResources, NoMemory, HostMemory}
-use Rattle.vm_model.specs.declared.reply.Reply.{Reply}
+use Rattle.vm_model.specs.Machine.Words.{Reply}
 use Rattle.vm_model.specs.declared.reply.Reply.TheVariants.{Refused}
 use Rattle.vm_model.specs.Language.Text.{refusal_name, reply_lines}
 use Rattle.moving_model.specs.Following.{first_line}

@@ -8,7 +8,7 @@ use Rattle.vm_base.specs.declared.names.PinName.{PinName}
 use Rattle.vm_base.specs.declared.names.VmoName.{VmoName}
 use Rattle.vm_base.specs.declared.refusal.Refusal.{Refusal}
 use Rattle.vm_base.proofs.EntryLaws.{some_same, with_key-same, with_key-here, with_key-other, with_key-cases, any_entry-with_key_kept}
-use Rattle.vm_model.specs.declared.command.Command.{Command}
+use Rattle.vm_model.specs.Machine.Words.{Command, Reply}
 use Rattle.vm_model.specs.declared.command.Command.TheVariants.{VmoPin}
 use Rattle.vm_model.specs.declared.reply.Reply.TheVariants.{Pins}
 use Rattle.vm_model.specs.Contents.Content.{Page}
@@ -72,7 +72,7 @@ seen_from g first (suc n) (j ∷ told) numbers t k e = elim (seen_from g (first 
 
 -- ---- a pin
 
-pub pins_same : (a b : List ℕ) → Pins a ≡ Pins b → a ≡ b
+pub pins_same : (a b : List ℕ) → ◌≡◌ {A = Reply} (Pins a) (Pins b) → a ≡ b
 pins_same a b e = cc
 
 -- where frames are told, the pin was made

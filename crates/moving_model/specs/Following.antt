@@ -1,7 +1,7 @@
 -- When an own machine and the numbers that were seen stand for all that a transcript so far may have led to.
 use Rattle.std.specs.Prelude.{◌≡◌, ℕ, Option, List, [], ◌∷◌, ◌++◌}
 use Rattle.std.specs.List.{flat_map}
-use Rattle.vm_model.specs.declared.reply.Reply.{Reply}
+use Rattle.vm_model.specs.Machine.Words.{Reply}
 use Rattle.vm_model.specs.Language.Text.{reply_lines}
 use Rattle.vm_model.specs.Machine.Machine.{Machine, empty_machine}
 use Rattle.moving_model.specs.Moving.{MovingGives}

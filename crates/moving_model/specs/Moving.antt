@@ -1,9 +1,8 @@
 -- The machine of a kernel that moves pages to other frames. After each step the pages that no pin covers may have moved.
 use Rattle.std.specs.Prelude.{◌≡◌, ◌≢◌, ℕ, ◌<◌, Bool, true, false, List, [], ◌∷◌, ◌++◌, Some}
 use Rattle.vm_base.specs.declared.refusal.Refusal.TheVariants.{Syntax}
-use Rattle.vm_model.specs.declared.command.Command.{Command}
+use Rattle.vm_model.specs.Machine.Words.{Command, Reply}
 use Rattle.vm_model.specs.declared.command.Command.TheVariants.{VmoPin, VmarAllocate, VmarMap}
-use Rattle.vm_model.specs.declared.reply.Reply.{Reply}
 use Rattle.vm_model.specs.declared.reply.Reply.TheVariants.{Refused, Pins}
 use Rattle.vm_model.specs.Contents.Content.{Page, shown, is_held}
 use Rattle.vm_model.specs.Naming.Pins.{is_pinned}

@@ -3,7 +3,7 @@ use Rattle.std.specs.Prelude.{◌≡◌, ℕ, ◌≤◌, true, map, Some}
 use Rattle.std.specs.Option.{option_map}
 use Rattle.vm_model.specs.Contents.Content.{Page, Content}
 use Rattle.vm_model.specs.Naming.Pins.{is_pinned}
-use Rattle.vm_model.specs.declared.reply.Reply.{Reply}
+use Rattle.vm_model.specs.Machine.Words.{Reply}
 use Rattle.vm_model.specs.declared.reply.Reply.TheVariants.{Pins}
 use Rattle.vm_model.specs.Machine.State.{State}
 use Rattle.vm_model.specs.Machine.Access.{Memory}

@@ -11,7 +11,7 @@ use Rattle.vm_base.specs.declared.names.RegionName.{RegionName}
 use Rattle.vm_base.specs.declared.names.VmoName.{VmoName}
 use Rattle.vm_base.specs.declared.refusal.Refusal.{Refusal}
 use Rattle.vm_base.specs.declared.refusal.Refusal.TheVariants.{AccessDenied, InvalidArgs, OutOfRange, BufferTooSmall, HostMemory}
-use Rattle.vm_model.specs.declared.command.Command.{Command}
+use Rattle.vm_model.specs.Machine.Words.{Command}
 use Rattle.vm_model.specs.declared.command.Command.TheVariants.{VmarMap}
 use Rattle.vm_model.specs.declared.names.NameKind.TheVariants.{Slice}
 use Rattle.vm_model.specs.declared.names.Target.{Target}

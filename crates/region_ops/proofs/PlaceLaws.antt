@@ -9,7 +9,7 @@ use Rattle.vm_base.specs.declared.names.RegionName.{RegionName}
 use Rattle.vm_base.specs.declared.refusal.Refusal.{Refusal}
 use Rattle.vm_base.specs.declared.refusal.Refusal.TheVariants.{AccessDenied, InvalidArgs, AlreadyExists, NoResources, HostMemory}
 use Rattle.vm_base.proofs.SearchLaws.{any_below_at}
-use Rattle.vm_model.specs.declared.command.Command.{Command}
+use Rattle.vm_model.specs.Machine.Words.{Command}
 use Rattle.vm_model.specs.declared.command.Command.TheVariants.{VmarAllocate}
 use Rattle.vm_model.specs.Space.Rights.{has, specific, upper_limit}
 use Rattle.vm_model.specs.declared.reply.Reply.TheVariants.{Address, Refused}

@@ -4,8 +4,8 @@ ghost use Rattle.std.specs.Prelude.{◌≡◌, ◌+◌, ◌-◌, ◌*◌, ◌/�
 ghost use Rattle.vm_base.specs.Pages.{rounded};
 ghost use Rattle.vm_base.specs.declared.limits.TheConstants.{PAGE, VMO_PAGES, ROOT_END};
 ghost use Rattle.vm_base.specs.declared.names.VmoName.{VmoName};
-ghost use Rattle.vm_model.specs.declared.command.Command.{Command};
-ghost use Rattle.vm_model.specs.declared.reply.Reply.{Reply};
+ghost use Rattle.vm_model.specs.declared.reply.Reply.TheVariants as Reply;
+ghost use Rattle.vm_model.specs.declared.command.Command.TheVariants as Command;
 ghost use Rattle.vm_model.specs.declared.names.NameKind.TheVariants.{Slice};
 ghost use Rattle.vm_model.specs.Naming.Names.{is_kind};
 ghost use Rattle.vm_model.specs.Space.Rights.{has, writing, specific, overwrite, upper_limit, allow_faults};

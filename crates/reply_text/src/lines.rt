@@ -3,8 +3,7 @@
 ghost use Rattle.std.specs.Prelude.{◌≡◌, ◌+◌, ◌<◌, ◌≤◌, ◌++◌, length, take, drop, map, codes};
 ghost use Rattle.std.specs.Prelude.{slice_get, MatchResult};
 ghost use Rattle.vm_model.specs.Language.Text.{reply_lines, run_line, refusal_name};
-ghost use Rattle.vm_model.specs.Machine.Lent.{reply_for};
-ghost use Rattle.vm_model.specs.declared.reply.Reply.{Reply};
+ghost use Rattle.vm_model.specs.declared.reply.Reply.TheVariants as Reply;
 
 use crate::parts::{put_access, put_address, put_info, put_numbers, put_run, put_stat};
 use vm_base::{Refusal, TEXT_BYTES, TEXT_ROOM};
@@ -42,7 +41,7 @@ pub fn write_line(reply: &Reply, index: u64, out: &mut [u8]) -> usize
 
 /// Returns a reply as an answer. If the reply owns runs, which no answer borrows, these runs.
 fn lend(reply: &Reply) -> Result<Answer<'_>, &[Run]>
-    ensures { MatchResult result (λ answer. reply_for answer ≡ reply.now)
+    ensures { MatchResult result (λ answer. answer ≡ reply.now)
         (λ runs. reply.now ≡ Reply.Runs runs.now) }
 {
     Ok(match reply {
@@ -65,7 +64,7 @@ fn lend(reply: &Reply) -> Result<Answer<'_>, &[Run]>
 
 /// Returns how many lines an answer has.
 pub fn answer_line_count(answer: &Answer<'_>) -> u64
-    ensures { result ≡ length (reply_lines (reply_for answer.now)) }
+    ensures { result ≡ length (reply_lines answer.now) }
 {
     runs_of(answer).len() as u64 + 1
 }
@@ -73,9 +72,9 @@ pub fn answer_line_count(answer: &Answer<'_>) -> u64
 /// Writes line `index` of an answer, as `write_line` does that of a reply.
 #[inline(always)]
 pub fn write_answer_line(answer: &Answer<'_>, index: u64, out: &mut [u8]) -> usize
-    requires index { index < length (reply_lines (reply_for answer.now)) }
+    requires index { index < length (reply_lines answer.now) }
     requires room { TEXT_ROOM ≤ length out.old }
-    ensures line { slice_get (reply_lines (reply_for answer.now)) index ≡ Some (take result out.new) }
+    ensures line { slice_get (reply_lines answer.now) index ≡ Some (take result out.new) }
     ensures len { result ≤ length out.new }
     ensures short { result < TEXT_BYTES }
 {
@@ -89,8 +88,8 @@ pub fn write_answer_line(answer: &Answer<'_>, index: u64, out: &mut [u8]) -> usi
 /// Returns the runs of an answer. Each has a line behind the first line. Only `Runs` has any.
 #[tactic(auto, unfolding(vm_model::specs::Language::Text::reply_lines))]
 fn runs_of<'b>(answer: &'b Answer<'_>) -> &'b [Run]
-    ensures count { length (reply_lines (reply_for answer.now)) ≡ length result.now + 1 }
-    ensures lines { drop 1 (reply_lines (reply_for answer.now)) ≡ map run_line result.now }
+    ensures count { length (reply_lines answer.now) ≡ length result.now + 1 }
+    ensures lines { drop 1 (reply_lines answer.now) ≡ map run_line result.now }
 {
     match answer {
         Answer::Runs(runs) => runs.as_slice(),
@@ -111,7 +110,7 @@ fn runs_of<'b>(answer: &'b Answer<'_>) -> &'b [Run]
 #[tactic(auto, unfolding(vm_model::specs::Language::Text::reply_lines))]
 fn put_first_line(answer: &Answer<'_>, out: &mut [u8]) -> usize
     requires { TEXT_ROOM ≤ length out.old }
-    ensures line { slice_get (reply_lines (reply_for answer.now)) 0 ≡ Some (take result out.new ++ codes "\n") }
+    ensures line { slice_get (reply_lines answer.now) 0 ≡ Some (take result out.new ++ codes "\n") }
     ensures short { result + 1 < TEXT_BYTES }
 {
     let ok = put(b"OK", out, 0);

@@ -4,7 +4,7 @@ ghost use Rattle.std.specs.Prelude.{◌≡◌, ◌≢◌, ◌<◌, ◌≤◌, �
 ghost use Rattle.std.specs.List.{AllByRecursion, position_or_len};
 ghost use Rattle.std.specs.Fmt.{digits, digit_glyph};
 ghost use Rattle.vm_model.specs.Language.Text.{reply_lines};
-ghost use Rattle.vm_model.specs.declared.reply.Reply.{Reply};
+ghost use Rattle.vm_model.specs.declared.reply.Reply.TheVariants as Reply;
 ghost use Rattle.vm_base.specs.declared.limits.TheConstants.{PIN_PAGES};
 ghost use Rattle.reply_text.specs.Spaces.{is_space, begins_space, spaced_number, all_spaced};
 

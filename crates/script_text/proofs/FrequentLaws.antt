@@ -16,7 +16,7 @@ use Rattle.hex.proofs.HexLemmas.{decode_of-ok}
 use Rattle.vm_base.specs.declared.limits.TheConstants.{DATA_BYTES}
 use Rattle.vm_base.specs.declared.names.VmoName.{VmoName}
 use Rattle.vm_base.specs.declared.names.RegionName.{RegionName}
-use Rattle.vm_model.specs.declared.command.Command.{Command}
+use Rattle.vm_model.specs.Machine.Words.{Command}
 use Rattle.vm_model.specs.declared.command.Command.TheVariants.{VmoRead, VmoWrite, MemRead, MemWrite}
 use Rattle.vm_model.specs.Language.Reading.{words, is_blank, begins_blank, byte_data, vmo, region, number, ranged, vmo_write, mem_write, command}
 use Rattle.script_text.specs.Lines.{order_in}

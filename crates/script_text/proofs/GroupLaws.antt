@@ -10,7 +10,7 @@ use Rattle.vm_base.specs.declared.names.PinName.{PinName}
 use Rattle.vm_base.specs.declared.flags.MapFlags.{MapFlags}
 use Rattle.vm_base.specs.declared.flags.Perm.{Perm}
 use Rattle.vm_model.specs.declared.command.ChildKind.{ChildKind}
-use Rattle.vm_model.specs.declared.command.Command.{Command}
+use Rattle.vm_model.specs.Machine.Words.{Command}
 use Rattle.vm_model.specs.declared.command.Command.TheVariants.{VmoWrite, VmoFill, VmoPin, VmarProtect, MemWrite}
 use Rattle.vm_model.specs.declared.command.Command.TheVariants.{VmoCreate, VmoChild, VmoSetSize, VmarAllocate, VmarMap}
 use Rattle.vm_model.specs.Language.Reading.{vmo, region, number, byte, byte_data, perm, pin}

@@ -7,7 +7,7 @@ use Rattle.std.specs.Cmp.Lexicographic.{pointwise}
 use Rattle.std.proofs.lemmas.Cmp.{nat_list_eq_equiv}
 use Rattle.std.proofs.lemmas.Map.Made.{length-le_from_is_member}
 use Rattle.std.proofs.lemmas.Slice.Eq.{bytes_eq-Decides}
-use Rattle.vm_model.specs.declared.command.Command.{Command}
+use Rattle.vm_model.specs.Machine.Words.{Command}
 use Rattle.vm_model.specs.declared.command.Command.TheVariants.{Stat}
 use Rattle.vm_model.specs.Language.Reading.{command, commands, by_word, arg, end, named, ranged, are_flags, stands, is_word}
 use Rattle.vm_model.specs.Language.Reading.{vmo, region, pin, number, child_kind, perm, vmo_create, vmo_create_child, vmo_set_size}

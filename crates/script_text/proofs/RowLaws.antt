@@ -5,7 +5,7 @@ use Rattle.std.specs.Prelude.{Option, None, ◌==◌, if◌then◌else◌}
 use Rattle.std.specs.List.{list_any}
 use Rattle.std.proofs.lemmas.Bool.{eqb-false, ne_eqb}
 use Rattle.std.proofs.lemmas.Slice.Eq.{bytes_eq-Decides}
-use Rattle.vm_model.specs.declared.command.Command.{Command}
+use Rattle.vm_model.specs.Machine.Words.{Command}
 use Rattle.vm_model.specs.Language.Reading.{by_word, command, commands, is_word}
 use Rattle.script_text.specs.inside.Rows.{command_rows_of}
 

@@ -3,7 +3,7 @@ use Rattle.std.proofs.Common.{◌≡◌, ℕ, suc, ◌<◌, ◌≢◌, List, [],
 use Rattle.std.specs.Prelude.{Option, Some, None, option_and_then}
 use Rattle.vm_base.specs.declared.names.VmoName.{VmoName}
 use Rattle.vm_base.specs.declared.names.RegionName.{RegionName}
-use Rattle.vm_model.specs.declared.command.Command.{Command}
+use Rattle.vm_model.specs.Machine.Words.{Command}
 use Rattle.vm_model.specs.declared.command.Command.TheVariants.{VmoPin}
 use Rattle.vm_model.specs.Language.Reading.{vmo, region, pin, number, byte, byte_data, perm, child_kind, arg, end, named, ranged}
 use Rattle.vm_model.specs.Language.Reading.{vmo_create, vmo_create_child, vmo_set_size, vmo_write, vmo_fill, vmo_pin, vmar_allocate, vmar_map, vmar_protect, mem_write}

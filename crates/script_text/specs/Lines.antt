@@ -1,9 +1,7 @@
 -- What the answers of `read_line` and `read_call` say.
 use Rattle.std.specs.Prelude.{ℕ, ◌==◌, Bool, true, List, [], ◌∷◌, Option, None, Some, Result, Ok, Err}
 use Rattle.vm_model.specs.Language.Reading.{Reading, Blank, Order, Outside, command}
-use Rattle.vm_model.specs.declared.command.Command.{Command}
-use Rattle.vm_model.specs.Machine.Lent.{command_of}
-use Rattle.vm_model.specs.declared.call.Call.{Call}
+use Rattle.vm_model.specs.Machine.Words.{Command}
 use Rattle.script_text.specs.declared.reading.Line.{Line}
 use Rattle.script_text.specs.declared.reading.Line.TheVariants.{Blank as BlankLine, Order as OrderLine}
 use Rattle.script_text.specs.declared.reading.SyntaxFault.{SyntaxFault}
@@ -15,9 +13,9 @@ reading_of (Ok (OrderLine command)) = Order command
 reading_of (Err fault) = Outside
 
 -- the same of an answer whose data stands elsewhere
-abbrev pub reading_of_call : Result (Option Call) SyntaxFault → Reading
+abbrev pub reading_of_call : Result (Option Command) SyntaxFault → Reading
 reading_of_call (Ok None) = Blank
-reading_of_call (Ok (Some call)) = Order (command_of call)
+reading_of_call (Ok (Some call)) = Order call
 reading_of_call (Err fault) = Outside
 
 -- the command of a line with these words

@@ -1,8 +1,7 @@
 //! From a command word to the reader of its arguments. The word is compared with those of its own length alone.
 
-ghost use Rattle.std.specs.Prelude.{◌≡◌, ◌≤◌, length, map, option_map};
+ghost use Rattle.std.specs.Prelude.{◌≡◌, ◌≤◌, length, map};
 ghost use Rattle.vm_model.specs.Language.Reading.{by_word, command};
-ghost use Rattle.vm_model.specs.Machine.Lent.{command_of};
 ghost use Rattle.script_text.specs.inside.Rows.{command_rows_of};
 
 use crate::region_commands::{
@@ -23,7 +22,7 @@ use vm_model::Call;
 #[inline(never)]
 pub fn call<'a>(word: &[u8], arguments: &[&[u8]], room: &'a mut [u8]) -> Option<Call<'a>>
     requires { DATA_BYTES ≤ length room.old }
-    ensures { option_map command_of result ≡ command word.now (map (λ a. a.now) arguments.now) }
+    ensures { result ≡ command word.now (map (λ a. a.now) arguments.now) }
 {
     match word.len() {
         4 => return call_of_four(word, arguments),
@@ -42,7 +41,7 @@ pub fn call<'a>(word: &[u8], arguments: &[&[u8]], room: &'a mut [u8]) -> Option<
 
 /// Returns the command of a word of four bytes.
 fn call_of_four<'a>(word: &[u8], arguments: &[&[u8]]) -> Option<Call<'a>>
-    ensures { option_map command_of result ≡ by_word (command_rows_of 4) word.now (map (λ a. a.now) arguments.now) }
+    ensures { result ≡ by_word (command_rows_of 4) word.now (map (λ a. a.now) arguments.now) }
 {
     if is_word(word, b"stat") {
         return stat(arguments);
@@ -55,7 +54,7 @@ fn call_of_four<'a>(word: &[u8], arguments: &[&[u8]]) -> Option<Call<'a>>
 
 /// Returns the command of a word of seven bytes.
 fn call_of_seven<'a>(word: &[u8], arguments: &[&[u8]]) -> Option<Call<'a>>
-    ensures { option_map command_of result ≡ by_word (command_rows_of 7) word.now (map (λ a. a.now) arguments.now) }
+    ensures { result ≡ by_word (command_rows_of 7) word.now (map (λ a. a.now) arguments.now) }
 {
     if is_word(word, b"vmo_pin") {
         return vmo_pin(arguments);
@@ -65,7 +64,7 @@ fn call_of_seven<'a>(word: &[u8], arguments: &[&[u8]]) -> Option<Call<'a>>
 
 /// Returns the command of a word of eight bytes.
 fn call_of_eight<'a>(word: &[u8], arguments: &[&[u8]]) -> Option<Call<'a>>
-    ensures { option_map command_of result ≡ by_word (command_rows_of 8) word.now (map (λ a. a.now) arguments.now) }
+    ensures { result ≡ by_word (command_rows_of 8) word.now (map (λ a. a.now) arguments.now) }
 {
     if is_word(word, b"vmo_size") {
         return vmo_size(arguments);
@@ -94,7 +93,7 @@ fn call_of_eight<'a>(word: &[u8], arguments: &[&[u8]]) -> Option<Call<'a>>
 /// Returns the command of a word of nine bytes.
 fn call_of_nine<'a>(word: &[u8], arguments: &[&[u8]], room: &'a mut [u8]) -> Option<Call<'a>>
     requires { DATA_BYTES ≤ length room.old }
-    ensures { option_map command_of result ≡ by_word (command_rows_of 9) word.now (map (λ a. a.now) arguments.now) }
+    ensures { result ≡ by_word (command_rows_of 9) word.now (map (λ a. a.now) arguments.now) }
 {
     if is_word(word, b"vmo_close") {
         return vmo_close(arguments);
@@ -113,7 +112,7 @@ fn call_of_nine<'a>(word: &[u8], arguments: &[&[u8]], room: &'a mut [u8]) -> Opt
 
 /// Returns the command of a word of ten bytes.
 fn call_of_ten<'a>(word: &[u8], arguments: &[&[u8]]) -> Option<Call<'a>>
-    ensures { option_map command_of result ≡ by_word (command_rows_of 10) word.now (map (λ a. a.now) arguments.now) }
+    ensures { result ≡ by_word (command_rows_of 10) word.now (map (λ a. a.now) arguments.now) }
 {
     if is_word(word, b"vmo_create") {
         return vmo_create(arguments);
@@ -129,7 +128,7 @@ fn call_of_ten<'a>(word: &[u8], arguments: &[&[u8]]) -> Option<Call<'a>>
 
 /// Returns the command of a word of eleven bytes.
 fn call_of_eleven<'a>(word: &[u8], arguments: &[&[u8]]) -> Option<Call<'a>>
-    ensures { option_map command_of result ≡ by_word (command_rows_of 11) word.now (map (λ a. a.now) arguments.now) }
+    ensures { result ≡ by_word (command_rows_of 11) word.now (map (λ a. a.now) arguments.now) }
 {
     if is_word(word, b"root_create") {
         return root_create(arguments);
@@ -139,7 +138,7 @@ fn call_of_eleven<'a>(word: &[u8], arguments: &[&[u8]]) -> Option<Call<'a>>
 
 /// Returns the command of a word of twelve bytes.
 fn call_of_twelve<'a>(word: &[u8], arguments: &[&[u8]]) -> Option<Call<'a>>
-    ensures { option_map command_of result ≡ by_word (command_rows_of 12) word.now (map (λ a. a.now) arguments.now) }
+    ensures { result ≡ by_word (command_rows_of 12) word.now (map (λ a. a.now) arguments.now) }
 {
     if is_word(word, b"vmo_set_size") {
         return vmo_set_size(arguments);
@@ -158,7 +157,7 @@ fn call_of_twelve<'a>(word: &[u8], arguments: &[&[u8]]) -> Option<Call<'a>>
 
 /// Returns the command of a word of thirteen bytes.
 fn call_of_thirteen<'a>(word: &[u8], arguments: &[&[u8]]) -> Option<Call<'a>>
-    ensures { option_map command_of result ≡ by_word (command_rows_of 13) word.now (map (λ a. a.now) arguments.now) }
+    ensures { result ≡ by_word (command_rows_of 13) word.now (map (λ a. a.now) arguments.now) }
 {
     if is_word(word, b"vmar_allocate") {
         return vmar_allocate(arguments);
@@ -168,7 +167,7 @@ fn call_of_thirteen<'a>(word: &[u8], arguments: &[&[u8]]) -> Option<Call<'a>>
 
 /// Returns the command of a word of sixteen bytes.
 fn call_of_sixteen<'a>(word: &[u8], arguments: &[&[u8]]) -> Option<Call<'a>>
-    ensures { option_map command_of result ≡ by_word (command_rows_of 16) word.now (map (λ a. a.now) arguments.now) }
+    ensures { result ≡ by_word (command_rows_of 16) word.now (map (λ a. a.now) arguments.now) }
 {
     if is_word(word, b"vmo_create_child") {
         return vmo_create_child(arguments);

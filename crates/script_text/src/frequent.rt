@@ -4,7 +4,6 @@
 ghost use Rattle.std.specs.Prelude.{◌≡◌, ◌≤◌, ◌==◌, ◌++◌, length, option_map, true, IfSome};
 ghost use Rattle.vm_model.specs.Language.Reading.{words, begins_blank, mem_write, ranged, region, vmo, vmo_write};
 ghost use Rattle.vm_model.specs.declared.command.Command.TheVariants.{MemRead, VmoRead};
-ghost use Rattle.vm_model.specs.Machine.Lent.{command_of};
 ghost use Rattle.script_text.specs.inside.Shapes.{only_data, ends_blank, three_words};
 
 use crate::field_groups::{range_of_region, range_of_vmo, region_and_number, vmo_and_number};
@@ -66,7 +65,7 @@ fn three_words(line: &[u8]) -> Option<(&[u8], &[u8], &[u8])>
 #[inline(never)]
 #[tactic(auto, using(crate::proofs::FrequentLaws::vmo_range_of_three))]
 pub fn vmo_read_of<'a>(arguments: &[u8]) -> Option<Call<'a>>
-    ensures { option_map command_of result ≡ ranged vmo VmoRead (words arguments.now) }
+    ensures { result ≡ ranged vmo VmoRead (words arguments.now) }
 {
     let (name, offset, len) = three_words(arguments)?;
     let (name, offset, len) = range_of_vmo(name, offset, len)?;
@@ -77,7 +76,7 @@ pub fn vmo_read_of<'a>(arguments: &[u8]) -> Option<Call<'a>>
 #[inline(never)]
 #[tactic(auto, using(crate::proofs::FrequentLaws::region_range_of_three))]
 pub fn mem_read_of<'a>(arguments: &[u8]) -> Option<Call<'a>>
-    ensures { option_map command_of result ≡ ranged region MemRead (words arguments.now) }
+    ensures { result ≡ ranged region MemRead (words arguments.now) }
 {
     let (region, addr, len) = three_words(arguments)?;
     let (region, addr, len) = range_of_region(region, addr, len)?;
@@ -87,7 +86,7 @@ pub fn mem_read_of<'a>(arguments: &[u8]) -> Option<Call<'a>>
 /// Returns the command `vmo_write` of these arguments, whose data is lent from `room`.
 pub fn vmo_write_of<'a>(arguments: &[u8], room: &'a mut [u8]) -> Option<Call<'a>>
     requires { DATA_BYTES ≤ length room.old }
-    ensures { option_map command_of result ≡ vmo_write (words arguments.now) }
+    ensures { result ≡ vmo_write (words arguments.now) }
 {
     let (name, rest) = next_short_word(arguments)?;
     let (offset, rest) = next_short_word(rest)?;
@@ -103,7 +102,7 @@ pub fn vmo_write_of<'a>(arguments: &[u8], room: &'a mut [u8]) -> Option<Call<'a>
 /// Returns the command `mem_write` of these arguments, whose data is lent from `room`.
 pub fn mem_write_of<'a>(arguments: &[u8], room: &'a mut [u8]) -> Option<Call<'a>>
     requires { DATA_BYTES ≤ length room.old }
-    ensures { option_map command_of result ≡ mem_write (words arguments.now) }
+    ensures { result ≡ mem_write (words arguments.now) }
 {
     let (region, rest) = next_short_word(arguments)?;
     let (addr, rest) = next_short_word(rest)?;

@@ -1,8 +1,7 @@
 //! What one line of a script says.
 
-ghost use Rattle.std.specs.Prelude.{◌≡◌, ◌≤◌, ◌∷◌, length, option_map, if◌then◌else◌};
+ghost use Rattle.std.specs.Prelude.{◌≡◌, ◌≤◌, ◌∷◌, length, if◌then◌else◌};
 ghost use Rattle.vm_model.specs.Language.Reading.{command, order_or_outside, reading, reading_of_words, words, Blank};
-ghost use Rattle.vm_model.specs.Machine.Lent.{command_of};
 ghost use Rattle.script_text.specs.Lines.{is_silent, order_in, reading_of, reading_of_call};
 
 use crate::command_words::call;
@@ -37,7 +36,7 @@ pub fn read_line(line: &[u8]) -> Result<Line, SyntaxFault>
 {
     let mut room = [0; DATA_BYTES];
     match read_call(line, &mut room)? {
-        Some(call) => Ok(Line::Order(call.to_command())),
+        Some(call) => Ok(Line::Order(call.to_owned())),
         None => Ok(Line::Blank),
     }
 }
@@ -84,7 +83,7 @@ fn is_silent(line: &[u8]) -> bool
 #[inline(always)]
 fn order<'a>(line: &[u8], room: &'a mut [u8]) -> Option<Call<'a>>
     requires { DATA_BYTES ≤ length room.old }
-    ensures { option_map command_of result ≡ order_in (words line.now) }
+    ensures { result ≡ order_in (words line.now) }
 {
     if let Some(arguments) = behind_word(b"vmo_read", line) {
         return vmo_read_of(arguments);
@@ -106,7 +105,7 @@ fn order<'a>(line: &[u8], room: &'a mut [u8]) -> Option<Call<'a>>
 #[inline(never)]
 fn order_of_words<'a>(line: &[u8], room: &'a mut [u8]) -> Option<Call<'a>>
     requires { DATA_BYTES ≤ length room.old }
-    ensures { option_map command_of result ≡ order_in (words line.now) }
+    ensures { result ≡ order_in (words line.now) }
 {
     let (word, rest) = next_short_word(line)?;
     let Some((first, rest)) = next_short_word(rest) else {
@@ -132,7 +131,7 @@ fn order_of_more<'a>(
     room: &'a mut [u8],
 ) -> Option<Call<'a>>
     requires { DATA_BYTES ≤ length room.old }
-    ensures { option_map command_of result ≡ command word.now (first.now ∷ second.now ∷ words rest.now) }
+    ensures { result ≡ command word.now (first.now ∷ second.now ∷ words rest.now) }
 {
     let mut arguments: ArrayVec<&[u8], MOST_ARGUMENTS> = ArrayVec::new();
     arguments.push(first);

@@ -1,12 +1,11 @@
 //! The commands of address regions and of the whole machine, from their arguments. A call that borrows nothing lives as
 //! long as its caller wants, so no caller has to shorten its life.
 
-ghost use Rattle.std.specs.Prelude.{◌≡◌, ◌≤◌, length, map, option_map};
+ghost use Rattle.std.specs.Prelude.{◌≡◌, ◌≤◌, length, map};
 ghost use Rattle.vm_model.specs.Language.Reading.{are_flags, end, named, ranged, region, vmar_allocate, vmar_map};
 ghost use Rattle.vm_model.specs.Language.Reading.{vmar_protect, mem_write};
 ghost use Rattle.vm_model.specs.declared.command.Command.TheVariants.{RootCreate, VmarUnmap, VmarDestroy, Maps};
 ghost use Rattle.vm_model.specs.declared.command.Command.TheVariants.{MemRead, Stat};
-ghost use Rattle.vm_model.specs.Machine.Lent.{command_of};
 ghost use Rattle.script_text.specs.inside.Shapes.{map_flag_words, map_flags, one_region, region_caps, region_flag_words};
 ghost use Rattle.script_text.specs.inside.Shapes.{region_flags, region_range};
 
@@ -39,7 +38,7 @@ fn region_range(arguments: &[&[u8]]) -> Option<(RegionName, u64, u64)>
 /// Reads the arguments of `root_create REGION`.
 #[tactic(auto, using(crate::proofs::ShapeLaws::region_by_one))]
 pub fn root_create<'a>(arguments: &[&[u8]]) -> Option<Call<'a>>
-    ensures { option_map command_of result ≡ named region RootCreate (map (λ a. a.now) arguments.now) }
+    ensures { result ≡ named region RootCreate (map (λ a. a.now) arguments.now) }
 {
     let region = one_region(arguments)?;
     Some(Call::RootCreate { region })
@@ -48,7 +47,7 @@ pub fn root_create<'a>(arguments: &[&[u8]]) -> Option<Call<'a>>
 /// Reads the arguments of `vmar_allocate REGION PARENT OFFSET LEN [specific] [upper_limit] [can_read] [can_write]
 /// [can_execute]`.
 pub fn vmar_allocate<'a>(arguments: &[&[u8]]) -> Option<Call<'a>>
-    ensures { option_map command_of result ≡ vmar_allocate (map (λ a. a.now) arguments.now) }
+    ensures { result ≡ vmar_allocate (map (λ a. a.now) arguments.now) }
 {
     let [name, parent, offset, len, flags @ ..] = arguments else {
         return None;
@@ -106,7 +105,7 @@ fn region_caps(flags: &[&[u8]]) -> Perm
 /// Reads the arguments of `vmar_map REGION OFFSET VMO VMO_OFFSET LEN PERM [specific] [specific_overwrite] [upper_limit]
 /// [allow_faults]`.
 pub fn vmar_map<'a>(arguments: &[&[u8]]) -> Option<Call<'a>>
-    ensures { option_map command_of result ≡ vmar_map (map (λ a. a.now) arguments.now) }
+    ensures { result ≡ vmar_map (map (λ a. a.now) arguments.now) }
 {
     let [name, offset, source, vmo_offset, len, allowed, flags @ ..] = arguments else {
         return None;
@@ -156,7 +155,7 @@ fn map_flags(flags: &[&[u8]]) -> MapFlags
 /// Reads the arguments of `vmar_unmap REGION ADDR LEN`.
 #[tactic(auto, using(crate::proofs::ShapeLaws::region_range_by_range))]
 pub fn vmar_unmap<'a>(arguments: &[&[u8]]) -> Option<Call<'a>>
-    ensures { option_map command_of result ≡ ranged region VmarUnmap (map (λ a. a.now) arguments.now) }
+    ensures { result ≡ ranged region VmarUnmap (map (λ a. a.now) arguments.now) }
 {
     let (region, addr, len) = region_range(arguments)?;
     Some(Call::VmarUnmap { region, addr, len })
@@ -164,7 +163,7 @@ pub fn vmar_unmap<'a>(arguments: &[&[u8]]) -> Option<Call<'a>>
 
 /// Reads the arguments of `vmar_protect REGION ADDR LEN PERM`.
 pub fn vmar_protect<'a>(arguments: &[&[u8]]) -> Option<Call<'a>>
-    ensures { option_map command_of result ≡ vmar_protect (map (λ a. a.now) arguments.now) }
+    ensures { result ≡ vmar_protect (map (λ a. a.now) arguments.now) }
 {
     let [name, addr, len, allowed] = arguments else {
         return None;
@@ -182,7 +181,7 @@ pub fn vmar_protect<'a>(arguments: &[&[u8]]) -> Option<Call<'a>>
 /// Reads the arguments of `vmar_destroy REGION`.
 #[tactic(auto, using(crate::proofs::ShapeLaws::region_by_one))]
 pub fn vmar_destroy<'a>(arguments: &[&[u8]]) -> Option<Call<'a>>
-    ensures { option_map command_of result ≡ named region VmarDestroy (map (λ a. a.now) arguments.now) }
+    ensures { result ≡ named region VmarDestroy (map (λ a. a.now) arguments.now) }
 {
     let region = one_region(arguments)?;
     Some(Call::VmarDestroy { region })
@@ -191,7 +190,7 @@ pub fn vmar_destroy<'a>(arguments: &[&[u8]]) -> Option<Call<'a>>
 /// Reads the arguments of `maps REGION`.
 #[tactic(auto, using(crate::proofs::ShapeLaws::region_by_one))]
 pub fn maps<'a>(arguments: &[&[u8]]) -> Option<Call<'a>>
-    ensures { option_map command_of result ≡ named region Maps (map (λ a. a.now) arguments.now) }
+    ensures { result ≡ named region Maps (map (λ a. a.now) arguments.now) }
 {
     let region = one_region(arguments)?;
     Some(Call::Maps { region })
@@ -200,7 +199,7 @@ pub fn maps<'a>(arguments: &[&[u8]]) -> Option<Call<'a>>
 /// Reads the arguments of `mem_read REGION ADDR LEN`.
 #[tactic(auto, using(crate::proofs::ShapeLaws::region_range_by_range))]
 pub fn mem_read<'a>(arguments: &[&[u8]]) -> Option<Call<'a>>
-    ensures { option_map command_of result ≡ ranged region MemRead (map (λ a. a.now) arguments.now) }
+    ensures { result ≡ ranged region MemRead (map (λ a. a.now) arguments.now) }
 {
     let (region, addr, len) = region_range(arguments)?;
     Some(Call::MemRead { region, addr, len })
@@ -209,7 +208,7 @@ pub fn mem_read<'a>(arguments: &[&[u8]]) -> Option<Call<'a>>
 /// Reads the arguments of `mem_write REGION ADDR DATA`.
 pub fn mem_write<'a>(arguments: &[&[u8]], room: &'a mut [u8]) -> Option<Call<'a>>
     requires { DATA_BYTES ≤ length room.old }
-    ensures { option_map command_of result ≡ mem_write (map (λ a. a.now) arguments.now) }
+    ensures { result ≡ mem_write (map (λ a. a.now) arguments.now) }
 {
     let [name, addr, data] = arguments else {
         return None;
@@ -225,7 +224,7 @@ pub fn mem_write<'a>(arguments: &[&[u8]], room: &'a mut [u8]) -> Option<Call<'a>
 
 /// Reads the arguments of `stat`.
 pub fn stat<'a>(arguments: &[&[u8]]) -> Option<Call<'a>>
-    ensures { option_map command_of result ≡ end Stat (map (λ a. a.now) arguments.now) }
+    ensures { result ≡ end Stat (map (λ a. a.now) arguments.now) }
 {
     if !arguments.is_empty() {
         return None;

@@ -1,12 +1,11 @@
 //! The commands of VMOs, from their arguments. A call that borrows nothing lives as long as its caller wants, so no
 //! caller has to shorten its life.
 
-ghost use Rattle.std.specs.Prelude.{◌≡◌, ◌≤◌, length, map, option_map};
+ghost use Rattle.std.specs.Prelude.{◌≡◌, ◌≤◌, length, map};
 ghost use Rattle.vm_model.specs.Language.Reading.{named, ranged, pin, vmo, vmo_create, vmo_create_child, vmo_set_size};
 ghost use Rattle.vm_model.specs.Language.Reading.{vmo_write, vmo_fill, vmo_pin};
 ghost use Rattle.vm_model.specs.declared.command.Command.TheVariants.{VmoClose, VmoSize, VmoRead, VmoCommit};
 ghost use Rattle.vm_model.specs.declared.command.Command.TheVariants.{VmoDecommit, VmoZero, VmoUnpin, VmoInfo};
-ghost use Rattle.vm_model.specs.Machine.Lent.{command_of};
 ghost use Rattle.script_text.specs.inside.Shapes.{one_vmo, vmo_range};
 
 use crate::field_groups::{child, range, range_of_vmo, vmo_and_number};
@@ -38,7 +37,7 @@ fn vmo_range(arguments: &[&[u8]]) -> Option<(VmoName, u64, u64)>
 
 /// Reads the arguments of `vmo_create VMO SIZE [resizable]`.
 pub fn vmo_create<'a>(arguments: &[&[u8]]) -> Option<Call<'a>>
-    ensures { option_map command_of result ≡ vmo_create (map (λ a. a.now) arguments.now) }
+    ensures { result ≡ vmo_create (map (λ a. a.now) arguments.now) }
 {
     let [name, size, flags @ ..] = arguments else {
         return None;
@@ -56,7 +55,7 @@ pub fn vmo_create<'a>(arguments: &[&[u8]]) -> Option<Call<'a>>
 
 /// Reads the arguments of `vmo_create_child VMO PARENT KIND OFFSET SIZE [resizable] [no_write]`.
 pub fn vmo_create_child<'a>(arguments: &[&[u8]]) -> Option<Call<'a>>
-    ensures { option_map command_of result ≡ vmo_create_child (map (λ a. a.now) arguments.now) }
+    ensures { result ≡ vmo_create_child (map (λ a. a.now) arguments.now) }
 {
     let [name, parent, kind, offset, size, flags @ ..] = arguments else {
         return None;
@@ -80,7 +79,7 @@ pub fn vmo_create_child<'a>(arguments: &[&[u8]]) -> Option<Call<'a>>
 /// Reads the arguments of `vmo_close VMO`.
 #[tactic(auto, using(crate::proofs::ShapeLaws::vmo_by_one))]
 pub fn vmo_close<'a>(arguments: &[&[u8]]) -> Option<Call<'a>>
-    ensures { option_map command_of result ≡ named vmo VmoClose (map (λ a. a.now) arguments.now) }
+    ensures { result ≡ named vmo VmoClose (map (λ a. a.now) arguments.now) }
 {
     let name = one_vmo(arguments)?;
     Some(Call::VmoClose { name })
@@ -89,7 +88,7 @@ pub fn vmo_close<'a>(arguments: &[&[u8]]) -> Option<Call<'a>>
 /// Reads the arguments of `vmo_size VMO`.
 #[tactic(auto, using(crate::proofs::ShapeLaws::vmo_by_one))]
 pub fn vmo_size<'a>(arguments: &[&[u8]]) -> Option<Call<'a>>
-    ensures { option_map command_of result ≡ named vmo VmoSize (map (λ a. a.now) arguments.now) }
+    ensures { result ≡ named vmo VmoSize (map (λ a. a.now) arguments.now) }
 {
     let name = one_vmo(arguments)?;
     Some(Call::VmoSize { name })
@@ -97,7 +96,7 @@ pub fn vmo_size<'a>(arguments: &[&[u8]]) -> Option<Call<'a>>
 
 /// Reads the arguments of `vmo_set_size VMO SIZE`.
 pub fn vmo_set_size<'a>(arguments: &[&[u8]]) -> Option<Call<'a>>
-    ensures { option_map command_of result ≡ vmo_set_size (map (λ a. a.now) arguments.now) }
+    ensures { result ≡ vmo_set_size (map (λ a. a.now) arguments.now) }
 {
     let [name, size] = arguments else {
         return None;
@@ -110,7 +109,7 @@ pub fn vmo_set_size<'a>(arguments: &[&[u8]]) -> Option<Call<'a>>
 #[inline(always)]
 #[tactic(auto, using(crate::proofs::ShapeLaws::vmo_range_by_range))]
 pub fn vmo_read<'a>(arguments: &[&[u8]]) -> Option<Call<'a>>
-    ensures { option_map command_of result ≡ ranged vmo VmoRead (map (λ a. a.now) arguments.now) }
+    ensures { result ≡ ranged vmo VmoRead (map (λ a. a.now) arguments.now) }
 {
     let (name, offset, len) = vmo_range(arguments)?;
     Some(Call::VmoRead { name, offset, len })
@@ -119,7 +118,7 @@ pub fn vmo_read<'a>(arguments: &[&[u8]]) -> Option<Call<'a>>
 /// Reads the arguments of `vmo_write VMO OFFSET DATA`.
 pub fn vmo_write<'a>(arguments: &[&[u8]], room: &'a mut [u8]) -> Option<Call<'a>>
     requires { DATA_BYTES ≤ length room.old }
-    ensures { option_map command_of result ≡ vmo_write (map (λ a. a.now) arguments.now) }
+    ensures { result ≡ vmo_write (map (λ a. a.now) arguments.now) }
 {
     let [name, offset, data] = arguments else {
         return None;
@@ -135,7 +134,7 @@ pub fn vmo_write<'a>(arguments: &[&[u8]], room: &'a mut [u8]) -> Option<Call<'a>
 
 /// Reads the arguments of `vmo_fill VMO OFFSET LEN BYTE`.
 pub fn vmo_fill<'a>(arguments: &[&[u8]]) -> Option<Call<'a>>
-    ensures { option_map command_of result ≡ vmo_fill (map (λ a. a.now) arguments.now) }
+    ensures { result ≡ vmo_fill (map (λ a. a.now) arguments.now) }
 {
     let [name, offset, len, value] = arguments else {
         return None;
@@ -153,7 +152,7 @@ pub fn vmo_fill<'a>(arguments: &[&[u8]]) -> Option<Call<'a>>
 /// Reads the arguments of `vmo_commit VMO OFFSET LEN`.
 #[tactic(auto, using(crate::proofs::ShapeLaws::vmo_range_by_range))]
 pub fn vmo_commit<'a>(arguments: &[&[u8]]) -> Option<Call<'a>>
-    ensures { option_map command_of result ≡ ranged vmo VmoCommit (map (λ a. a.now) arguments.now) }
+    ensures { result ≡ ranged vmo VmoCommit (map (λ a. a.now) arguments.now) }
 {
     let (name, offset, len) = vmo_range(arguments)?;
     Some(Call::VmoCommit { name, offset, len })
@@ -162,7 +161,7 @@ pub fn vmo_commit<'a>(arguments: &[&[u8]]) -> Option<Call<'a>>
 /// Reads the arguments of `vmo_decommit VMO OFFSET LEN`.
 #[tactic(auto, using(crate::proofs::ShapeLaws::vmo_range_by_range))]
 pub fn vmo_decommit<'a>(arguments: &[&[u8]]) -> Option<Call<'a>>
-    ensures { option_map command_of result ≡ ranged vmo VmoDecommit (map (λ a. a.now) arguments.now) }
+    ensures { result ≡ ranged vmo VmoDecommit (map (λ a. a.now) arguments.now) }
 {
     let (name, offset, len) = vmo_range(arguments)?;
     Some(Call::VmoDecommit { name, offset, len })
@@ -171,7 +170,7 @@ pub fn vmo_decommit<'a>(arguments: &[&[u8]]) -> Option<Call<'a>>
 /// Reads the arguments of `vmo_zero VMO OFFSET LEN`.
 #[tactic(auto, using(crate::proofs::ShapeLaws::vmo_range_by_range))]
 pub fn vmo_zero<'a>(arguments: &[&[u8]]) -> Option<Call<'a>>
-    ensures { option_map command_of result ≡ ranged vmo VmoZero (map (λ a. a.now) arguments.now) }
+    ensures { result ≡ ranged vmo VmoZero (map (λ a. a.now) arguments.now) }
 {
     let (name, offset, len) = vmo_range(arguments)?;
     Some(Call::VmoZero { name, offset, len })
@@ -179,7 +178,7 @@ pub fn vmo_zero<'a>(arguments: &[&[u8]]) -> Option<Call<'a>>
 
 /// Reads the arguments of `vmo_pin PIN VMO OFFSET LEN`.
 pub fn vmo_pin<'a>(arguments: &[&[u8]]) -> Option<Call<'a>>
-    ensures { option_map command_of result ≡ vmo_pin (map (λ a. a.now) arguments.now) }
+    ensures { result ≡ vmo_pin (map (λ a. a.now) arguments.now) }
 {
     let [token, name, offset, len] = arguments else {
         return None;
@@ -196,7 +195,7 @@ pub fn vmo_pin<'a>(arguments: &[&[u8]]) -> Option<Call<'a>>
 
 /// Reads the arguments of `vmo_unpin PIN`.
 pub fn vmo_unpin<'a>(arguments: &[&[u8]]) -> Option<Call<'a>>
-    ensures { option_map command_of result ≡ named pin VmoUnpin (map (λ a. a.now) arguments.now) }
+    ensures { result ≡ named pin VmoUnpin (map (λ a. a.now) arguments.now) }
 {
     let [token] = arguments else {
         return None;
@@ -207,7 +206,7 @@ pub fn vmo_unpin<'a>(arguments: &[&[u8]]) -> Option<Call<'a>>
 /// Reads the arguments of `vmo_info VMO`.
 #[tactic(auto, using(crate::proofs::ShapeLaws::vmo_by_one))]
 pub fn vmo_info<'a>(arguments: &[&[u8]]) -> Option<Call<'a>>
-    ensures { option_map command_of result ≡ named vmo VmoInfo (map (λ a. a.now) arguments.now) }
+    ensures { result ≡ named vmo VmoInfo (map (λ a. a.now) arguments.now) }
 {
     let name = one_vmo(arguments)?;
     Some(Call::VmoInfo { name })

@@ -4,9 +4,8 @@ use Rattle.std.specs.List.{All}
 use Rattle.std.proofs.lemmas.List.{length-append, map_push}
 use Rattle.std.proofs.lemmas.List.Elements.{All-head, All-tail, All-push, All-weaker}
 use Rattle.vm_base.specs.declared.limits.TheConstants.{DATA_BYTES, PIN_PAGES}
-use Rattle.vm_model.specs.declared.answer.Answer.{Answer}
-use Rattle.vm_model.specs.declared.reply.Reply.{Reply}
-use Rattle.vm_model.specs.Machine.Lent.{reply_for}
+use Rattle.vm_model.specs.Machine.Words.{Reply}
+use Rattle.vm_model.specs.declared.reply.Reply.TheVariants as Reply
 use Rattle.shared_vm.specs.declared.task.Deed.{Deed}
 use Rattle.shared_vm.specs.Journal.{data_bytes, data_numbers}
 use Rattle.shared_vm.specs.declared.place.Place.{Place}
@@ -93,7 +92,7 @@ module _ (reply : Reply) (bytes_old numbers_old bytes_new numbers_new : List ℕ
 -- ---- what is kept of one answer
 
 -- an answer without data
-pub Keeps-plain : (answer kept : Answer) (bytes numbers : List ℕ) → answer ≡ kept → Keeps (reply_for answer) bytes numbers (Kept.Plain kept) bytes numbers
+pub Keeps-plain : (answer kept : Reply) (bytes numbers : List ℕ) → answer ≡ kept → Keeps answer bytes numbers (Kept.Plain kept) bytes numbers
 Keeps-plain answer kept bytes numbers is = record {
   bytes_more = [];
   numbers_more = [];
@@ -101,7 +100,7 @@ Keeps-plain answer kept bytes numbers is = record {
   numbers = sym (append-nil numbers);
   bytes_few = omega arith;
   numbers_few = omega arith;
-  reply_is = ap reply_for (sym is);
+  reply_is = sym is;
   is_kept = tt;
 }
 
@@ -126,41 +125,41 @@ module _ (old new lent added : List ℕ) (most : ℕ) (place : Place) (same : le
     few = omega (arith, is_few, start, at_end, length-append old added);
   }
 
-module _ (answer : Answer) (bytes bytes_new numbers lent added : List ℕ) (place : Place) (same : lent ≡ added) (few : length lent ≤ DATA_BYTES)
+module _ (answer : Reply) (bytes bytes_new numbers lent added : List ℕ) (place : Place) (same : lent ≡ added) (few : length lent ≤ DATA_BYTES)
     (grown : bytes_new ≡ bytes ++ lent) (start : place.start ≡ length bytes) (end : place.end ≡ length bytes_new) where
-  pub Keeps-bytes : answer ≡ Answer.Bytes added → Keeps (reply_for answer) bytes numbers (Kept.Bytes place) bytes_new numbers
+  pub Keeps-bytes : answer ≡ Reply.Bytes added → Keeps answer bytes numbers (Kept.Bytes place) bytes_new numbers
   Keeps-bytes is = record {
     bytes_more = added;
     numbers_more = [];
     bytes = is_grown bytes bytes_new lent added DATA_BYTES place same few grown start end;
     numbers = sym (append-nil numbers);
-    bytes_few = omega (arith, ap (λ (a : Answer). data_bytes (reply_for a)) is);
+    bytes_few = omega (arith, ap data_bytes is);
     numbers_few = omega arith;
-    reply_is = ap (λ (xs : List ℕ). Reply.Bytes xs) (is_part bytes bytes_new lent added DATA_BYTES place same few grown start end) ∙ ap reply_for (sym is);
+    reply_is = ap (λ (xs : List ℕ). Reply.Bytes xs) (is_part bytes bytes_new lent added DATA_BYTES place same few grown start end) ∙ sym is;
     is_kept = is_place bytes bytes_new lent added DATA_BYTES place same few grown start end;
   }
 
-  pub Keeps-access : (faults : ℕ) → answer ≡ Answer.Access faults added → Keeps (reply_for answer) bytes numbers (Kept.Access faults place) bytes_new numbers
+  pub Keeps-access : (faults : ℕ) → answer ≡ Reply.Access faults added → Keeps answer bytes numbers (Kept.Access faults place) bytes_new numbers
   Keeps-access faults is = record {
     bytes_more = added;
     numbers_more = [];
     bytes = is_grown bytes bytes_new lent added DATA_BYTES place same few grown start end;
     numbers = sym (append-nil numbers);
-    bytes_few = omega (arith, ap (λ (a : Answer). data_bytes (reply_for a)) is);
+    bytes_few = omega (arith, ap data_bytes is);
     numbers_few = omega arith;
-    reply_is = ap (λ (xs : List ℕ). Reply.Access faults xs) (is_part bytes bytes_new lent added DATA_BYTES place same few grown start end) ∙ ap reply_for (sym is);
+    reply_is = ap (λ (xs : List ℕ). Reply.Access faults xs) (is_part bytes bytes_new lent added DATA_BYTES place same few grown start end) ∙ sym is;
     is_kept = is_place bytes bytes_new lent added DATA_BYTES place same few grown start end;
   }
 
-pub Keeps-pins : (answer : Answer) (bytes numbers numbers_new lent added : List ℕ) (place : Place) → lent ≡ added → length lent ≤ PIN_PAGES → numbers_new ≡ numbers ++ lent
-    → place.start ≡ length numbers → place.end ≡ length numbers_new → answer ≡ Answer.Pins added → Keeps (reply_for answer) bytes numbers (Kept.Pins place) bytes numbers_new
+pub Keeps-pins : (answer : Reply) (bytes numbers numbers_new lent added : List ℕ) (place : Place) → lent ≡ added → length lent ≤ PIN_PAGES → numbers_new ≡ numbers ++ lent
+    → place.start ≡ length numbers → place.end ≡ length numbers_new → answer ≡ Reply.Pins added → Keeps answer bytes numbers (Kept.Pins place) bytes numbers_new
 Keeps-pins answer bytes numbers numbers_new lent added place same few grown start end is = record {
   bytes_more = [];
   numbers_more = added;
   bytes = sym (append-nil bytes);
   numbers = is_grown numbers numbers_new lent added PIN_PAGES place same few grown start end;
   bytes_few = omega arith;
-  numbers_few = omega (arith, ap (λ (a : Answer). data_numbers (reply_for a)) is);
-  reply_is = ap (λ (xs : List ℕ). Reply.Pins xs) (is_part numbers numbers_new lent added PIN_PAGES place same few grown start end) ∙ ap reply_for (sym is);
+  numbers_few = omega (arith, ap data_numbers is);
+  reply_is = ap (λ (xs : List ℕ). Reply.Pins xs) (is_part numbers numbers_new lent added PIN_PAGES place same few grown start end) ∙ sym is;
   is_kept = is_place numbers numbers_new lent added PIN_PAGES place same few grown start end;
 }

@@ -5,7 +5,7 @@ use Rattle.std.proofs.lemmas.List.{length-append}
 use Rattle.std.proofs.lemmas.Bool.Decides.{Decides-ltb, nat_tests}
 use Rattle.vm_base.specs.declared.limits.TheConstants.{LINE_BYTES}
 use Rattle.vm_model.specs.Language.Reading.{Reading, Blank, Order, Outside, reading, reading_of_words, order_or_outside, command, words, is_comment}
-use Rattle.vm_model.specs.declared.command.Command.{Command}
+use Rattle.vm_model.specs.Machine.Words.{Command}
 use Rattle.shared_vm.specs.declared.task.Task.{Task}
 use Rattle.shared_vm.specs.Tasks.{Lists, task_count, with_task, actor_of, with_reading, with_behind, with_words, with_line}
 use Rattle.shared_vm.specs.inside.TaskPlaces.{task_of_line, task_of_reading, says_nothing}

@@ -2,7 +2,7 @@
 use Rattle.std.specs.Prelude.{◌≡◌, ℕ, ◌+◌, ◌<◌, ◌≤◌, ◌==◌, List, [], ◌∷◌, ◌++◌, length, if◌then◌else◌, Some, slice_get}
 use Rattle.vm_base.specs.declared.limits.TheConstants.{ACTOR_MAX}
 use Rattle.vm_base.specs.declared.refusal.Refusal.TheVariants.{Syntax}
-use Rattle.vm_model.specs.declared.reply.Reply.{Reply}
+use Rattle.vm_model.specs.Machine.Words.{Reply}
 use Rattle.vm_model.specs.declared.reply.Reply.TheVariants.{Bytes, Access, Pins, Refused}
 use Rattle.vm_model.specs.Machine.Machine.{Machine, empty_machine}
 use Rattle.vm_model.specs.Machine.MachineStep.{MachineStep}

@@ -2,7 +2,7 @@
 use Rattle.std.specs.Prelude.{◌≡◌, ℕ, ◌+◌, ◌^◌, ◌<◌, ◌≤◌, ◌==◌, Bool, true, false, List, [], ◌∷◌, ◌++◌, length, if◌then◌else◌}
 use Rattle.vm_base.specs.declared.limits.TheConstants.{ACTOR_MAX}
 use Rattle.vm_model.specs.Contents.Content.{Content}
-use Rattle.vm_model.specs.declared.reply.Reply.{Reply}
+use Rattle.vm_model.specs.Machine.Words.{Reply}
 use Rattle.vm_model.specs.Machine.Machine.{Machine}
 use Rattle.vm_core.specs.Vm.{Parts, Agrees, machine_of}
 use Rattle.shared_vm.specs.declared.counts.Counts.{Counts}

@@ -3,7 +3,6 @@
 ghost use Rattle.std.specs.Prelude.{◌≡◌, ◌^◌, ◌<◌, ◌≤◌, length};
 ghost use Rattle.std.specs.List.{sum_by};
 ghost use Rattle.vm_base.specs.declared.limits.TheConstants.{DATA_BYTES};
-ghost use Rattle.vm_model.specs.Machine.Lent.{command_of};
 ghost use Rattle.shared_vm.specs.inside.Asking.{bytes_asked, bytes_wanted, numbers_asked, numbers_wanted};
 ghost use Rattle.shared_vm.specs.inside.TaskPlaces.{task_of_line};
 
@@ -21,8 +20,8 @@ pub(crate) struct Asked {
 
 /// Returns what a command asks for.
 fn asked_of(call: &Call<'_>) -> Asked
-    ensures bytes { result.bytes ≡ bytes_wanted (command_of call.now) }
-    ensures numbers { result.numbers ≡ numbers_wanted (command_of call.now) }
+    ensures bytes { result.bytes ≡ bytes_wanted call.now }
+    ensures numbers { result.numbers ≡ numbers_wanted call.now }
 {
     match call {
         Call::VmoRead { len, .. } | Call::MemRead { len, .. } => Asked {

@@ -1,7 +1,6 @@
 //! What keeps the deeds of actors.
 
 ghost use Rattle.std.specs.Prelude.{◌≡◌, ◌-◌, ◌^◌, List, [], ◌∷◌, ◌++◌, vec_len, vec_capacity};
-ghost use Rattle.vm_model.specs.Machine.Lent.{reply_for};
 ghost use Rattle.shared_vm.specs.declared.task.Deed.{Deed};
 ghost use Rattle.shared_vm.specs.Journal.{Leaves, Spare, Suffices};
 
@@ -18,9 +17,9 @@ pub trait Journal: Drop {
 
     /// Notes a deed behind the others: its actor, and the machine's answer.
     fn note(&mut self, actor: u32, answer: Answer<'_>)
-        requires { Suffices (spare self.old) (reply_for answer) }
-        ensures deeds { deeds self.new ≡ deeds self.old ++ record { actor = actor; reply = reply_for answer.entry } ∷ [] }
-        ensures spare { Leaves (spare self.old) (reply_for answer.entry) (spare self.new) };
+        requires { Suffices (spare self.old) answer }
+        ensures deeds { deeds self.new ≡ deeds self.old ++ record { actor = actor; reply = answer.entry } ∷ [] }
+        ensures spare { Leaves (spare self.old) answer.entry (spare self.new) };
 }
 
 /// Each deed has its reply whole, so there is room for all data that replies may have.
@@ -30,7 +29,7 @@ impl Journal for Vec<Deed> {
     ghost spare = { λ v. record { deeds = vec_capacity v - vec_len v; bytes = 2 ^ 64; numbers = 2 ^ 64 } };
 
     fn note(&mut self, actor: u32, answer: Answer<'_>) {
-        let reply = answer.into_reply();
+        let reply = answer.into_owned();
         self.push_reserved(Deed { actor, reply });
     }
 }

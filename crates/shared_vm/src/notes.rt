@@ -2,7 +2,6 @@
 
 ghost use Rattle.std.specs.Prelude.{◌≡◌, ◌+◌, ◌^◌, ◌<◌, ◌≤◌, [], ◌∷◌, ◌++◌, length, slice_get, vec_len, vec_capacity, Some, IfOk, OnOk, OnErr};
 ghost use Rattle.script_io.specs.Faults.{HasCause, IsCutOff};
-ghost use Rattle.vm_model.specs.Machine.Lent.{reply_for};
 ghost use Rattle.shared_vm.specs.declared.task.Deed.{Deed};
 ghost use Rattle.shared_vm.specs.Journal.{Leaves, Suffices, data_bytes, data_numbers};
 ghost use Rattle.shared_vm.specs.Texts.{deed_text};
@@ -90,9 +89,9 @@ impl Notes {
 
     /// Notes a deed, for which there is room.
     fn add(&mut self, actor: u32, answer: Answer<'_>)
-        requires { Suffices self.old.spare (reply_for answer) }
-        ensures deeds { self.new.deeds ≡ self.old.deeds ++ record { actor = actor; reply = reply_for answer.entry } ∷ [] }
-        ensures spare { Leaves self.old.spare (reply_for answer.entry) self.new.spare }
+        requires { Suffices self.old.spare answer }
+        ensures deeds { self.new.deeds ≡ self.old.deeds ++ record { actor = actor; reply = answer.entry } ∷ [] }
+        ensures spare { Leaves self.old.spare answer.entry self.new.spare }
     {
         let kept = keep(answer, &mut self.bytes, &mut self.numbers);
         self.notes.push_reserved(Note { actor, kept });
@@ -156,9 +155,9 @@ impl Journal for Notes {
 
 /// Returns what is kept of an answer. Its data is copied behind the other data.
 fn keep(answer: Answer<'_>, bytes: &mut Vec<u8>, numbers: &mut Vec<u64>) -> Kept
-    requires bytes { vec_len bytes.old + data_bytes (reply_for answer) ≤ vec_capacity bytes.old }
-    requires numbers { vec_len numbers.old + data_numbers (reply_for answer) ≤ vec_capacity numbers.old }
-    ensures keeps { Keeps (reply_for answer.entry) bytes.old.items numbers.old.items result bytes.new.items numbers.new.items }
+    requires bytes { vec_len bytes.old + data_bytes answer ≤ vec_capacity bytes.old }
+    requires numbers { vec_len numbers.old + data_numbers answer ≤ vec_capacity numbers.old }
+    ensures keeps { Keeps answer.entry bytes.old.items numbers.old.items result bytes.new.items numbers.new.items }
     ensures bytes { vec_capacity bytes.old ≤ vec_capacity bytes.new }
     ensures numbers { vec_capacity numbers.old ≤ vec_capacity numbers.new }
 {

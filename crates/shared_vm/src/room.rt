@@ -3,7 +3,6 @@
 ghost use Rattle.std.specs.Prelude.{◌≡◌, ◌+◌, ◌^◌, ◌<◌, ◌≤◌, [], length, vec_len, vec_capacity, IfOk};
 ghost use Rattle.vm_base.specs.declared.limits.TheConstants.{ACTOR_MAX, DATA_BYTES, FRAMES, KOIDS, PIN_PAGES};
 ghost use Rattle.vm_model.specs.Contents.Content.{nothing};
-ghost use Rattle.vm_model.specs.Machine.Lent.{reply_for};
 ghost use Rattle.vm_core.specs.Vm.{Agrees, machine_of};
 ghost use Rattle.shared_vm.specs.Journal.{done_by, DoesTask};
 ghost use Rattle.shared_vm.specs.Rooms.{IsLegal, TakesTurn};
@@ -219,7 +218,7 @@ fn answer_to<'a, P: PageStore>(
     requires pinned { PIN_PAGES ≤ length pinned.old }
     requires agrees { Agrees (P.content store.old) vm.old }
     requires next { (P.content store.old).next < KOIDS }
-    ensures does { DoesTask (task_of_line line.now) (reply_for result) (machine_of (P.content store.old) vm.old)
+    ensures does { DoesTask (task_of_line line.now) result (machine_of (P.content store.old) vm.old)
         (machine_of (P.content store.new) vm.new) }
     ensures agrees { Agrees (P.content store.new) vm.new }
     ensures next { (P.content store.new).next ≤ (P.content store.old).next + 1 }

@@ -3,7 +3,6 @@
 ghost use Rattle.std.specs.Prelude.{◌≡◌, ◌≤◌, ◌++◌, length, OnOk, OnErr};
 ghost use Rattle.std.specs.Io.KnownBytes.{Appends};
 ghost use Rattle.script_io.specs.Faults.{HasCause, IsCutOff};
-ghost use Rattle.vm_model.specs.Machine.Lent.{reply_for};
 ghost use Rattle.shared_vm.specs.Texts.{actor_text, deed_text, journal_text};
 ghost use Rattle.shared_vm.specs.inside.Noting.{deed_of};
 ghost use Rattle.shared_vm.specs.inside.Pending.{PassesOn};
@@ -55,10 +54,10 @@ pub(crate) fn add_deed<K: Sink>(
     pending: &mut PendingText,
 ) -> Result<(), Failed>
     requires { TEXT_ROOM ≤ length line.old }
-    ensures ok { OnOk result (PassesOn (K.contents sink.old) pending.old (deed_text (deed_of actor (reply_for answer.now)))
+    ensures ok { OnOk result (PassesOn (K.contents sink.old) pending.old (deed_text (deed_of actor answer.now))
         (K.contents sink.new) pending.new) }
     ensures err { OnErr result (IsCutOff (K.contents sink.old) (K.contents sink.new)
-        (pending.old ++ deed_text (deed_of actor (reply_for answer.now)))) }
+        (pending.old ++ deed_text (deed_of actor answer.now))) }
     ensures cause { HasCause (K.faults sink.old) (K.faults sink.new) result }
 {
     for index in 0..answer_line_count(answer) {

@@ -5,7 +5,7 @@ use Rattle.vm_base.specs.declared.names.VmoName.{VmoName}
 use Rattle.vm_base.specs.declared.refusal.Refusal.{Refusal}
 use Rattle.vm_base.specs.Entries.{without_key}
 use Rattle.vm_base.proofs.EntryLaws.{without_key-some}
-use Rattle.vm_model.specs.declared.reply.Reply.{Reply}
+use Rattle.vm_model.specs.Machine.Words.{Reply}
 use Rattle.vm_model.specs.Machine.Refusals.{first_of}
 use Rattle.source_model.specs.declared.command.SourceCommand.TheVariants.{Close}
 use Rattle.source_model.specs.State.{SourceState}

@@ -10,7 +10,7 @@ use Rattle.vm_base.specs.Entries.{with_key, passes}
 use Rattle.vm_base.specs.Pages.{rounded}
 use Rattle.vm_base.proofs.EntryLaws.{some_is, some_same, none_is, passes_found, with_key-same, with_key-other}
 use Rattle.vm_base.proofs.SearchLaws.{eqb_is, eqb_apart}
-use Rattle.vm_model.specs.declared.reply.Reply.{Reply}
+use Rattle.vm_model.specs.Machine.Words.{Reply}
 use Rattle.vm_model.specs.Contents.Content.{Content, Page, IsGood, nothing, pages_of, is_held, created}
 use Rattle.vm_model.specs.Contents.Sharing.{snapshotted}
 use Rattle.vm_model.specs.Contents.Writing.{piece, pieces, touched, touched_end}
@@ -22,7 +22,7 @@ use Rattle.vm_model.proofs.RangeLaws.{touched-row, touched-nil, touched_end_le, 
 use Rattle.vm_model.proofs.StepLaws.{AllOff-from_none}
 use Rattle.source_model.specs.declared.backing.Backing.{Backing}
 use Rattle.source_model.specs.declared.link.Link.{Link}
-use Rattle.source_model.specs.declared.command.SourceCommand.{SourceCommand}
+use Rattle.source_model.specs.Words.{SourceCommand}
 use Rattle.source_model.specs.declared.command.SourceCommand.TheVariants.{Create, Child, Loose, Close, Read, Write, Supply, Evict, Stat}
 use Rattle.source_model.specs.Sources.{backing_text, held_text, text_over}
 use Rattle.source_model.specs.Links.{page_below, read_end, walked}

@@ -3,9 +3,9 @@ use Rattle.std.proofs.Common.{◌≡◌, ℕ, Bool, true, false, cond, List, [],
 use Rattle.vm_base.specs.declared.names.VmoName.{VmoName}
 use Rattle.vm_base.specs.declared.refusal.Refusal.{Refusal}
 use Rattle.vm_base.specs.Pages.{replaced}
-use Rattle.vm_model.specs.declared.reply.Reply.{Reply}
+use Rattle.vm_model.specs.Machine.Words.{Reply}
 use Rattle.vm_model.specs.Machine.Refusals.{first_of}
-use Rattle.source_model.specs.declared.command.SourceCommand.{SourceCommand}
+use Rattle.source_model.specs.Words.{SourceCommand}
 use Rattle.source_model.specs.declared.command.SourceCommand.TheVariants.{Read, Supply, Evict}
 use Rattle.source_model.specs.Links.{shows_through}
 use Rattle.vm_model.specs.Contents.Owning.{VmoPage}

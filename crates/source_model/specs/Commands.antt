@@ -5,7 +5,7 @@ use Rattle.vm_base.specs.Search.{any_from}
 use Rattle.vm_base.specs.declared.limits.TheConstants.{PAGE, DATA_BYTES, SOURCE_BYTES, SOURCE_KIND_MAX}
 use Rattle.vm_base.specs.declared.refusal.Refusal.{Refusal}
 use Rattle.vm_base.specs.declared.refusal.Refusal.TheVariants.{BadHandle, NameInUse, InvalidArgs, NotSupported, OutOfRange, NoMemory, HostMemory}
-use Rattle.vm_model.specs.declared.reply.Reply.{Reply}
+use Rattle.vm_model.specs.Machine.Words.{Reply}
 use Rattle.vm_model.specs.declared.reply.Reply.TheVariants.{Done, Bytes, Stat as StatReply}
 use Rattle.vm_model.specs.Contents.Content.{used}
 use Rattle.vm_model.specs.Contents.Owning.{need, VmoPage}
@@ -13,7 +13,7 @@ use Rattle.vm_model.specs.Contents.Writing.{touched, pieces}
 use Rattle.vm_model.specs.Machine.Attribution.{stat_of}
 use Rattle.vm_model.specs.Machine.Refusals.{first_of}
 use Rattle.vm_model.specs.Machine.Step.{IsRefused}
-use Rattle.source_model.specs.declared.command.SourceCommand.{SourceCommand}
+use Rattle.source_model.specs.Words.{SourceCommand}
 use Rattle.source_model.specs.declared.command.SourceCommand.TheVariants.{Create, Child, Loose, Close, Read, Write, Supply, Evict, Stat}
 use Rattle.source_model.specs.State.{SourceState, is_source_open, is_loose, source_koid_of, source_size_of, text_in, absent_in, wanted, supply_of, FillsEach, is_clean, evicted, with_source, with_child, with_loose}
 use Rattle.source_model.specs.Living.{Leaves}

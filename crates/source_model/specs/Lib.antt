@@ -5,4 +5,4 @@ pub mod Living
 pub mod Good
 pub mod Commands
 pub mod Reaching
-pub mod Lent
+pub mod Words

@@ -1,99 +1,52 @@
 //! A command of page sources whose byte data stands elsewhere.
 
 ghost use Rattle.std.specs.Prelude.{◌≡◌};
-ghost use Rattle.source_model.specs.Lent.{source_command_of};
 
 use crate::command::SourceCommand;
-use vm_base::VmoName;
-use vm_model::LentBytes;
+use vm_model::{Bytes4k, LentBytes};
 
-/// A command with the bytes that it writes lent to it, so that they are not moved with it. Each variant stands for the variant of
-/// `SourceCommand` of its name.
-#[derive(Drop)]
-pub enum SourceCall<'a> {
-    Create {
-        name: VmoName,
-        size: u64,
-        kind: u64,
-        seed: u64,
-    },
-    Child {
-        name: VmoName,
-        parent: VmoName,
-        offset: u64,
-        size: u64,
-    },
-    Loose {
-        name: VmoName,
-        parent: VmoName,
-        offset: u64,
-        size: u64,
-    },
-    Close {
-        name: VmoName,
-    },
-    Read {
-        name: VmoName,
-        offset: u64,
-        len: u64,
-    },
-    Write {
-        name: VmoName,
-        offset: u64,
-        bytes: LentBytes<'a>,
-    },
-    Supply {
-        name: VmoName,
-        offset: u64,
-        len: u64,
-    },
-    Evict {
-        name: VmoName,
-        offset: u64,
-        len: u64,
-    },
-    Stat,
-}
+/// A command with the bytes that it writes lent to it, so that they are not moved with it.
+pub type SourceCall<'a> = SourceCommand<LentBytes<'a>>;
 
-/// A value of the one type, as the value of the other with the same fields. The bytes are made by this call.
+/// The command with the same fields, and with bytes that are made by this call.
 macro_rules! same_fields {
-    ($value:expr, $from:ident, $to:ident, $bytes:ident) => {
+    ($value:expr, $bytes:ident) => {
         match $value {
-            $from::Create { name, size, kind, seed } => $to::Create {
+            SourceCommand::Create { name, size, kind, seed } => SourceCommand::Create {
                 name: *name, size: *size, kind: *kind, seed: *seed,
             },
-            $from::Child { name, parent, offset, size } => $to::Child {
+            SourceCommand::Child { name, parent, offset, size } => SourceCommand::Child {
                 name: *name, parent: *parent, offset: *offset, size: *size,
             },
-            $from::Loose { name, parent, offset, size } => $to::Loose {
+            SourceCommand::Loose { name, parent, offset, size } => SourceCommand::Loose {
                 name: *name, parent: *parent, offset: *offset, size: *size,
             },
-            $from::Close { name } => $to::Close { name: *name },
-            $from::Read { name, offset, len } => $to::Read { name: *name, offset: *offset, len: *len },
-            $from::Write { name, offset, bytes } => $to::Write {
+            SourceCommand::Close { name } => SourceCommand::Close { name: *name },
+            SourceCommand::Read { name, offset, len } => SourceCommand::Read { name: *name, offset: *offset, len: *len },
+            SourceCommand::Write { name, offset, bytes } => SourceCommand::Write {
                 name: *name, offset: *offset, bytes: bytes.$bytes(),
             },
-            $from::Supply { name, offset, len } => $to::Supply { name: *name, offset: *offset, len: *len },
-            $from::Evict { name, offset, len } => $to::Evict { name: *name, offset: *offset, len: *len },
-            $from::Stat => $to::Stat,
+            SourceCommand::Supply { name, offset, len } => SourceCommand::Supply { name: *name, offset: *offset, len: *len },
+            SourceCommand::Evict { name, offset, len } => SourceCommand::Evict { name: *name, offset: *offset, len: *len },
+            SourceCommand::Stat => SourceCommand::Stat,
         }
     };
 }
 
-impl<'a> SourceCall<'a> {
+impl<'a> SourceCommand<LentBytes<'a>> {
     /// Returns the command, with bytes of its own.
-    pub fn to_command(&self) -> SourceCommand
-        ensures { result ≡ source_command_of self.now }
+    pub fn to_owned(&self) -> SourceCommand<Bytes4k>
+        ensures { result ≡ self.now }
     {
-        same_fields!(self, SourceCall, SourceCommand, to_bytes)
+        same_fields!(self, to_bytes)
     }
 }
 
-impl SourceCommand {
-    /// Returns the command, with its bytes lent.
-    pub fn lend(&self) -> SourceCall<'_>
-        ensures { source_command_of result ≡ self.now }
+impl SourceCommand<Bytes4k> {
+    /// Lends the command.
+    pub fn lend(&self) -> SourceCommand<LentBytes<'_>>
+        ensures { result ≡ self.now }
     {
-        same_fields!(self, SourceCommand, SourceCall, lend)
+        same_fields!(self, lend)
     }
 }

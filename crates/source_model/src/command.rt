@@ -4,8 +4,9 @@ use vm_base::VmoName;
 use vm_model::Bytes4k;
 
 /// A command. Offsets, lengths and sizes are in bytes; an offset is counted from the first byte of its VMO.
+/// `B` is the bytes that it writes.
 #[derive(Drop)]
-pub enum SourceCommand {
+pub enum SourceCommand<B: Drop = Bytes4k> {
     /// Makes a VMO whose pages come from a source (`zx_pager_create_vmo`). Its size is rounded up to whole pages.
     Create {
         name: VmoName,
@@ -42,7 +43,7 @@ pub enum SourceCommand {
     Write {
         name: VmoName,
         offset: u64,
-        bytes: Bytes4k,
+        bytes: B,
     },
     /// Supplies the absent pages of a range (`zx_pager_supply_pages`).
     Supply {

@@ -4,9 +4,9 @@ ghost use Rattle.std.specs.Prelude.{◌≡◌, ◌↔◌, ℕ, ◌+◌, ◌<◌,
 ghost use Rattle.vm_base.specs.Entries.{without_key};
 ghost use Rattle.vm_base.specs.declared.names.VmoName.{VmoName};
 ghost use Rattle.vm_model.specs.Contents.Content.{Content};
-ghost use Rattle.vm_model.specs.declared.reply.Reply.{Reply};
+ghost use Rattle.vm_model.specs.Machine.Words.{Reply};
 ghost use Rattle.source_model.specs.declared.backing.Backing.{Backing};
-ghost use Rattle.source_model.specs.declared.command.SourceCommand.{SourceCommand};
+ghost use Rattle.source_model.specs.Words.{SourceCommand};
 ghost use Rattle.source_model.specs.declared.command.SourceCommand.TheVariants.{Close, Read, Supply, Evict};
 ghost use Rattle.source_model.specs.declared.link.Link.{Link};
 ghost use Rattle.source_model.specs.Links.{shows_through, walked};

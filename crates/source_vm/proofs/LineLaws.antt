@@ -4,7 +4,7 @@ use Rattle.std.specs.Prelude.{OnOk, OnErr}
 use Rattle.std.specs.Io.KnownBytes.{Appends}
 use Rattle.script_io.specs.Faults.{IsCutOff}
 use Rattle.vm_base.specs.Pages.{zeros}
-use Rattle.vm_model.specs.declared.reply.Reply.{Reply}
+use Rattle.vm_model.specs.Machine.Words.{Reply}
 use Rattle.vm_model.specs.Contents.Content.{Content, Page, nothing, IsGood}
 use Rattle.vm_model.specs.Language.Text.{text}
 use Rattle.vm_model.proofs.LeavingLaws.{page_none}
@@ -12,7 +12,7 @@ use Rattle.line_server.specs.Answering.{syntax_text}
 use Rattle.line_server.specs.Outcome.{AnswersLine}
 use Rattle.line_server.proofs.Answered.{written_or_cut}
 use Rattle.source_model.specs.declared.backing.Backing.{Backing}
-use Rattle.source_model.specs.declared.command.SourceCommand.{SourceCommand}
+use Rattle.source_model.specs.Words.{SourceCommand}
 use Rattle.source_model.specs.Sources.{backing_text}
 use Rattle.source_model.specs.State.{SourceState, state_over, empty_sources}
 use Rattle.source_model.specs.Commands.{SourceStep}

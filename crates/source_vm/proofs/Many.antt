@@ -2,7 +2,7 @@
 use Rattle.std.proofs.Common.{◌≡◌, ℕ, ◌<◌, Bool, true, false, cond, List, [], ◌∷◌, length, Option, None, refl, arith}
 use Rattle.std.specs.Prelude.{codes}
 use Rattle.vm_model.specs.Language.Reading.{is_word}
-use Rattle.source_model.specs.declared.command.SourceCommand.{SourceCommand}
+use Rattle.source_model.specs.Words.{SourceCommand}
 use Rattle.source_vm.specs.Reading.{source_order_in, source_command}
 
 none_either : (bit : Bool) (o : Option SourceCommand) → o ≡ None → cond bit None o ≡ None

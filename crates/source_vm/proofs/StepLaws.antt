@@ -6,11 +6,11 @@ use Rattle.vm_base.specs.declared.limits.TheConstants.{PAGE}
 use Rattle.vm_base.proofs.SearchLaws.{eqb_same}
 use Rattle.vm_base.specs.declared.refusal.Refusal.{Refusal}
 use Rattle.vm_base.specs.declared.refusal.Refusal.TheVariants.{NoMemory, HostMemory}
-use Rattle.vm_model.specs.declared.reply.Reply.{Reply}
+use Rattle.vm_model.specs.Machine.Words.{Reply}
 use Rattle.vm_model.specs.declared.reply.Reply.TheVariants.{Refused}
 use Rattle.vm_model.specs.Contents.Content.{Content, used}
 use Rattle.vm_model.specs.Machine.Refusals.{first_of}
-use Rattle.source_model.specs.declared.command.SourceCommand.{SourceCommand}
+use Rattle.source_model.specs.Words.{SourceCommand}
 use Rattle.source_model.specs.declared.backing.Backing.{Backing}
 use Rattle.source_model.specs.State.{SourceState, state_over}
 use Rattle.source_model.specs.Commands.{SourceStep, SourceStepAfter, SourceEffect, source_refusals, source_may_lack_memory, lacks}

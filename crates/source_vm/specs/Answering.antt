@@ -3,7 +3,7 @@ use Rattle.std.specs.Prelude.{◌≡◌, ℕ, ◌<◌, cond, List, [], length, r
 use Rattle.std.proofs.Common.{sym, subst, ap, Bool}
 use Rattle.std.proofs.lemmas.Bool.Decides.{Decides-ltb}
 use Rattle.vm_base.specs.declared.limits.TheConstants.{LINE_BYTES}
-use Rattle.vm_model.specs.declared.reply.Reply.{Reply}
+use Rattle.vm_model.specs.Machine.Words.{Reply}
 use Rattle.vm_model.specs.Language.Reading.{words}
 use Rattle.vm_model.specs.Language.Text.{text}
 use Rattle.line_server.specs.Answering.{Answering, syntax_text}

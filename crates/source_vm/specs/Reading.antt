@@ -4,12 +4,10 @@ use Rattle.vm_base.specs.declared.limits.TheConstants.{LINE_BYTES}
 use Rattle.vm_base.specs.declared.names.VmoName.{VmoName}
 use Rattle.vm_model.specs.Language.Reading.{◌>>=◌, words, is_word, is_comment, vmo, number, byte_data}
 use Rattle.script_text.specs.declared.reading.SyntaxFault.{SyntaxFault}
-use Rattle.source_model.specs.declared.command.SourceCommand.{SourceCommand}
+use Rattle.source_model.specs.Words.{SourceCommand}
 use Rattle.source_model.specs.declared.command.SourceCommand.TheVariants.{Create, Child, Loose, Close, Read, Write, Supply, Evict, Stat}
-use Rattle.source_model.specs.declared.call.SourceCall.{SourceCall}
 use Rattle.source_vm.specs.declared.reading.SourceLine.{SourceLine}
 use Rattle.source_vm.specs.declared.reading.SourceLine.TheVariants.{Blank as BlankLine, Order as OrderLine}
-use Rattle.source_model.specs.Lent.{source_command_of}
 
 -- `source_create VMO SIZE KIND SEED`
 abbrev pub source_create : List (List ℕ) → Option SourceCommand
@@ -117,7 +115,7 @@ source_reading_of (Ok (OrderLine command)) = Order command
 source_reading_of (Err fault) = Outside
 
 -- an answer of `read_source_call` as a reading
-abbrev pub source_reading_of_call : Result (Option SourceCall) SyntaxFault → SourceReading
+abbrev pub source_reading_of_call : Result (Option SourceCommand) SyntaxFault → SourceReading
 source_reading_of_call (Ok None) = Blank
-source_reading_of_call (Ok (Some call)) = Order (source_command_of call)
+source_reading_of_call (Ok (Some call)) = Order call
 source_reading_of_call (Err fault) = Outside

@@ -2,9 +2,8 @@
 
 ghost use Rattle.std.specs.Prelude.{◌≡◌, ◌↔◌, ◌+◌, ◌*◌, ◌/◌, ◌<◌, ◌≤◌, ◌&&◌, [], ◌∷◌, map, length, IsTrue, IsSome, Some, IfOk, IfErr};
 ghost use Rattle.vm_model.specs.Contents.Content.{pages_of, IsGood};
-ghost use Rattle.vm_model.specs.Machine.Lent.{reply_for};
 ghost use Rattle.vm_model.specs.Machine.Refusals.{first_of};
-ghost use Rattle.source_model.specs.declared.command.SourceCommand.{SourceCommand};
+ghost use Rattle.source_model.specs.declared.command.SourceCommand.TheVariants as SourceCommand;
 ghost use Rattle.source_model.specs.Commands.{SourceStep, is_aligned, source_refusals};
 ghost use Rattle.source_vm.specs.Pages.{IsRangeOfPages};
 ghost use Rattle.source_vm.specs.Table.{SourcesAgree, source_state_of};
@@ -49,7 +48,7 @@ pub(crate) fn read<'a, P: PageStore>(
     requires agrees { SourcesAgree (P.content store.old) table.now }
     requires room { DATA_BYTES ≤ length room.old }
     ensures { SourceStep (source_state_of (P.content store.old) table.now) (SourceCommand.Read range.name range.offset range.len)
-        (reply_for result) (source_state_of (P.content store.new) table.now) }
+        result (source_state_of (P.content store.new) table.now) }
 {
     let Some(v) = find(table, range.name) else {
         return Answer::Refused(Refusal::BadHandle);
@@ -79,7 +78,7 @@ pub(crate) fn write<'a, P: PageStore>(
     requires kinds { map (λ f. f.kind) functions.now ≡ 0 ∷ 1 ∷ 2 ∷ [] }
     requires agrees { SourcesAgree (P.content store.old) table.now }
     ensures { SourceStep (source_state_of (P.content store.old) table.now) (SourceCommand.Write name offset bytes.now)
-        (reply_for result) (source_state_of (P.content store.new) table.now) }
+        result (source_state_of (P.content store.new) table.now) }
 {
     let Some(v) = find(table, name) else {
         return Answer::Refused(Refusal::BadHandle);
@@ -131,7 +130,7 @@ pub(crate) fn supply<'a, P: PageStore>(
     requires kinds { map (λ f. f.kind) functions.now ≡ 0 ∷ 1 ∷ 2 ∷ [] }
     requires agrees { SourcesAgree (P.content store.old) table.now }
     ensures { SourceStep (source_state_of (P.content store.old) table.now) (SourceCommand.Supply range.name range.offset range.len)
-        (reply_for result) (source_state_of (P.content store.new) table.now) }
+        result (source_state_of (P.content store.new) table.now) }
 {
     let found = match whole_pages(store, table, range) {
         Ok(found) => found,
@@ -159,7 +158,7 @@ pub(crate) fn evict<'a, P: PageStore>(
     requires kinds { map (λ f. f.kind) functions.now ≡ 0 ∷ 1 ∷ 2 ∷ [] }
     requires agrees { SourcesAgree (P.content store.old) table.now }
     ensures { SourceStep (source_state_of (P.content store.old) table.now) (SourceCommand.Evict range.name range.offset range.len)
-        (reply_for result) (source_state_of (P.content store.new) table.now) }
+        result (source_state_of (P.content store.new) table.now) }
 {
     let found = match whole_pages(store, table, range) {
         Ok(found) => found,

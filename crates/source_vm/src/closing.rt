@@ -1,7 +1,6 @@
 //! Names that are closed, and the VMOs that leave with them.
 
-ghost use Rattle.vm_model.specs.Machine.Lent.{reply_for};
-ghost use Rattle.source_model.specs.declared.command.SourceCommand.{SourceCommand};
+ghost use Rattle.source_model.specs.declared.command.SourceCommand.TheVariants as SourceCommand;
 ghost use Rattle.source_model.specs.Commands.{SourceStep};
 ghost use Rattle.source_model.specs.Living.{Leaves};
 ghost use Rattle.source_vm.specs.Table.{SourcesAgree, IsIndexed, source_state_of};
@@ -20,7 +19,7 @@ pub(crate) fn close<'a, P: PageStore>(
 ) -> Answer<'a>
     requires agrees { SourcesAgree (P.content store.old) table.old }
     ensures step { SourceStep (source_state_of (P.content store.old) table.old) (SourceCommand.Close name)
-        (reply_for result) (source_state_of (P.content store.new) table.new) }
+        result (source_state_of (P.content store.new) table.new) }
     ensures indexed { IsIndexed table.new }
 {
     let Some(v) = find(table, name) else {

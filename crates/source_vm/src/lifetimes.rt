@@ -3,8 +3,7 @@
 ghost use Rattle.std.specs.Prelude.{◌≡◌, ◌+◌, ◌/◌, ◌^◌, ◌<◌, ◌≤◌, ◌==◌, if◌then◌else◌, IfSome, IfNone};
 ghost use Rattle.vm_base.specs.Pages.{rounded};
 ghost use Rattle.vm_base.specs.declared.limits.TheConstants.{PAGE, SOURCE_BYTES};
-ghost use Rattle.vm_model.specs.Machine.Lent.{reply_for};
-ghost use Rattle.source_model.specs.declared.command.SourceCommand.{SourceCommand};
+ghost use Rattle.source_model.specs.declared.command.SourceCommand.TheVariants as SourceCommand;
 ghost use Rattle.source_model.specs.Commands.{SourceStep};
 ghost use Rattle.source_model.specs.State.{moved, seen_of};
 ghost use Rattle.source_vm.specs.Table.{SourcesAgree, IsIndexed, source_state_of};
@@ -29,7 +28,7 @@ pub(crate) fn create<'a, P: PageStore>(
     requires agrees { SourcesAgree (P.content store.old) table.old }
     requires next { (P.content store.old).next < KOIDS }
     ensures step { SourceStep (source_state_of (P.content store.old) table.old) (SourceCommand.Create name size kind seed)
-        (reply_for result) (source_state_of (P.content store.new) table.new) }
+        result (source_state_of (P.content store.new) table.new) }
     ensures indexed { IsIndexed table.new }
 {
     if find(table, name).is_some() {
@@ -71,7 +70,7 @@ pub(crate) fn child<'a, P: PageStore>(
     requires agrees { SourcesAgree (P.content store.old) table.old }
     requires next { (P.content store.old).next < KOIDS }
     ensures step { SourceStep (source_state_of (P.content store.old) table.old) (SourceCommand.Child name parent offset size)
-        (reply_for result) (source_state_of (P.content store.new) table.new) }
+        result (source_state_of (P.content store.new) table.new) }
     ensures indexed { IsIndexed table.new }
 {
     let Some(of) = find(table, parent) else {
@@ -114,7 +113,7 @@ pub(crate) fn loose<'a, P: PageStore>(
     requires agrees { SourcesAgree (P.content store.old) table.old }
     requires next { (P.content store.old).next < KOIDS }
     ensures step { SourceStep (source_state_of (P.content store.old) table.old) (SourceCommand.Loose name parent offset size)
-        (reply_for result) (source_state_of (P.content store.new) table.new) }
+        result (source_state_of (P.content store.new) table.new) }
     ensures indexed { IsIndexed table.new }
 {
     let Some(of) = find(table, parent) else {

@@ -1,8 +1,7 @@
 //! What one line of a script of page sources says.
 
-ghost use Rattle.std.specs.Prelude.{◌≡◌, ◌≤◌, map, length, option_map};
+ghost use Rattle.std.specs.Prelude.{◌≡◌, ◌≤◌, map, length};
 ghost use Rattle.vm_base.specs.declared.limits.TheConstants.{DATA_BYTES};
-ghost use Rattle.source_model.specs.Lent.{source_command_of};
 ghost use Rattle.source_vm.specs.Reading.{child_of_kind, name_in, range_in, source_reading_of, source_reading_of_call, source_child, source_command, source_create};
 ghost use Rattle.source_vm.specs.Reading.{source_reading, source_stat, source_write, source_order_in};
 ghost use Rattle.source_vm.specs.Reading.{of_name, of_range};
@@ -33,7 +32,7 @@ pub fn read_source_line(line: &[u8]) -> Result<SourceLine, SyntaxFault>
 {
     let mut room = [0; DATA_BYTES];
     match read_source_call(line, &mut room)? {
-        Some(call) => Ok(SourceLine::Order(call.to_command())),
+        Some(call) => Ok(SourceLine::Order(call.to_owned())),
         None => Ok(SourceLine::Blank),
     }
 }
@@ -73,7 +72,7 @@ fn is_comment(word: &[u8]) -> bool
 /// Returns the command of a line, or `None` if it has none.
 fn order<'a>(line: &[u8], room: &'a mut [u8]) -> Option<SourceCall<'a>>
     requires { DATA_BYTES ≤ length room.old }
-    ensures { option_map source_command_of result ≡ source_order_in (words line.now) }
+    ensures { result ≡ source_order_in (words line.now) }
 {
     let mut found: ArrayVec<&[u8], MOST_WORDS> = ArrayVec::new();
     let mut rest = line;
@@ -94,7 +93,7 @@ fn order<'a>(line: &[u8], room: &'a mut [u8]) -> Option<SourceCall<'a>>
 #[tactic(auto, unfolding(crate::specs::Reading::source_command))]
 fn call<'a>(word: &[u8], arguments: &[&[u8]], room: &'a mut [u8]) -> Option<SourceCall<'a>>
     requires { DATA_BYTES ≤ length room.old }
-    ensures { option_map source_command_of result ≡ source_command word.now (map (λ a. a.now) arguments.now) }
+    ensures { result ≡ source_command word.now (map (λ a. a.now) arguments.now) }
 {
     if word == b"vmo_read".as_slice() {
         read(arguments)
@@ -139,7 +138,7 @@ fn range_in(arguments: &[&[u8]]) -> Option<(VmoName, u64, u64)>
 
 /// Reads the arguments of `vmo_read VMO OFFSET LEN`.
 fn read<'a>(arguments: &[&[u8]]) -> Option<SourceCall<'a>>
-    ensures { option_map source_command_of result ≡ of_range Read (map (λ a. a.now) arguments.now) }
+    ensures { result ≡ of_range Read (map (λ a. a.now) arguments.now) }
 {
     let (name, offset, len) = range_in(arguments)?;
     Some(SourceCall::Read { name, offset, len })
@@ -147,7 +146,7 @@ fn read<'a>(arguments: &[&[u8]]) -> Option<SourceCall<'a>>
 
 /// Reads the arguments of `supply VMO OFFSET LEN`.
 fn supply<'a>(arguments: &[&[u8]]) -> Option<SourceCall<'a>>
-    ensures { option_map source_command_of result ≡ of_range Supply (map (λ a. a.now) arguments.now) }
+    ensures { result ≡ of_range Supply (map (λ a. a.now) arguments.now) }
 {
     let (name, offset, len) = range_in(arguments)?;
     Some(SourceCall::Supply { name, offset, len })
@@ -155,7 +154,7 @@ fn supply<'a>(arguments: &[&[u8]]) -> Option<SourceCall<'a>>
 
 /// Reads the arguments of `evict VMO OFFSET LEN`.
 fn evict<'a>(arguments: &[&[u8]]) -> Option<SourceCall<'a>>
-    ensures { option_map source_command_of result ≡ of_range Evict (map (λ a. a.now) arguments.now) }
+    ensures { result ≡ of_range Evict (map (λ a. a.now) arguments.now) }
 {
     let (name, offset, len) = range_in(arguments)?;
     Some(SourceCall::Evict { name, offset, len })
@@ -163,7 +162,7 @@ fn evict<'a>(arguments: &[&[u8]]) -> Option<SourceCall<'a>>
 
 /// Reads the arguments of `vmo_close VMO`.
 fn close<'a>(arguments: &[&[u8]]) -> Option<SourceCall<'a>>
-    ensures { option_map source_command_of result ≡ of_name Close (map (λ a. a.now) arguments.now) }
+    ensures { result ≡ of_name Close (map (λ a. a.now) arguments.now) }
 {
     let name = name_in(arguments)?;
     Some(SourceCall::Close { name })
@@ -171,7 +170,7 @@ fn close<'a>(arguments: &[&[u8]]) -> Option<SourceCall<'a>>
 
 /// Reads the arguments of `source_create VMO SIZE KIND SEED`.
 fn create<'a>(arguments: &[&[u8]]) -> Option<SourceCall<'a>>
-    ensures { option_map source_command_of result ≡ source_create (map (λ a. a.now) arguments.now) }
+    ensures { result ≡ source_create (map (λ a. a.now) arguments.now) }
 {
     let [name, size, kind, seed] = arguments else {
         return None;
@@ -191,7 +190,7 @@ fn create<'a>(arguments: &[&[u8]]) -> Option<SourceCall<'a>>
 /// Reads the arguments of `vmo_create_child VMO PARENT KIND OFFSET SIZE`, where `KIND` is `snapshot` or
 /// `snapshot_at_least_on_write`.
 fn child<'a>(arguments: &[&[u8]]) -> Option<SourceCall<'a>>
-    ensures { option_map source_command_of result ≡ source_child (map (λ a. a.now) arguments.now) }
+    ensures { result ≡ source_child (map (λ a. a.now) arguments.now) }
 {
     let [name, parent, kind, offset, size] = arguments else {
         return None;
@@ -211,7 +210,7 @@ fn child_of_kind<'a>(
     offset: u64,
     size: u64,
 ) -> Option<SourceCall<'a>>
-    ensures { option_map source_command_of result ≡ child_of_kind kind.now name parent offset size }
+    ensures { result ≡ child_of_kind kind.now name parent offset size }
 {
     if kind == b"snapshot".as_slice() {
         Some(SourceCall::Child {
@@ -235,7 +234,7 @@ fn child_of_kind<'a>(
 /// Reads the arguments of `vmo_write VMO OFFSET DATA`.
 fn write<'a>(arguments: &[&[u8]], room: &'a mut [u8]) -> Option<SourceCall<'a>>
     requires { DATA_BYTES ≤ length room.old }
-    ensures { option_map source_command_of result ≡ source_write (map (λ a. a.now) arguments.now) }
+    ensures { result ≡ source_write (map (λ a. a.now) arguments.now) }
 {
     let [name, offset, bytes] = arguments else {
         return None;
@@ -252,7 +251,7 @@ fn write<'a>(arguments: &[&[u8]], room: &'a mut [u8]) -> Option<SourceCall<'a>>
 
 /// Reads the arguments of `stat`.
 fn stat<'a>(arguments: &[&[u8]]) -> Option<SourceCall<'a>>
-    ensures { option_map source_command_of result ≡ source_stat (map (λ a. a.now) arguments.now) }
+    ensures { result ≡ source_stat (map (λ a. a.now) arguments.now) }
 {
     match arguments {
         [] => Some(SourceCall::Stat),

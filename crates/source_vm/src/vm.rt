@@ -2,9 +2,7 @@
 
 ghost use Rattle.std.specs.Prelude.{◌≡◌, ◌+◌, ◌<◌, ◌≤◌, ℕ, [], ◌∷◌, map, length, None};
 ghost use Rattle.vm_base.specs.declared.limits.TheConstants.{DATA_BYTES, KOIDS};
-ghost use Rattle.vm_model.specs.Machine.Lent.{reply_for};
 ghost use Rattle.source_model.specs.Commands.{SourceStep};
-ghost use Rattle.source_model.specs.Lent.{source_command_of};
 ghost use Rattle.source_vm.specs.Table.{SourcesAgree, IsIndexed, source_state_of};
 
 use crate::accesses::{evict, read, supply, write};
@@ -57,7 +55,7 @@ impl SourceVm {
         ensures next { (P.content store.new).next ≤ (P.content store.old).next + 1 }
     {
         let mut bytes = [0; DATA_BYTES];
-        self.answer(store, &command.lend(), &mut bytes).into_reply()
+        self.answer(store, &command.lend(), &mut bytes).into_owned()
     }
 
     /// Does what `step` does, for a command whose bytes are lent. The answer borrows the bytes that were read from `bytes`, which has
@@ -71,8 +69,8 @@ impl SourceVm {
         requires agrees { SourcesAgree (P.content store.old) self.old.table }
         requires next { (P.content store.old).next < KOIDS }
         requires bytes { DATA_BYTES ≤ length bytes.old }
-        ensures step { SourceStep (source_state_of (P.content store.old) self.old.table) (source_command_of call.now)
-            (reply_for result) (source_state_of (P.content store.new) self.new.table) }
+        ensures step { SourceStep (source_state_of (P.content store.old) self.old.table) call.now
+            result (source_state_of (P.content store.new) self.new.table) }
         ensures agrees { SourcesAgree (P.content store.new) self.new.table }
         ensures next { (P.content store.new).next ≤ (P.content store.old).next + 1 }
     {
@@ -92,8 +90,8 @@ fn dispatch<'a, P: PageStore>(
     requires agrees { SourcesAgree (P.content store.old) table.old }
     requires next { (P.content store.old).next < KOIDS }
     requires bytes { DATA_BYTES ≤ length bytes.old }
-    ensures step { SourceStep (source_state_of (P.content store.old) table.old) (source_command_of call.now)
-        (reply_for result) (source_state_of (P.content store.new) table.new) }
+    ensures step { SourceStep (source_state_of (P.content store.old) table.old) call.now
+        result (source_state_of (P.content store.new) table.new) }
     ensures indexed { IsIndexed table.new }
 {
     match call {

@@ -5,11 +5,10 @@ use Rattle.std.proofs.lemmas.Bool.{both_ways}
 use Rattle.std.proofs.lemmas.List.{length-append, length-replicate}
 use Rattle.vm_base.specs.declared.refusal.HostMemory.{HostMemory}
 use Rattle.vm_base.proofs.EntryLaws.{some_same}
-use Rattle.vm_model.specs.declared.answer.Answer.{Answer}
+use Rattle.vm_model.specs.Machine.Words.{Reply}
+use Rattle.vm_model.specs.declared.reply.Reply.TheVariants as Reply
 use Rattle.vm_model.specs.declared.runs.Run.{Run}
 use Rattle.vm_base.specs.declared.limits.TheConstants.{FRAMES, KOIDS}
-use Rattle.vm_model.specs.declared.reply.Reply.{Reply}
-use Rattle.vm_model.specs.Machine.Lent.{reply_for}
 use Rattle.vm_model.specs.Contents.Content.{nothing}
 use Rattle.vm_model.specs.Language.Reading.{reading, Blank}
 use Rattle.vm_model.specs.Language.Text.{reply_lines, run_line}
@@ -99,7 +98,7 @@ listing_never frames own numbers pending reply count tells one listing begins =
 in_may : (p : Phase) (frames : ℕ) (checker : Checker) (tells : List Told) → IsIn p frames checker tells → MayBegin frames tells
 in_may Idle frames checker tells stands = stands_may frames _ _ tells stands
 in_may Due frames checker tells due = subst (λ (ts : List Told). MayBegin frames ts) (sym due.is) (due_may frames _ _ due.before checker.pending.items due.stands)
-in_may Listing frames checker tells listing = listing_may frames _ _ checker.pending.items (reply_for checker.listed) checker.count tells listing
+in_may Listing frames checker tells listing = listing_may frames _ _ checker.pending.items checker.listed checker.count tells listing
 
 told_may : (b : Bool) (frames : ℕ) (checker : Checker) (tells : List Told) → HasTold b frames checker tells → MayBegin frames tells
 told_may false frames checker tells h = subst (λ (ts : List Told). MayBegin frames ts) (sym h.0) (record { rest = []; last = empty_machine frames; whole = record { turns = []; run = refl; is = refl } })
@@ -150,7 +149,7 @@ due_asked frames checker tells script is filled phase begins =
 
 pub listing_asked : (frames : ℕ) (checker : Checker) (tells : List Told) (script : List ℕ) → IsAt frames checker tells → checker.filled ≡ true → checker.phase ≡ Listing → MayBegin frames (tells ++ Asked script ∷ []) → ⊥
 listing_asked frames checker tells script is filled phase begins =
-    let next = listing_never frames _ _ checker.pending.items (reply_for checker.listed) checker.count tells (Asked script) (in_phase frames checker tells Listing is filled phase).1 begins in
+    let next = listing_never frames _ _ checker.pending.items checker.listed checker.count tells (Asked script) (in_phase frames checker tells Listing is filled phase).1 begins in
     absurd (let e = next.1 in cc)
 
 pub blank_stands : (frames : ℕ) (own : Machine) (numbers : ℕ → Option ℕ) (tells : List Told) (line : List ℕ) → Stands frames own numbers tells → reading line ≡ Blank → Stands frames own numbers (tells ++ Asked line ∷ [])
@@ -208,13 +207,13 @@ blank_at frames old tells script is filled phase e =
 -- the first line of runs
 pub begins_at : (frames : ℕ) (old : Own) (checker : Checker) (runs : List Run) (tells : List Told) (line : List ℕ) (heard : Heard) → heard ≡ Begins runs → 1 ≤ frames → frames ≤ FRAMES → checker.frames ≡ frames → checker.filled ≡ true
     → (due : IsDue frames (checker_machine_of old.machine) (number_seen old.numbers) checker.pending.items tells) → IsHeard frames old checker.own checker.pending.items due.before line heard
-    → IsAt frames (record checker { phase = Listing; listed = Answer.Runs runs; count = 1 }) (tells ++ Answered line ∷ [])
+    → IsAt frames (record checker { phase = Listing; listed = Reply.Runs runs; count = 1 }) (tells ++ Answered line ∷ [])
 begins_at frames old checker runs tells line heard e some few are filled due heard_so =
     let h : IsHeard frames old checker.own checker.pending.items due.before line (Begins runs) = subst (IsHeard frames old checker.own checker.pending.items due.before line) e heard_so in
     let first = reply_first (Reply.Runs runs) in
     let taken : take 1 (reply_lines (Reply.Runs runs)) ≡ line ∷ [] = ap (λ (ls : List (List ℕ)). take 1 ls) first.1 ∙ ap (λ (l : List ℕ). l ∷ []) h.1 in
     let size : length (reply_lines (Reply.Runs runs)) ≡ suc (length runs) = runs_length runs in
-    at_from frames (record checker { phase = Listing; listed = Answer.Runs runs; count = 1 }) (tells ++ Answered line ∷ []) Listing some few are filled refl h.3 (record {
+    at_from frames (record checker { phase = Listing; listed = Reply.Runs runs; count = 1 }) (tells ++ Answered line ∷ []) Listing some few are filled refl h.3 (record {
       before = due.before;
       answered = h.0;
       some = omega arith;
@@ -257,24 +256,24 @@ told_next before pending lines count line tells e at =
     ∙ ap (λ (ts : List Told). before ++ Asked pending ∷ ts) (map_push (take count lines) line ∙ ap (map Answered) (sym (take_next lines count line at) ∙ ap (λ (n : ℕ). take n lines) next)))
 
 pub listed_never : (frames : ℕ) (checker : Checker) (tells : List Told) (line : List ℕ) (r : Bool) → IsAt frames checker tells → checker.filled ≡ true → checker.phase ≡ Listing
-    → (slice_get (reply_lines (reply_for checker.listed)) checker.count ≡ Some line → r ≡ true) → r ≡ false → MayBegin frames (tells ++ Answered line ∷ []) → ⊥
+    → (slice_get (reply_lines checker.listed) checker.count ≡ Some line → r ≡ true) → r ≡ false → MayBegin frames (tells ++ Answered line ∷ []) → ⊥
 listed_never frames checker tells line r is filled phase found off begins =
-    let next = listing_never frames _ _ checker.pending.items (reply_for checker.listed) checker.count tells (Answered line) (in_phase frames checker tells Listing is filled phase).1 begins in
+    let next = listing_never frames _ _ checker.pending.items checker.listed checker.count tells (Answered line) (in_phase frames checker tells Listing is filled phase).1 begins in
     both_ways r off (found (next.2 ∙ ap (λ (l : List ℕ). Some l) (sym (answered_same next.1))))
 
 pub listed_ends : (frames : ℕ) (checker : Checker) (rooms : Rooms) (tells : List Told) (line : List ℕ) (lines : ℕ) → IsAt frames checker tells → checker.filled ≡ true → checker.phase ≡ Listing
-    → slice_get (reply_lines (reply_for checker.listed)) checker.count ≡ Some line → lines ≡ length (reply_lines (reply_for checker.listed)) → checker.count + 1 ≡ lines
+    → slice_get (reply_lines checker.listed) checker.count ≡ Some line → lines ≡ length (reply_lines checker.listed) → checker.count + 1 ≡ lines
     → IsAt frames (record checker { phase = Idle; count = checker.count + 1; rooms = rooms }) (tells ++ Answered line ∷ [])
 listed_ends frames checker rooms tells line lines is filled phase at n last =
     let h = in_phase frames checker tells Listing is filled phase in
-    let whole = take_end (reply_lines (reply_for checker.listed)) (checker.count + 1) (last ∙ n) in
-    let told_all = told_next h.1.before checker.pending.items (reply_lines (reply_for checker.listed)) checker.count line tells h.1.is at in
+    let whole = take_end (reply_lines checker.listed) (checker.count + 1) (last ∙ n) in
+    let told_all = told_next h.1.before checker.pending.items (reply_lines checker.listed) checker.count line tells h.1.is at in
     at_from frames (record checker { phase = Idle; count = checker.count + 1; rooms = rooms }) (tells ++ Answered line ∷ []) Idle is.some is.few is.frames_are filled refl h.0
     (subst (λ (ts : List Told). Stands frames (checker_machine_of checker.own.machine) (number_seen checker.own.numbers) ts)
     (sym (told_all ∙ ap (λ (ls : List (List ℕ)). h.1.before ++ Asked checker.pending.items ∷ map Answered ls) whole)) h.1.answered.ends)
 
 pub listed_goes : (frames : ℕ) (checker : Checker) (rooms : Rooms) (tells : List Told) (line : List ℕ) (lines : ℕ) → IsAt frames checker tells → checker.filled ≡ true → checker.phase ≡ Listing
-    → slice_get (reply_lines (reply_for checker.listed)) checker.count ≡ Some line → lines ≡ length (reply_lines (reply_for checker.listed)) → checker.count + 1 ≢ lines
+    → slice_get (reply_lines checker.listed) checker.count ≡ Some line → lines ≡ length (reply_lines checker.listed) → checker.count + 1 ≢ lines
     → IsAt frames (record checker { count = checker.count + 1; rooms = rooms }) (tells ++ Answered line ∷ [])
 listed_goes frames checker rooms tells line lines is filled phase at n more =
     let h = in_phase frames checker tells Listing is filled phase in
@@ -283,7 +282,7 @@ listed_goes frames checker rooms tells line lines is filled phase at n more =
       answered = h.1.answered;
       some = omega arith;
       left = omega (arith, h.1.left, n, more);
-      is = told_next h.1.before checker.pending.items (reply_lines (reply_for checker.listed)) checker.count line tells h.1.is at;
+      is = told_next h.1.before checker.pending.items (reply_lines checker.listed) checker.count line tells h.1.is at;
     })
 
 -- ---- whether the lines are a whole transcript
@@ -315,9 +314,9 @@ listing_part frames checker lines read phase whole = go checker.filled refl read
   go : (b : Bool) → checker.filled ≡ b → HasTold b frames checker read.tells → ⊥
   go false e h = absurd (let both = sym phase ∙ h.2 in cc)
   go true e h =
-      let listing : IsListing frames (checker_machine_of checker.own.machine) (number_seen checker.own.numbers) checker.pending.items (reply_for checker.listed) checker.count read.tells = subst (λ (q : Phase). IsIn q frames checker read.tells) phase h.1 in
+      let listing : IsListing frames (checker_machine_of checker.own.machine) (number_seen checker.own.numbers) checker.pending.items checker.listed checker.count read.tells = subst (λ (q : Phase). IsIn q frames checker read.tells) phase h.1 in
       let all = is_whole frames lines read.tells read.told_are whole in
-      let next = listing_next frames _ _ checker.pending.items (reply_for checker.listed) checker.count read.tells listing [] all.0 (subst (λ (ts : List Told). IsWhole frames ts all.0) (sym (append-nil read.tells)) all.1) in
+      let next = listing_next frames _ _ checker.pending.items checker.listed checker.count read.tells listing [] all.0 (subst (λ (ts : List Told). IsWhole frames ts all.0) (sym (append-nil read.tells)) all.1) in
       absurd (let none = next.4 in cc)
 
 -- lines that were read, once the frames were taken

@@ -13,16 +13,14 @@ use Rattle.vm_base.specs.declared.names.VmoName.{VmoName}
 use Rattle.vm_base.specs.declared.refusal.Refusal.{Refusal}
 use Rattle.vm_base.specs.declared.refusal.Refusal.TheVariants.{Syntax, HostMemory}
 use Rattle.vm_base.proofs.EntryLaws.{some_same, none_is}
-use Rattle.vm_model.specs.declared.command.Command.{Command}
+use Rattle.vm_model.specs.Machine.Words.{Command, Reply}
+use Rattle.vm_model.specs.declared.reply.Reply.TheVariants as Reply
 use Rattle.vm_model.specs.declared.command.Command.TheVariants.{VmoChild, VmoPin, VmarAllocate, VmarMap, MemRead, MemWrite}
 use Rattle.vm_model.specs.declared.command.ChildKind.TheVariants.{Snapshot}
-use Rattle.vm_model.specs.declared.answer.Answer.{Answer}
-use Rattle.vm_model.specs.declared.reply.Reply.{Reply}
 use Rattle.vm_model.specs.declared.reply.Reply.TheVariants.{Address, Pins, Runs as RunsReply, Refused}
 use Rattle.vm_model.specs.declared.runs.Run.{Run}
 use Rattle.vm_model.specs.Language.Reading.{Order, Outside, reading}
 use Rattle.vm_model.specs.Language.Text.{reply_lines}
-use Rattle.vm_model.specs.Machine.Lent.{reply_for}
 use Rattle.vm_model.specs.Machine.Given.{GivesName}
 use Rattle.vm_model.specs.Machine.Refusals.{refusals, first_of}
 use Rattle.vm_model.specs.Machine.Machine.{Machine, IsGoodMachine}
@@ -252,19 +250,6 @@ frames_unheard bound numbers frames line none ks short wide f = absurd (none ks 
 
 -- ---- answers
 
-pub no_pins : (answer : Answer) → ((frames : List ℕ) → answer ≢ Answer.Pins frames) → TellsNoFrames (reply_for answer)
-no_pins (Answer.Pins frames) none numbers e = absurd (none frames refl)
-no_pins Answer.Done none numbers e = absurd cc
-no_pins (Answer.Number number) none numbers e = absurd cc
-no_pins (Answer.Bytes bytes) none numbers e = absurd cc
-no_pins (Answer.Address address) none numbers e = absurd cc
-no_pins (Answer.Access faults bytes) none numbers e = absurd cc
-no_pins (Answer.Faults faults) none numbers e = absurd cc
-no_pins (Answer.Info info) none numbers e = absurd cc
-no_pins (Answer.Runs runs) none numbers e = absurd cc
-no_pins (Answer.Stat stat) none numbers e = absurd cc
-no_pins (Answer.Refused refusal) none numbers e = absurd cc
-
 pub one_line : (reply : Reply) (line : List ℕ) (count : ℕ) → slice_get (reply_lines reply) 0 ≡ Some line → count ≡ length (reply_lines reply) → count ≡ 1 → reply_lines reply ≡ line ∷ []
 one_line reply line count e n one = go (reply_first reply).0 (reply_first reply).1 where
   go : (rest : List (List ℕ)) → reply_lines reply ≡ first_line reply ∷ rest → reply_lines reply ≡ line ∷ []
@@ -281,19 +266,19 @@ runs_some reply [] count e n many = absurd (many (n ∙ ap (λ (r : Reply). leng
 runs_some reply (run ∷ runs) count e n many = omega arith
 
 -- other answers have one line
-pub no_runs : (answer : Answer) → ((runs : List Run) → answer ≢ Answer.Runs runs) → length (reply_lines (reply_for answer)) ≡ 1
+pub no_runs : (answer : Reply) → ((runs : List Run) → answer ≢ Reply.Runs runs) → length (reply_lines answer) ≡ 1
 unfolding reply_lines
-no_runs (Answer.Runs runs) none = absurd (none runs refl)
-no_runs Answer.Done none = refl
-no_runs (Answer.Number number) none = refl
-no_runs (Answer.Bytes bytes) none = refl
-no_runs (Answer.Pins frames) none = refl
-no_runs (Answer.Address address) none = refl
-no_runs (Answer.Access faults bytes) none = refl
-no_runs (Answer.Faults faults) none = refl
-no_runs (Answer.Info info) none = refl
-no_runs (Answer.Stat stat) none = refl
-no_runs (Answer.Refused refusal) none = refl
+no_runs (Reply.Runs runs) none = absurd (none runs refl)
+no_runs Reply.Done none = refl
+no_runs (Reply.Number number) none = refl
+no_runs (Reply.Bytes bytes) none = refl
+no_runs (Reply.Pins frames) none = refl
+no_runs (Reply.Address address) none = refl
+no_runs (Reply.Access faults bytes) none = refl
+no_runs (Reply.Faults faults) none = refl
+no_runs (Reply.Info info) none = refl
+no_runs (Reply.Stat stat) none = refl
+no_runs (Reply.Refused refusal) none = refl
 
 -- ---- texts
 
@@ -315,8 +300,8 @@ pub match_some : {A : Type 0} (o : Option A) (x : A) (P : Type 0) (Q : A → Typ
 match_some None x P Q e h = absurd cc
 match_some (Some y) x P Q e h = subst Q (some_same e) h
 
-pub step_for : (old new : Machine) (command : Command) (answer other : Answer) → answer ≡ other → MachineStep old command (reply_for answer) new → MachineStep old command (reply_for other) new
-step_for old new command answer other e step = subst (λ (a : Answer). MachineStep old command (reply_for a) new) e step
+pub step_for : (old new : Machine) (command : Command) (answer other : Reply) → answer ≡ other → MachineStep old command answer new → MachineStep old command other new
+step_for old new command answer other e step = subst (λ (a : Reply). MachineStep old command a new) e step
 
 -- ---- what was heard
 

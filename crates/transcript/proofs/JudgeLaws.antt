@@ -7,9 +7,8 @@ use Rattle.vm_base.specs.declared.names.VmoName.{VmoName}
 use Rattle.vm_base.specs.declared.limits.TheConstants.{NAMES}
 use Rattle.vm_base.specs.declared.refusal.Refusal.{Refusal}
 use Rattle.vm_base.specs.declared.refusal.Refusal.TheVariants.{Syntax, HostMemory}
-use Rattle.vm_model.specs.declared.command.Command.{Command}
+use Rattle.vm_model.specs.Machine.Words.{Command, Reply}
 use Rattle.vm_model.specs.declared.command.Command.TheVariants.{VmoPin, VmarAllocate, VmarMap}
-use Rattle.vm_model.specs.declared.reply.Reply.{Reply}
 use Rattle.vm_model.specs.declared.reply.Reply.TheVariants.{Address, Pins, Runs as RunsReply, Refused}
 use Rattle.vm_model.specs.declared.runs.Run.{Run}
 use Rattle.vm_model.specs.Language.Reading.{Reading, Order, Outside, reading}
@@ -276,7 +275,7 @@ pub runs_answered : (frames : ℕ) (own next : Machine) (numbers later : ℕ →
 runs_answered frames own next numbers later tells line command runs stands e step left =
     let reply = RunsReply runs in
     let none : TellsNoFrames (RunsReply runs) = λ ns f. absurd cc in
-    let host : RunsReply runs ≢ Refused HostMemory = λ f. absurd cc in
+    let host : ◌≢◌ {A = Reply} (RunsReply runs) (Refused HostMemory) = λ f. absurd cc in
     let gives = reading_gives line command e in
     let plain = runs_plain own next command runs stands.good gives step in
     record {

@@ -3,7 +3,7 @@ use Rattle.std.proofs.Common.{◌≡◌, ℕ, suc, ◌≤◌, Bool, true, false,
 use Rattle.std.proofs.lemmas.Bool.{le-ltb}
 use Rattle.vm_base.specs.declared.limits.TheConstants.{LINE_BYTES}
 use Rattle.vm_base.proofs.EntryLaws.{some_same}
-use Rattle.vm_model.specs.declared.command.Command.{Command}
+use Rattle.vm_model.specs.Machine.Words.{Command}
 use Rattle.vm_model.specs.Language.Reading.{Blank, Outside, order_or_outside, command, is_comment, reading_of_words, words, reading}
 use Rattle.vm_model.specs.Machine.Machine.{Machine}
 use Rattle.moving_model.specs.Transcript.{Told, told, IsWhole, MayBegin, AllTold, ArePossible, AreWhole}

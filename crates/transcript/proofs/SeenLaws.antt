@@ -9,11 +9,9 @@ use Rattle.vm_base.specs.declared.refusal.Refusal.{Refusal}
 use Rattle.vm_base.proofs.EntryLaws.{some_same, any_entry_found, any_entry_at, without_key-other, without_key-some}
 use Rattle.vm_base.proofs.SearchLaws.{eqb_is}
 use Rattle.vm_base.specs.Entries.{without_key}
-use Rattle.vm_model.specs.declared.call.Call.{Call}
-use Rattle.vm_model.specs.Machine.Lent.{command_of}
-use Rattle.vm_model.specs.declared.command.Command.{Command}
+use Rattle.vm_model.specs.Machine.Words.{Command, Reply}
+use Rattle.vm_model.specs.declared.command.Command.TheVariants as Command
 use Rattle.vm_model.specs.declared.command.Command.TheVariants.{VmoPin, VmoUnpin}
-use Rattle.vm_model.specs.declared.reply.Reply.{Reply}
 use Rattle.vm_model.specs.Contents.Content.{Page}
 use Rattle.vm_model.specs.Naming.Pins.{Pin, is_pinned, covers}
 use Rattle.vm_model.specs.Machine.Refusals.{refusals, first_of}
@@ -122,12 +120,12 @@ left_cleared old next command reply was later freed good none step seen frees cl
 
 -- ---- forgetting
 
-pub frees_none : (m : Machine) (call : Call) (freed : List ℕ) → ((pin : PinName) → call ≢ Call.VmoUnpin pin) → Frees m (command_of call) freed
-frees_none m (Call.VmoUnpin pin) freed none = absurd (none pin refl)
+pub frees_none : (m : Machine) (call : Command) (freed : List ℕ) → ((pin : PinName) → call ≢ Command.VmoUnpin pin) → Frees m call freed
+frees_none m (Command.VmoUnpin pin) freed none = absurd (none pin refl)
 frees_none m call freed none = tt
 
-pub frees_pin : (m : Machine) (call : Call) (pin : PinName) (freed : List ℕ) → call ≡ Call.VmoUnpin pin → HasFrames m pin.0 freed → Frees m (command_of call) freed
-frees_pin m call pin freed e frames = subst (λ (c : Call). Frees m (command_of c) freed) (sym e) frames
+pub frees_pin : (m : Machine) (call : Command) (pin : PinName) (freed : List ℕ) → call ≡ Command.VmoUnpin pin → HasFrames m pin.0 freed → Frees m call freed
+frees_pin m call pin freed e frames = subst (λ (c : Command). Frees m c freed) (sym e) frames
 
 -- the frames of the first pages were found
 abbrev pub HasFirst : Machine → ℕ → ℕ → List ℕ → Type 0

@@ -2,7 +2,7 @@
 use Rattle.std.proofs.Common.{◌≡◌, ◌≢◌, ℕ, zero, suc, ◌<◌, ◌≤◌, List, [], ◌∷◌, ◌++◌, length, map, take, Option, refl, sym, ap, subst, ◌∙◌, append_assoc, append-nil, arith}
 use Rattle.std.specs.List.{flat_map}
 use Rattle.vm_base.specs.declared.refusal.Refusal.TheVariants.{Syntax}
-use Rattle.vm_model.specs.declared.reply.Reply.{Reply}
+use Rattle.vm_model.specs.Machine.Words.{Reply}
 use Rattle.vm_model.specs.declared.reply.Reply.TheVariants.{Refused, Runs as RunsReply}
 use Rattle.vm_model.specs.Language.Reading.{Reading, Blank, Order, Outside, reading}
 use Rattle.vm_model.specs.Language.Text.{reply_lines}

@@ -1,7 +1,7 @@
 -- How far a checker has come in a transcript.
 use Rattle.std.specs.Prelude.{◌≡◌, ◌≢◌, ℕ, ◌+◌, ◌≤◌, ◌<◌, List, [], ◌∷◌, ◌++◌, length, map, take, Option}
 use Rattle.std.specs.List.{flat_map}
-use Rattle.vm_model.specs.declared.reply.Reply.{Reply}
+use Rattle.vm_model.specs.Machine.Words.{Reply}
 use Rattle.vm_model.specs.Language.Reading.{reading, Blank}
 use Rattle.vm_model.specs.Language.Text.{reply_lines}
 use Rattle.vm_model.specs.Machine.Machine.{Machine, IsGoodMachine}

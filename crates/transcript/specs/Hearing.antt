@@ -2,7 +2,8 @@
 use Rattle.std.specs.Prelude.{◌≡◌, ◌≢◌, ℕ, ◌^◌, ◌<◌, ◌≤◌, Bool, true, false, List, [], ◌∷◌, ◌++◌, length, Option}
 use Rattle.std.specs.List.{AllByRecursion}
 use Rattle.vm_base.specs.declared.limits.TheConstants.{FRAMES, PIN_PAGES}
-use Rattle.vm_model.specs.declared.reply.Reply.{Reply}
+use Rattle.vm_model.specs.Machine.Words.{Reply}
+use Rattle.vm_model.specs.declared.reply.Reply.TheVariants as Reply
 use Rattle.vm_model.specs.Language.Text.{reply_lines}
 use Rattle.moving_model.specs.Transcript.{Told, Asked, Answered}
 use Rattle.moving_model.specs.Standing.{may_tell, with_seen}

@@ -1,7 +1,7 @@
 -- Which numbers that were seen are forgotten.
 use Rattle.std.specs.Prelude.{◌≡◌, ℕ, ◌==◌, true, List, length, get_or, Option, None, Some}
 use Rattle.std.specs.List.{AllByRecursion, list_any}
-use Rattle.vm_model.specs.declared.command.Command.{Command}
+use Rattle.vm_model.specs.Machine.Words.{Command}
 use Rattle.vm_model.specs.declared.command.Command.TheVariants.{VmoUnpin}
 use Rattle.vm_model.specs.Machine.Machine.{Machine}
 use Rattle.checker_machine.specs.Machine.{HasPinnedFrame, pinned_frame}

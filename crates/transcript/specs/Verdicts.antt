@@ -1,7 +1,6 @@
 -- What a checker has read, and what it answers to a line.
 use Rattle.std.specs.Prelude.{◌≡◌, ◌≢◌, ℕ, ◌≤◌, true, false, Bool, List, [], ◌∷◌, ◌++◌, length, None}
 use Rattle.vm_base.specs.declared.limits.TheConstants.{FRAMES}
-use Rattle.vm_model.specs.Machine.Lent.{reply_for}
 use Rattle.vm_model.specs.Machine.Machine.{empty_machine}
 use Rattle.moving_model.specs.Transcript.{Told, told, MayBegin, AllTold, ArePossible}
 use Rattle.checker_machine.specs.Machine.{checker_machine_of}
@@ -18,7 +17,7 @@ abbrev pub IsIn : Phase → ℕ → Checker → List Told → Type 0
 IsIn Idle frames checker tells = Stands frames (checker_machine_of checker.own.machine) (number_seen checker.own.numbers) tells
 IsIn Due frames checker tells = IsDue frames (checker_machine_of checker.own.machine) (number_seen checker.own.numbers) checker.pending.items tells
 IsIn Listing frames checker tells =
-    IsListing frames (checker_machine_of checker.own.machine) (number_seen checker.own.numbers) checker.pending.items (reply_for checker.listed) checker.count tells
+    IsListing frames (checker_machine_of checker.own.machine) (number_seen checker.own.numbers) checker.pending.items checker.listed checker.count tells
 
 -- the same, by whether the checker has its frames. It takes them at the first line
 abbrev pub HasTold : Bool → ℕ → Checker → List Told → Type 0

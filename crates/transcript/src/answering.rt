@@ -3,11 +3,9 @@
 ghost use Rattle.std.specs.Prelude.{◌≡◌, ◌≢◌, ◌<◌, ◌≤◌, ◌++◌, ◌∷◌, [], ℕ, List, Option, true, false, codes, length, if◌then◌else◌, IsTrue, MatchResult};
 ghost use Rattle.std.specs.List.{AllByRecursion};
 ghost use Rattle.vm_base.specs.declared.limits.TheConstants.{KOIDS, TEXT_ROOM, DATA_BYTES};
-ghost use Rattle.vm_model.specs.declared.call.Call.{Call};
-ghost use Rattle.vm_model.specs.declared.reply.Reply.{Reply};
+ghost use Rattle.vm_model.specs.declared.reply.Reply.TheVariants as Reply;
 ghost use Rattle.vm_model.specs.Language.Reading.{reading, Order, Blank};
 ghost use Rattle.vm_model.specs.Language.Text.{reply_lines};
-ghost use Rattle.vm_model.specs.Machine.Lent.{command_of, reply_for};
 ghost use Rattle.vm_model.specs.Machine.Given.{GivesName};
 ghost use Rattle.vm_model.specs.Machine.Machine.{IsGoodMachine};
 ghost use Rattle.moving_model.specs.Moving.{TellsNoFrames};
@@ -83,7 +81,7 @@ fn forget_one(machine: &CheckerMachine, numbers: &mut Numbers, frame: u32)
 /// Compares a line with an answer that tells no frames.
 fn hear_answer(answer: Answer<'_>, line: &[u8], room: &mut [u8]) -> Heard
     requires { TEXT_ROOM ≤ length room.old }
-    ensures { Hears (reply_for answer.entry) (line.now ++ codes "\n") result }
+    ensures { Hears answer.entry (line.now ++ codes "\n") result }
 {
     if !is_line(&answer, 0, line, room) {
         return Heard::Never;
@@ -130,9 +128,9 @@ fn hear_call(
     rooms: &mut Rooms,
 ) -> Result<Heard, HostMemory>
     requires stands { (frames : ℕ) × (before : List Told) × OwnStands frames own.old before × ((checker_machine_of own.old.machine).state.content.next < KOIDS) }
-    requires gives { GivesName (command_of call.now) }
+    requires gives { GivesName call.now }
     requires other { line.now ≢ codes "HOST_MEMORY" }
-    ensures heard { (frames : ℕ) (before : List Told) (pending : List ℕ) → OwnStands frames own.old before → reading pending ≡ Order (command_of call.now)
+    ensures heard { (frames : ℕ) (before : List Told) (pending : List ℕ) → OwnStands frames own.old before → reading pending ≡ Order call.now
         → MatchResult result (λ heard. IsHeard frames own.old own.new pending before (line.now ++ codes "\n") heard) (λ lack. IsSame own.old own.new) }
 {
     match call {
@@ -152,10 +150,10 @@ fn hear_unpin(
     rooms: &mut Rooms,
 ) -> Result<Heard, HostMemory>
     requires stands { (frames : ℕ) × (before : List Told) × OwnStands frames own.old before × ((checker_machine_of own.old.machine).state.content.next < KOIDS) }
-    requires unpins { call.now ≡ Call.VmoUnpin pin }
-    requires gives { GivesName (command_of call.now) }
+    requires unpins { call.now ≡ Command.VmoUnpin pin }
+    requires gives { GivesName call.now }
     requires other { line.now ≢ codes "HOST_MEMORY" }
-    ensures heard { (frames : ℕ) (before : List Told) (pending : List ℕ) → OwnStands frames own.old before → reading pending ≡ Order (command_of call.now)
+    ensures heard { (frames : ℕ) (before : List Told) (pending : List ℕ) → OwnStands frames own.old before → reading pending ≡ Order call.now
         → MatchResult result (λ heard. IsHeard frames own.old own.new pending before (line.now ++ codes "\n") heard) (λ lack. IsSame own.old own.new) }
 {
     let freed = frames_of(&own.machine, pin);
@@ -171,10 +169,10 @@ fn hear_reply(
     rooms: &mut Rooms,
 ) -> Result<Heard, HostMemory>
     requires stands { (frames : ℕ) × (before : List Told) × OwnStands frames own.old before × ((checker_machine_of own.old.machine).state.content.next < KOIDS) }
-    requires gives { GivesName (command_of call.now) }
-    requires freed { IsGoodMachine (checker_machine_of own.old.machine) → Frees (checker_machine_of own.old.machine) (command_of call.now) freed.now }
+    requires gives { GivesName call.now }
+    requires freed { IsGoodMachine (checker_machine_of own.old.machine) → Frees (checker_machine_of own.old.machine) call.now freed.now }
     requires other { line.now ≢ codes "HOST_MEMORY" }
-    ensures heard { (frames : ℕ) (before : List Told) (pending : List ℕ) → OwnStands frames own.old before → reading pending ≡ Order (command_of call.now)
+    ensures heard { (frames : ℕ) (before : List Told) (pending : List ℕ) → OwnStands frames own.old before → reading pending ≡ Order call.now
         → MatchResult result (λ heard. IsHeard frames own.old own.new pending before (line.now ++ codes "\n") heard) (λ lack. IsSame own.old own.new) }
 {
     let told = address_in(line);
@@ -207,9 +205,9 @@ fn hear_order(
     line: &[u8],
     rooms: &mut Rooms,
 ) -> Result<Heard, HostMemory>
-    requires gives { GivesName (command_of call.now) }
+    requires gives { GivesName call.now }
     requires stands { (frames : ℕ) × (before : List Told) × OwnStands frames own.old before × ((checker_machine_of own.old.machine).state.content.next < KOIDS) }
-    ensures { (frames : ℕ) (before : List Told) (pending : List ℕ) → OwnStands frames own.old before → reading pending ≡ Order (command_of call.now)
+    ensures { (frames : ℕ) (before : List Told) (pending : List ℕ) → OwnStands frames own.old before → reading pending ≡ Order call.now
         → MatchResult result (λ heard. IsHeard frames own.old own.new pending before (line.now ++ codes "\n") heard) (λ lack. IsSame own.old own.new) }
 {
     if line == b"HOST_MEMORY".as_slice() {

@@ -2,10 +2,9 @@
 
 ghost use Rattle.std.specs.Prelude.{◌≡◌, ◌≢◌, ◌≤◌, ◌<◌, ◌^◌, ◌++◌, ◌∷◌, [], ℕ, List, Option, Some, None, codes, length, take, IfSome, MatchOption, IsTrue, ◌↔◌, slice_get};
 ghost use Rattle.vm_base.specs.declared.limits.TheConstants.{LINE_BYTES, TEXT_ROOM};
-ghost use Rattle.vm_model.specs.declared.reply.Reply.{Reply};
+ghost use Rattle.vm_model.specs.declared.reply.Reply.TheVariants as Reply;
 ghost use Rattle.vm_model.specs.Language.Reading.{reading, is_comment, Blank};
 ghost use Rattle.vm_model.specs.Language.Text.{reply_lines};
-ghost use Rattle.vm_model.specs.Machine.Lent.{reply_for};
 ghost use Rattle.moving_model.specs.Transcript.{told, Asked, Answered};
 ghost use Rattle.moving_model.specs.Following.{first_line};
 
@@ -54,9 +53,9 @@ fn is_comment(word: &[u8]) -> bool
 
 /// Reports whether line `index` of an answer, counted from 0, is this one.
 pub(crate) fn is_line(answer: &Answer<'_>, index: u64, line: &[u8], room: &mut [u8]) -> bool
-    requires index { index < length (reply_lines (reply_for answer.now)) }
+    requires index { index < length (reply_lines answer.now) }
     requires room { TEXT_ROOM ≤ length room.old }
-    ensures { IsTrue result ↔ (slice_get (reply_lines (reply_for answer.now)) index ≡ Some (line.now ++ codes "\n")) }
+    ensures { IsTrue result ↔ (slice_get (reply_lines answer.now) index ≡ Some (line.now ++ codes "\n")) }
 {
     let len = write_answer_line(answer, index, room);
     ends_line(&room[..len], line)

@@ -2,7 +2,6 @@
 
 ghost use Rattle.std.specs.Prelude.{◌≡◌, ◌+◌, ◌<◌, ◌≤◌, length};
 ghost use Rattle.vm_base.specs.declared.limits.TheConstants.{DATA_BYTES, KOIDS, PIN_PAGES};
-ghost use Rattle.vm_model.specs.Machine.Lent.{command_of, reply_for};
 
 use fault::Translations;
 use machine::Machine;
@@ -60,7 +59,7 @@ impl Vm {
         let mut bytes = [0; DATA_BYTES];
         let mut numbers = [0; PIN_PAGES];
         self.answer(store, &command.lend(), &mut bytes, &mut numbers)
-            .into_reply()
+            .into_owned()
     }
 
     /// Does what `step` does, for a command whose bytes are lent. The answer borrows the bytes that were read from
@@ -78,7 +77,7 @@ impl Vm {
         requires next { (P.content store.old).next < KOIDS }
         requires bytes { DATA_BYTES ≤ length bytes.old }
         requires numbers { PIN_PAGES ≤ length numbers.old }
-        ensures step { MachineStep (machine_of (P.content store.old) self.old) (command_of call.now) (reply_for result)
+        ensures step { MachineStep (machine_of (P.content store.old) self.old) call.now result
             (machine_of (P.content store.new) self.new) }
         ensures agrees { Agrees (P.content store.new) self.new }
         ensures good { IsGoodMachine (machine_of (P.content store.new) self.new) }

@@ -26,9 +26,8 @@ use Rattle.vm_model.proofs.WritingLaws.{Writes-keeps}
 use Rattle.vm_model.proofs.NamesLaws.{target_of-same}
 use Rattle.vm_model.proofs.MachineLaws.{MachineStep-done}
 use Rattle.vm_model.specs.declared.names.Origin.TheVariants.{Created}
-use Rattle.vm_model.specs.declared.command.Command.{Command}
+use Rattle.vm_model.specs.Machine.Words.{Command, Reply}
 use Rattle.vm_model.specs.declared.command.Command.TheVariants.{VmoCreate, VmoRead, VmoWrite}
-use Rattle.vm_model.specs.declared.reply.Reply.{Reply}
 use Rattle.vm_model.specs.declared.reply.Reply.TheVariants.{Done, Bytes, Refused}
 use Rattle.vm_model.specs.Language.Reading.{Reading, Order, reading, words, digits_from, number, vmo, byte_data, command}
 use Rattle.vm_model.specs.Language.Text.{reply_lines, text, texts}

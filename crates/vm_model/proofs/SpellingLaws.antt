@@ -10,7 +10,7 @@ use Rattle.vm_base.specs.declared.names.PinName.{PinName}
 use Rattle.vm_base.specs.declared.flags.Perm.{Perm}
 use Rattle.vm_base.specs.declared.flags.MapFlags.{MapFlags}
 use Rattle.vm_model.specs.declared.command.ChildKind.{ChildKind}
-use Rattle.vm_model.specs.declared.command.Command.{Command}
+use Rattle.vm_model.specs.Machine.Words.{Command}
 use Rattle.vm_model.specs.declared.command.Command.TheVariants.{VmoCreate, VmoChild, VmoClose, VmoSize, VmoSetSize, VmoRead, VmoWrite, VmoFill, VmoCommit, VmoDecommit, VmoZero, VmoPin, VmoUnpin, VmoInfo, RootCreate, VmarAllocate, VmarMap, VmarUnmap, VmarProtect, VmarDestroy, Maps, MemRead, MemWrite, Stat}
 use Rattle.vm_model.specs.Language.Reading.{Order, reading, is_comment, command, are_flags, stands, bit, flags, named, ranged, vmo, region, vmar_allocate, vmar_map}
 use Rattle.vm_model.specs.Language.Text.{data_text, perm_text}
@@ -89,7 +89,7 @@ size_flags-fields : (resizable : Bool) → Fields 60 (size_flags resizable)
 size_flags-fields true = record { solid = refl; few = omega arith }
 size_flags-fields false = record { solid = refl; few = omega arith }
 
-size_flags-read : (name : VmoName) (size : ℕ) (resizable : Bool) → flags (codes "resizable" ∷ []) (λ flag. VmoCreate name size (flag (codes "resizable"))) (size_flags resizable) ≡ Some (VmoCreate name size resizable)
+size_flags-read : (name : VmoName) (size : ℕ) (resizable : Bool) → flags {C = Command} (codes "resizable" ∷ []) (λ flag. VmoCreate name size (flag (codes "resizable"))) (size_flags resizable) ≡ Some (VmoCreate name size resizable)
 size_flags-read name size true = refl
 size_flags-read name size false = refl
 
@@ -104,7 +104,7 @@ child_flags-fields false true = record { solid = refl; few = omega arith }
 child_flags-fields false false = record { solid = refl; few = omega arith }
 
 child_flags-read : (name parent : VmoName) (kind : ChildKind) (offset size : ℕ) (resizable no_write : Bool)
-    → flags (codes "resizable" ∷ codes "no_write" ∷ [])
+    → flags {C = Command} (codes "resizable" ∷ codes "no_write" ∷ [])
     (λ flag. VmoChild name parent kind offset size (flag (codes "resizable")) (flag (codes "no_write"))) (child_flags resizable no_write)
     ≡ Some (VmoChild name parent kind offset size resizable no_write)
 child_flags-read name parent kind offset size true true = refl

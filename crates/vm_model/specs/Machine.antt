@@ -2,7 +2,7 @@ pub mod State
 pub mod Leaving
 pub mod Attribution
 pub mod Refusals
-pub mod Lent
+pub mod Words
 pub mod Given
 pub mod Step
 pub mod Access

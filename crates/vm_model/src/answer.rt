@@ -1,50 +1,34 @@
 //! A reply whose data stands elsewhere.
 
 ghost use Rattle.std.specs.Prelude.{◌≡◌};
-ghost use Rattle.vm_model.specs.Machine.Lent.{reply_for};
 
 use crate::lent::{LentBytes, LentNumbers};
-use crate::reply::{Info, Reply, Stat};
-use crate::runs::Runs;
-use vm_base::Refusal;
+use crate::reply::Reply;
 
-/// A reply with the bytes or the numbers that were read lent to it, so that they are not moved with it. Each variant
-/// stands for the variant of `Reply` of its name. Runs of mappings are its own.
-#[derive(Drop)]
-pub enum Answer<'a> {
-    Done,
-    Number(u64),
-    Bytes(LentBytes<'a>),
-    Pins(LentNumbers<'a>),
-    Address(u64),
-    Access { faults: u64, bytes: LentBytes<'a> },
-    Faults(u64),
-    Info(Info),
-    Runs(Runs),
-    Stat(Stat),
-    Refused(Refusal),
-}
+/// A reply with the bytes or the numbers that were read lent to it, so that they are not moved with it. Runs of
+/// mappings are its own.
+pub type Answer<'a> = Reply<LentBytes<'a>, LentNumbers<'a>>;
 
-impl<'a> Answer<'a> {
+impl<'a> Reply<LentBytes<'a>, LentNumbers<'a>> {
     /// Returns the reply, with data of its own.
-    pub fn into_reply(self) -> Reply
-        ensures { result ≡ reply_for self.entry }
+    pub fn into_owned(self) -> Reply
+        ensures { result ≡ self.entry }
     {
         match self {
-            Answer::Done => Reply::Done,
-            Answer::Number(number) => Reply::Number(number),
-            Answer::Bytes(bytes) => Reply::Bytes(bytes.to_bytes()),
-            Answer::Pins(numbers) => Reply::Pins(numbers.to_numbers()),
-            Answer::Address(address) => Reply::Address(address),
-            Answer::Access { faults, bytes } => Reply::Access {
+            Reply::Done => Reply::Done,
+            Reply::Number(number) => Reply::Number(number),
+            Reply::Bytes(bytes) => Reply::Bytes(bytes.to_bytes()),
+            Reply::Pins(numbers) => Reply::Pins(numbers.to_numbers()),
+            Reply::Address(address) => Reply::Address(address),
+            Reply::Access { faults, bytes } => Reply::Access {
                 faults,
                 bytes: bytes.to_bytes(),
             },
-            Answer::Faults(faults) => Reply::Faults(faults),
-            Answer::Info(info) => Reply::Info(info),
-            Answer::Runs(runs) => Reply::Runs(runs),
-            Answer::Stat(stat) => Reply::Stat(stat),
-            Answer::Refused(refusal) => Reply::Refused(refusal),
+            Reply::Faults(faults) => Reply::Faults(faults),
+            Reply::Info(info) => Reply::Info(info),
+            Reply::Runs(runs) => Reply::Runs(runs),
+            Reply::Stat(stat) => Reply::Stat(stat),
+            Reply::Refused(refusal) => Reply::Refused(refusal),
         }
     }
 }

@@ -15,9 +15,9 @@ pub enum ChildKind {
 }
 
 /// A command, one call on the kernel. Offsets, lengths, sizes and addresses are in bytes; an offset is
-/// counted from the first byte of its VMO or region.
+/// counted from the first byte of its VMO or region. `B` is the bytes that it writes.
 #[derive(Drop)]
-pub enum Command {
+pub enum Command<B: Drop = Bytes4k> {
     /// Makes a VMO whose pages are all zeros (`zx_vmo_create`). Its size is rounded up to whole pages.
     VmoCreate {
         name: VmoName,
@@ -57,7 +57,7 @@ pub enum Command {
     VmoWrite {
         name: VmoName,
         offset: u64,
-        bytes: Bytes4k,
+        bytes: B,
     },
     /// Writes one byte to every place of a range.
     VmoFill {
@@ -153,7 +153,7 @@ pub enum Command {
     MemWrite {
         region: RegionName,
         addr: u64,
-        bytes: Bytes4k,
+        bytes: B,
     },
     /// Asks how many frames and VMOs there are (`ZX_INFO_KMEM_STATS`).
     Stat,

@@ -3,8 +3,8 @@
 ghost use Rattle.std.specs.Prelude.{true, ℕ, List, ◌≡◌, ◌≢◌, ◌+◌, ◌≤◌};
 ghost use Rattle.std.specs.List.{AllByRecursion};
 ghost use Rattle.vm_base.specs.declared.refusal.Refusal.TheVariants.{HostMemory};
-ghost use Rattle.vm_model.specs.declared.command.Command.{Command};
-ghost use Rattle.vm_model.specs.declared.reply.Reply.{Reply};
+ghost use Rattle.vm_model.specs.Machine.Words.{Command, Reply};
+ghost use Rattle.vm_model.specs.declared.reply.Reply.TheVariants as Reply;
 ghost use Rattle.vm_model.specs.Language.Reading.{reading, Order};
 ghost use Rattle.vm_model.specs.Language.Spelling.{HasRanges, has_spelling, spelling};
 ghost use Rattle.vm_model.specs.Machine.Machine.{Machine, empty_machine, IsGoodMachine};

@@ -32,21 +32,21 @@ pub struct Stat {
     pub vmos: u64,
 }
 
-/// The reply of the machine to a command.
+/// The reply of the machine to a command. `B` is the bytes that were read, and `N` the numbers of pinned frames.
 #[derive(Drop)]
-pub enum Reply {
+pub enum Reply<B: Drop = Bytes4k, N: Drop = PinNumbers> {
     /// It is done.
     Done,
     /// It is done, with this number.
     Number(u64),
     /// It is done, with these bytes.
-    Bytes(Bytes4k),
+    Bytes(B),
     /// It is done, and these are the frames of the pinned pages, in ascending order of the pages.
-    Pins(PinNumbers),
+    Pins(N),
     /// It is done, at this address.
     Address(u64),
     /// It is done, with so many page faults, and these bytes.
-    Access { faults: u64, bytes: Bytes4k },
+    Access { faults: u64, bytes: B },
     /// It is done, with so many page faults.
     Faults(u64),
     /// The counts of what a VMO holds.

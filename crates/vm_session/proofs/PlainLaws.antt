@@ -4,8 +4,7 @@ use Rattle.std.specs.Prelude.{OnOk, OnErr}
 use Rattle.std.specs.Io.KnownBytes.{Appends}
 use Rattle.std.proofs.lemmas.Grind.{flat_map-append}
 use Rattle.script_io.specs.Faults.{IsCutOff}
-use Rattle.vm_model.specs.declared.command.Command.{Command}
-use Rattle.vm_model.specs.declared.reply.Reply.{Reply}
+use Rattle.vm_model.specs.Machine.Words.{Command, Reply}
 use Rattle.vm_model.specs.Machine.Machine.{Machine, empty_machine}
 use Rattle.vm_model.specs.Machine.MachineStep.{MachineStep}
 use Rattle.vm_model.specs.Language.Reading.{Reading, Order, Outside, reading}

@@ -1,6 +1,6 @@
 -- The plain machine, as one that answers the lines of a script by text.
 use Rattle.std.specs.Prelude.{◌≡◌, ℕ, List}
-use Rattle.vm_model.specs.declared.reply.Reply.{Reply}
+use Rattle.vm_model.specs.Machine.Words.{Reply}
 use Rattle.vm_model.specs.Machine.Machine.{Machine, IsGoodMachine, empty_machine}
 use Rattle.vm_model.specs.Language.Text.{texts}
 use Rattle.vm_model.specs.Scripts.Run.{Gives}

@@ -3,7 +3,6 @@
 ghost use Rattle.std.specs.Prelude.{◌≡◌, ◌+◌, ◌<◌, ◌≤◌, ◌++◌, ◌^◌, length, take};
 ghost use Rattle.vm_model.specs.Contents.Content.{used, vmos_of};
 ghost use Rattle.vm_model.specs.Language.Text.{ok_line};
-ghost use Rattle.vm_model.specs.Machine.Lent.{reply_for};
 ghost use Rattle.vm_session.specs.inside.Working.{tally_text, with_reply};
 
 use page_store::PageStore;
@@ -25,7 +24,7 @@ impl Tally {
         requires ok { self.old.ok < 2 ^ 63 }
         requires refused { self.old.refused < 2 ^ 63 }
         requires host { self.old.host < 2 ^ 63 }
-        ensures { self.new ≡ with_reply self.old (reply_for answer.now) }
+        ensures { self.new ≡ with_reply self.old answer.now }
     {
         match answer {
             Answer::Refused(Refusal::HostMemory) => self.host += 1,

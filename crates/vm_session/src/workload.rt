@@ -1,7 +1,6 @@
 //! The workload that is generated from a number.
 
 ghost use Rattle.std.specs.Prelude.{◌≡◌};
-ghost use Rattle.vm_model.specs.Machine.Lent.{command_of};
 ghost use Rattle.vm_model.specs.Scripts.Workload.{command_for, number_after};
 
 use vm_base::{PAGE, VmoName};
@@ -22,7 +21,7 @@ pub(crate) fn number_after(x: u64) -> u64
 /// Returns the command that a number gives.
 #[tactic(auto, unfolding(vm_model::specs::Scripts::Workload::command_for))]
 pub(crate) fn call_for(x: u64) -> Call<'static>
-    ensures { command_of result ≡ command_for x }
+    ensures { result ≡ command_for x }
 {
     let bits = x >> 33;
     let name = VmoName((bits / 8 % 16) as u32);

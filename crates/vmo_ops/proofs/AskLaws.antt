@@ -25,7 +25,7 @@ use Rattle.vm_model.specs.Machine.Refusals.{refusals}
 use Rattle.vm_model.proofs.NamesLaws.{target_of-at, lineage_of-at}
 use Rattle.vmo_ops.specs.inside.Copies.{copies_of, IsSeenPart}
 use Rattle.vmo_ops.specs.declared.snapshots.SeenPart.{SeenPart}
-use Rattle.vm_model.specs.declared.command.Command.{Command}
+use Rattle.vm_model.specs.Machine.Words.{Command}
 use Rattle.vm_model.specs.declared.reply.Reply.TheVariants.{Refused}
 use Rattle.vm_model.specs.Machine.Step.{Step, StepAfter}
 use Rattle.vmo_ops.specs.Targets.{IsBarred}

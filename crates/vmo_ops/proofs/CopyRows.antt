@@ -11,7 +11,7 @@ use Rattle.vm_base.specs.declared.limits.TheConstants.{PAGE, VMO_PAGES}
 use Rattle.vm_base.specs.declared.names.VmoName.{VmoName}
 use Rattle.vm_base.specs.declared.refusal.Refusal.TheVariants.{BadHandle, NameInUse, InvalidArgs, OutOfRange, NoMemory, HostMemory}
 use Rattle.vm_base.proofs.SearchLaws.{count_below_less}
-use Rattle.vm_model.specs.declared.command.Command.{Command}
+use Rattle.vm_model.specs.Machine.Words.{Command, Reply}
 use Rattle.vm_model.specs.declared.command.Command.TheVariants.{VmoChild}
 use Rattle.vm_model.specs.declared.command.ChildKind.TheVariants.{Snapshot as SnapshotChild}
 use Rattle.vm_model.specs.declared.names.Origin.TheVariants.{Snapshot}
@@ -274,7 +274,7 @@ module _ {s : State} {name parent : VmoName} {t : Target} {offset size : ℕ} {r
         let owned : OwnsAll (snapshotted s.content t.koid.0 (t.first + start) (seen_pages s.content t start pages) pages) s.content.next (pinned_copies s t start pages) new.content =
         subst (λ (c : Content). OwnsAll c s.content.next (pinned_copies s t start pages) new.content) made
         (subst (λ (ps : List ℕ). OwnsAll (snapshotted s.content t.koid.0 first seen pages) s.content.next ps new.content) copies-all owns) in
-        Step-done s command Done new none (subst (λ (x : Target). (Done ≡ Done) × (new ≡ record (with_snapshot s name.0 x start pages resizable no_write) { content = new.content })
+        Step-done s command Done new none (subst (λ (x : Target). (◌≡◌ {A = Reply} Done Done) × (new ≡ record (with_snapshot s name.0 x start pages resizable no_write) { content = new.content })
         × OwnsAll (with_snapshot s name.0 x start pages resizable no_write).content s.content.next (pinned_copies s x start pages) new.content) target (refl, is, owned))
 
     -- the same, by what the store and the table answered

@@ -9,8 +9,7 @@ use Rattle.vm_model.specs.declared.reply.Reply.TheVariants.{Done}
 use Rattle.vmo_ops.specs.Targets.{IsPlaced}
 use Rattle.vm_base.specs.declared.limits.TheConstants.{PAGE}
 use Rattle.vm_base.specs.declared.refusal.Refusal.{Refusal}
-use Rattle.vm_model.specs.declared.command.Command.{Command}
-use Rattle.vm_model.specs.declared.reply.Reply.{Reply}
+use Rattle.vm_model.specs.Machine.Words.{Command, Reply}
 use Rattle.vm_model.specs.declared.names.Target.{Target}
 use Rattle.vm_model.specs.Machine.State.{State, is_open, name_pages, size_of}
 use Rattle.vm_model.specs.Machine.Refusals.{refusals, first_of}
@@ -48,5 +47,5 @@ module _ (s : State) (n : ℕ) (target : Target) (named : s.names n ≡ Some tar
       let same : d ≡ zeroed s.content target.koid.0 ((target.first * PAGE + offset) / PAGE) ((target.first * PAGE + (offset + len)) / PAGE) =
       left ∙ (λ i. zeroed s.content target.koid.0 (from i) (to i)) in
       Step-done s (VmoDecommit name offset len) Done (record s { content = d }) none
-      (subst (λ (t : Target). (Done ≡ Done) × (record s { content = d } ≡ record s { content = zeroed s.content t.koid.0 ((t.first * PAGE + offset) / PAGE) ((t.first * PAGE + (offset + len)) / PAGE) }))
+      (subst (λ (t : Target). (◌≡◌ {A = Reply} Done Done) × (record s { content = d } ≡ record s { content = zeroed s.content t.koid.0 ((t.first * PAGE + offset) / PAGE) ((t.first * PAGE + (offset + len)) / PAGE) }))
       (sym (target_of-at s name.0 target (subst (λ (m : ℕ). s.names m ≡ Some target) is named))) (refl, λ i. record s { content = same i }))

@@ -3,9 +3,9 @@
 ghost use Rattle.std.specs.Prelude.{◌≡◌, ◌≢◌, ◌+◌, ◌*◌, ◌/◌, ◌%◌, ◌<◌, ◌≤◌, ◌^◌, ◌⊎◌, ◌==◌, ◌&&◌, ◌||◌, not, Bool, None, Some, IsSome, IfNone, IfSome, IfOk, MatchResult};
 ghost use Rattle.vm_base.specs.Pages.{rounded};
 ghost use Rattle.vm_base.specs.declared.names.VmoName.{VmoName};
-ghost use Rattle.vm_model.specs.declared.command.Command.{Command};
+ghost use Rattle.vm_model.specs.declared.reply.Reply.TheVariants as Reply;
+ghost use Rattle.vm_model.specs.declared.command.Command.TheVariants as Command;
 ghost use Rattle.vm_model.specs.declared.command.ChildKind.TheVariants.{Slice, Reference};
-ghost use Rattle.vm_model.specs.declared.reply.Reply.{Reply};
 ghost use Rattle.vm_model.specs.Contents.Content.{Content, IsGood};
 ghost use Rattle.vm_model.specs.Naming.Names.{is_kind};
 ghost use Rattle.vm_model.specs.Machine.State.{State, name_pages};

@@ -1,8 +1,8 @@
 //! Committing pages (`ZX_VMO_OP_COMMIT`).
 
 ghost use Rattle.std.specs.Prelude.{◌+◌, ◌*◌, ◌≤◌, IfOk};
-ghost use Rattle.vm_model.specs.declared.command.Command.{Command};
-ghost use Rattle.vm_model.specs.declared.reply.Reply.{Reply};
+ghost use Rattle.vm_model.specs.declared.reply.Reply.TheVariants as Reply;
+ghost use Rattle.vm_model.specs.declared.command.Command.TheVariants as Command;
 ghost use Rattle.vm_model.specs.Contents.Content.{pages_of, used, IsGood};
 ghost use Rattle.vm_model.specs.Contents.Owning.{need, OwnsAll};
 ghost use Rattle.vm_model.specs.Machine.Step.{reply_of};

@@ -4,8 +4,8 @@ ghost use Rattle.std.specs.Prelude.{◌≡◌, ◌/◌, ◌<◌, ◌≤◌, Bool
 ghost use Rattle.vm_base.specs.Pages.{rounded};
 ghost use Rattle.vm_base.specs.declared.limits.TheConstants.{KOIDS};
 ghost use Rattle.vm_base.specs.declared.names.VmoName.{VmoName};
-ghost use Rattle.vm_model.specs.declared.command.Command.{Command};
-ghost use Rattle.vm_model.specs.declared.reply.Reply.{Reply};
+ghost use Rattle.vm_model.specs.declared.reply.Reply.TheVariants as Reply;
+ghost use Rattle.vm_model.specs.declared.command.Command.TheVariants as Command;
 ghost use Rattle.vm_model.specs.Machine.State.{State};
 ghost use Rattle.vm_model.specs.Machine.Refusals.{refusals, first_of};
 ghost use Rattle.vm_model.specs.Machine.Step.{Step, reply_of};

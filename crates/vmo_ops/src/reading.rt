@@ -3,8 +3,8 @@
 ghost use Rattle.std.specs.Prelude.{◌≡◌, ◌+◌, ◌*◌, ◌<◌, ◌≤◌, None, Some, MatchResult, length};
 ghost use Rattle.vm_base.specs.declared.limits.TheConstants.{DATA_BYTES};
 ghost use Rattle.vm_base.specs.declared.names.VmoName.{VmoName};
-ghost use Rattle.vm_model.specs.declared.command.Command.{Command};
-ghost use Rattle.vm_model.specs.declared.reply.Reply.{Reply};
+ghost use Rattle.vm_model.specs.declared.reply.Reply.TheVariants as Reply;
+ghost use Rattle.vm_model.specs.declared.command.Command.TheVariants as Command;
 ghost use Rattle.vm_model.specs.Contents.Content.{pages_of, IsGood};
 ghost use Rattle.vm_model.specs.Contents.Writing.{bytes_in};
 ghost use Rattle.vm_model.specs.Machine.Step.{reply_of};

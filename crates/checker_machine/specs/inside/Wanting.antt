@@ -1,6 +1,6 @@
 -- Whether a command may want memory of the host: nothing refuses it, and it may lack memory.
 use Rattle.std.specs.Prelude.{Bool, not, ◌&&◌, is_some}
-use Rattle.vm_model.specs.declared.command.Command.{Command}
+use Rattle.vm_model.specs.Machine.Words.{Command}
 use Rattle.vm_model.specs.Machine.State.{State}
 use Rattle.vm_model.specs.Machine.Refusals.{refusals, first_of}
 use Rattle.vm_model.specs.Machine.Step.{may_lack_memory}

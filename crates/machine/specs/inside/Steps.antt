@@ -1,7 +1,6 @@
 -- What the handlers of commands ask and promise of the pages and the tables that they are given.
 use Rattle.std.specs.Prelude.{◌≡◌, ℕ, Option}
-use Rattle.vm_model.specs.declared.command.Command.{Command}
-use Rattle.vm_model.specs.declared.reply.Reply.{Reply}
+use Rattle.vm_model.specs.Machine.Words.{Command, Reply}
 use Rattle.vm_model.specs.Contents.Content.{Content}
 use Rattle.vm_model.specs.Machine.State.{IsGoodState}
 use Rattle.vm_model.specs.Machine.Given.{GivesName}

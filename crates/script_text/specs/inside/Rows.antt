@@ -1,6 +1,6 @@
 -- The table of commands by the lengths of their words.
 use Rattle.std.specs.Prelude.{ℕ, ◌==◌, List, length, filter, Option}
-use Rattle.vm_model.specs.declared.command.Command.{Command}
+use Rattle.vm_model.specs.Machine.Words.{Command}
 use Rattle.vm_model.specs.Language.Reading.{commands}
 
 -- the rows of command words of so many bytes

@@ -1,5 +1,5 @@
 -- What a command is about, by which its arguments are written.
-use Rattle.vm_model.specs.declared.command.Command.{Command}
+use Rattle.vm_model.specs.Machine.Words.{Command}
 use Rattle.vm_model.specs.declared.command.Command.TheVariants.{VmoCreate, VmoChild, VmoClose, VmoSize, VmoSetSize}
 use Rattle.vm_model.specs.declared.command.Command.TheVariants.{VmoInfo, RootCreate, VmarAllocate, VmarMap}
 use Rattle.vm_model.specs.declared.command.Command.TheVariants.{VmarUnmap, VmarProtect, VmarDestroy, Maps, MemRead}

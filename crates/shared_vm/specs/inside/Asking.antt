@@ -2,7 +2,7 @@
 use Rattle.std.specs.Prelude.{ℕ, ◌+◌, ◌/◌, min, drop}
 use Rattle.std.specs.List.{sum_by}
 use Rattle.vm_base.specs.declared.limits.TheConstants.{DATA_BYTES, PAGE, PIN_PAGES}
-use Rattle.vm_model.specs.declared.command.Command.{Command}
+use Rattle.vm_model.specs.Machine.Words.{Command}
 use Rattle.vm_model.specs.declared.command.Command.TheVariants.{VmoRead, MemRead, VmoPin}
 use Rattle.shared_vm.specs.declared.counts.Counts.{Counts}
 use Rattle.shared_vm.specs.declared.task.Task.{Task}

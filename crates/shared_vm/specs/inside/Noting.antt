@@ -2,8 +2,8 @@
 use Rattle.std.specs.Prelude.{◌≡◌, ℕ, ◌-◌, ◌≤◌, List, ◌++◌, length, map}
 use Rattle.std.specs.List.{All}
 use Rattle.vm_base.specs.declared.limits.TheConstants.{DATA_BYTES, PIN_PAGES}
-use Rattle.vm_model.specs.declared.reply.Reply.{Reply}
-use Rattle.vm_model.specs.Machine.Lent.{reply_for}
+use Rattle.vm_model.specs.Machine.Words.{Reply}
+use Rattle.vm_model.specs.declared.reply.Reply.TheVariants as Reply
 use Rattle.shared_vm.specs.declared.task.Deed.{Deed}
 use Rattle.shared_vm.specs.declared.place.Place.{Place}
 use Rattle.shared_vm.specs.declared.notes.Kept.{Kept}
@@ -18,7 +18,7 @@ pub record Noted : Type 0 where
 
 -- the reply that was kept
 abbrev pub reply_at : List ℕ → List ℕ → Kept → Reply
-reply_at bytes numbers (Kept.Plain answer) = reply_for answer
+reply_at bytes numbers (Kept.Plain answer) = answer
 reply_at bytes numbers (Kept.Bytes place) = Reply.Bytes (items_at bytes place)
 reply_at bytes numbers (Kept.Access faults place) = Reply.Access faults (items_at bytes place)
 reply_at bytes numbers (Kept.Pins place) = Reply.Pins (items_at numbers place)

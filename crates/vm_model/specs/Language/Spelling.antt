@@ -6,7 +6,7 @@ use Rattle.vm_base.specs.declared.names.RegionName.{RegionName}
 use Rattle.vm_base.specs.declared.names.PinName.{PinName}
 use Rattle.vm_model.specs.declared.command.ChildKind.{ChildKind}
 use Rattle.vm_model.specs.declared.command.ChildKind.TheVariants.{Snapshot, Slice, Reference}
-use Rattle.vm_model.specs.declared.command.Command.{Command}
+use Rattle.vm_model.specs.Machine.Words.{Command}
 use Rattle.vm_model.specs.declared.command.Command.TheVariants.{VmoCreate, VmoChild, VmoClose, VmoSize, VmoSetSize, VmoRead, VmoWrite, VmoFill, VmoCommit, VmoDecommit, VmoZero, VmoPin, VmoUnpin, VmoInfo, RootCreate, VmarAllocate, VmarMap, VmarUnmap, VmarProtect, VmarDestroy, Maps, MemRead, MemWrite, Stat}
 use Rattle.vm_model.specs.Space.Rights.{has, reading, writing, executing, all_rights, specific, overwrite, upper_limit, allow_faults, all_options}
 use Rattle.vm_model.specs.Language.Text.{data_text, perm_text}

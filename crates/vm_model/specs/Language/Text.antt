@@ -6,7 +6,7 @@ use Rattle.hex.specs.Hex.{encode_lower}
 use Rattle.vm_base.specs.declared.refusal.Refusal.{Refusal}
 use Rattle.vm_base.specs.declared.refusal.Refusal.TheVariants.{Syntax, BadHandle, NameInUse, BadState, AccessDenied, InvalidArgs, NotSupported, Unavailable, OutOfRange, BufferTooSmall, NotFound, AlreadyExists, NoResources, NoMemory, HostMemory}
 use Rattle.vm_model.specs.Space.Rights.{has, reading, writing, executing}
-use Rattle.vm_model.specs.declared.reply.Reply.{Reply}
+use Rattle.vm_model.specs.Machine.Words.{Reply}
 use Rattle.vm_model.specs.declared.reply.Reply.TheVariants.{Done, Number, Bytes, Pins, Address, Access, Faults, Info as InfoReply, Runs as RunsReply, Stat as StatReply, Refused}
 use Rattle.vm_model.specs.declared.reply.Info.{Info}
 use Rattle.vm_model.specs.declared.reply.Stat.{Stat}

@@ -1,7 +1,7 @@
 -- The name, pin or region that a command gives.
 use Rattle.std.specs.Prelude.{◌<◌}
 use Rattle.vm_base.specs.declared.limits.TheConstants.{NAMES}
-use Rattle.vm_model.specs.declared.command.Command.{Command}
+use Rattle.vm_model.specs.Machine.Words.{Command}
 use Rattle.vm_model.specs.declared.command.Command.TheVariants.{VmoCreate, VmoChild, VmoPin, RootCreate, VmarAllocate}
 
 -- the name, the pin or the region that a command gives, if any, is one that there is

@@ -1,6 +1,6 @@
 -- How far a workload was done, and what became of its commands.
 use Rattle.std.specs.Prelude.{◌≡◌, ℕ, ◌+◌, ◌++◌, Bool, cond, List, codes}
-use Rattle.vm_model.specs.declared.reply.Reply.{Reply}
+use Rattle.vm_model.specs.Machine.Words.{Reply}
 use Rattle.vm_model.specs.Language.Text.{field}
 use Rattle.vm_model.specs.Machine.Machine.{Machine}
 use Rattle.vm_model.specs.Scripts.Workload.{workload, StepsThrough, is_success, is_refusal, is_lack, reply_count}

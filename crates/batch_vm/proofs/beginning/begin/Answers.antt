@@ -3,7 +3,6 @@ use Rattle.vm_model.specs.Machine.Machine.{Machine}
 use Rattle.vm_core.specs.Vm.{machine_of}
 use Rattle.batch_model.specs.declared.command.BatchCommand.TheVariants.{Begin}
 use Rattle.batch_model.specs.Batch.{BatchStep}
-use Rattle.batch_model.specs.BatchLent.{batch_reply_for}
 use Rattle.batch_vm.specs.Jobs.{jobs_of}
 use Rattle.batch_vm.proofs.beginning.begin.Goals as goal
 
@@ -14,7 +13,7 @@ returns g c =
     let step = c.begin_open.ensures old told.0 told.1 in
     record {
       step = subst (λ (m : Machine). BatchStep (record { machine = old; jobs = jobs_of c.args.table.now }) (Begin c.args.request.job c.args.request.kind c.args.request.name c.args.request.offset c.args.request.len)
-          (batch_reply_for c.begin_open.result) (record { machine = m; jobs = jobs_of c.begin_open.new.table })) (sym c.size_of.ensures.same) step;
+          c.begin_open.result (record { machine = m; jobs = jobs_of c.begin_open.new.table })) (sym c.size_of.ensures.same) step;
       agrees = c.size_of.ensures.agrees;
       good = c.size_of.ensures.good;
       next = c.size_of.ensures.next;

@@ -1,4 +1,3 @@
-use Rattle.batch_model.specs.BatchLent.{batch_command_of, batch_reply_for}
 use Rattle.batch_vm.proofs.LineLaws.{AnswersLine-order, AnswersLine-outside, AgreesBatch-good}
 use Rattle.std.proofs.Math.Nat.{le-add_right}
 use Rattle.batch_vm.proofs.interpreter.answer_line.Goals as goal
@@ -10,7 +9,7 @@ pub returns-in-Ok-Some : goal.returns-in-Ok-Some
 returns-in-Ok-Some g c =
     let answer = c.answer-answer.ensures in
     record {
-      answer = AnswersLine-order c.args.line.now (batch_command_of c.in-Ok-Some.call) _ _ (batch_reply_for c.answer-answer.result) _ _
+      answer = AnswersLine-order c.args.line.now c.in-Ok-Some.call _ _ c.answer-answer.result _ _
           c.push_batch_answer.result (rw c.in-Ok-Some.field-0-is at c.in-Ok-Some.ensures) answer.step
           c.push_batch_answer.ensures.ok c.push_batch_answer.ensures.err;
       agrees = record { vm = answer.agrees; jobs = answer.good.jobs };

@@ -1,17 +1,16 @@
-use Rattle.std.proofs.Common.{true, false, Some, None, refl, sym, ◌∙◌, ap, option_map}
-use Rattle.vm_model.specs.Machine.Lent.{command_of}
+use Rattle.std.proofs.Common.{true, false, Some, None, refl, sym, ◌∙◌}
 use Rattle.script_text.proofs.GroupLaws.{allocate_of_flags}
 use Rattle.script_text.proofs.region_commands.vmar_allocate.Goals as goal
 
 pub returns-in_err-name : goal.returns-in_err-name
 returns-in_err-name c =
-    ap (option_map command_of) c.from_residual.ensures
+    c.from_residual.ensures
     ∙ allocate_of_flags c.args.arguments.now _ c.in-len4-up.len_at_least None _ _ _ _
     (sym c.in_err-name.was ∙ c.region.ensures) refl refl refl refl
 
 pub returns-in_err-parent : goal.returns-in_err-parent
 returns-in_err-parent c =
-    ap (option_map command_of) c.from_residual-in_err-parent.ensures
+    c.from_residual-in_err-parent.ensures
     ∙ allocate_of_flags c.args.arguments.now _ c.in-len4-up.len_at_least (Some _) None _ _ _
     (sym c.in_ok-name.was ∙ c.region.ensures) (sym c.in_err-parent.was ∙ c.range_of_region.ensures) refl refl refl
 

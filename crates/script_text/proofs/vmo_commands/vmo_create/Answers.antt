@@ -1,12 +1,11 @@
-use Rattle.std.proofs.Common.{[], ◌∷◌, true, false, Some, None, refl, sym, ◌∙◌, ap, option_map}
+use Rattle.std.proofs.Common.{[], ◌∷◌, true, false, Some, None, refl, sym, ◌∙◌, ap}
 use Rattle.vm_model.specs.Language.Reading.{are_flags}
-use Rattle.vm_model.specs.Machine.Lent.{command_of}
 use Rattle.script_text.proofs.GroupLaws.{behind, create_of_flags}
 use Rattle.script_text.proofs.vmo_commands.vmo_create.Goals as goal
 
 pub returns-in_err-name : goal.returns-in_err-name
 returns-in_err-name c =
-    ap (option_map command_of) c.from_residual.ensures
+    c.from_residual.ensures
     ∙ create_of_flags c.args.arguments.now _ c.in-len2-up.len_at_least None _ _
     (sym c.in_err-name.was ∙ c.vmo_and_number.ensures) refl refl
 

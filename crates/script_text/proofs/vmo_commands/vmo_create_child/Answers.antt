@@ -1,18 +1,17 @@
-use Rattle.std.proofs.Common.{[], ◌∷◌, codes, true, false, Some, None, refl, sym, ◌∙◌, ap, option_map}
+use Rattle.std.proofs.Common.{[], ◌∷◌, codes, true, false, Some, None, refl, sym, ◌∙◌, ap}
 use Rattle.vm_model.specs.Language.Reading.{are_flags}
-use Rattle.vm_model.specs.Machine.Lent.{command_of}
 use Rattle.script_text.proofs.GroupLaws.{behind, child_of_flags}
 use Rattle.script_text.proofs.vmo_commands.vmo_create_child.Goals as goal
 
 pub returns-in_err-name : goal.returns-in_err-name
 returns-in_err-name c =
-    ap (option_map command_of) c.from_residual.ensures
+    c.from_residual.ensures
     ∙ child_of_flags c.args.arguments.now _ c.in-len5-up.len_at_least None _ _ _ _
     (sym c.in_err-name.was ∙ c.child.ensures) refl refl refl refl
 
 pub returns-in_err-offset : goal.returns-in_err-offset
 returns-in_err-offset c =
-    ap (option_map command_of) c.from_residual-in_err-offset.ensures
+    c.from_residual-in_err-offset.ensures
     ∙ child_of_flags c.args.arguments.now _ c.in-len5-up.len_at_least (Some _) None _ _ _
     (sym c.in_ok-name.was ∙ c.child.ensures) (sym c.in_err-offset.was ∙ c.range.ensures) refl refl refl
 

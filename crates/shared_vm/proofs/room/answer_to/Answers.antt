@@ -1,5 +1,4 @@
 use Rattle.std.proofs.Math.Nat.{le-add_right}
-use Rattle.vm_model.specs.Machine.Lent.{command_of, reply_for}
 use Rattle.shared_vm.proofs.TaskLaws.{task_order, task_blank, task_outside}
 use Rattle.shared_vm.proofs.RunLaws.{does_order, does_outside}
 use Rattle.shared_vm.proofs.room.answer_to.Goals as goal
@@ -8,8 +7,8 @@ pub returns-in-Ok-Some : goal.returns-in-Ok-Some
 returns-in-Ok-Some g c =
     let answer = c.answer.ensures in
     record {
-      does = does_order _ (command_of c.in-Ok-Some.call) (reply_for c.answer.result) _ _
-          (task_order c.args.line.now (command_of c.in-Ok-Some.call) (rw c.in-Ok-Some.field-0-is at c.in-Ok-Some.ensures)) answer.step;
+      does = does_order _ c.in-Ok-Some.call c.answer.result _ _
+          (task_order c.args.line.now c.in-Ok-Some.call (rw c.in-Ok-Some.field-0-is at c.in-Ok-Some.ensures)) answer.step;
       agrees = answer.agrees;
       next = answer.next;
     }

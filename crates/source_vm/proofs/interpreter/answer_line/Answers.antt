@@ -1,11 +1,9 @@
-use Rattle.vm_model.specs.Machine.Lent.{reply_for}
-use Rattle.source_model.specs.Lent.{source_command_of}
 use Rattle.source_vm.proofs.LineLaws.{AnswersLine-order, AnswersLine-outside}
 use Rattle.source_vm.proofs.interpreter.answer_line.Goals as goal
 
 pub returns-in-Ok-Some-clause-answer : goal.returns-in-Ok-Some-clause-answer
 returns-in-Ok-Some-clause-answer g c =
-    AnswersLine-order c.args.line.now (source_command_of c.in-Ok-Some.call) _ _ (reply_for c.answer-answer.result) _ _
+    AnswersLine-order c.args.line.now c.in-Ok-Some.call _ _ c.answer-answer.result _ _
     c.push_answer.result (rw c.in-Ok-Some.field-0-is at c.in-Ok-Some.ensures) c.answer-answer.ensures.step
     c.push_answer.ensures.ok c.push_answer.ensures.err
 

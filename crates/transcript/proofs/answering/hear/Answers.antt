@@ -1,6 +1,6 @@
 use Rattle.std.proofs.Common.{Option, Ok, sym, ap, ◌∙◌, eqb}
 use Rattle.std.specs.Cmp.Lexicographic.{pointwise}
-use Rattle.vm_model.specs.declared.call.Call.{Call}
+use Rattle.vm_model.specs.Machine.Words.{Command}
 use Rattle.script_text.specs.Lines.{reading_of_call}
 use Rattle.transcript.proofs.HearLaws.{outside_heard}
 use Rattle.transcript.proofs.answering.hear.Goals as goal
@@ -11,12 +11,12 @@ hear_order-requires-clause-stands c = c.requires.stands
 pub returns-in-Ok-Some : goal.returns-in-Ok-Some
 returns-in-Ok-Some c = record {
   heard = λ frames before stands.
-      c.hear_order.ensures frames before c.args.pending.now stands (sym c.read_call.ensures ∙ (ap reading_of_call c.in-Ok-Some.is ∙ ap (λ (call : Option Call). reading_of_call (Ok call)) c.in-Ok-Some.field-0-is));
+      c.hear_order.ensures frames before c.args.pending.now stands (sym c.read_call.ensures ∙ (ap reading_of_call c.in-Ok-Some.is ∙ ap (λ (call : Option Command). reading_of_call (Ok call)) c.in-Ok-Some.field-0-is));
 }
 
 pub returns-in-Ok-None : goal.returns-in-Ok-None
 returns-in-Ok-None c = record {
-  heard = λ frames before stands. absurd (c.requires.asks (sym c.read_call.ensures ∙ (ap reading_of_call c.in-Ok-None.is ∙ ap (λ (call : Option Call). reading_of_call (Ok call)) c.in-Ok-None.field-0-is)));
+  heard = λ frames before stands. absurd (c.requires.asks (sym c.read_call.ensures ∙ (ap reading_of_call c.in-Ok-None.is ∙ ap (λ (call : Option Command). reading_of_call (Ok call)) c.in-Ok-None.field-0-is)));
 }
 
 pub returns-in-Err : goal.returns-in-Err

@@ -1,6 +1,5 @@
 use Rattle.std.proofs.Math.Nat.{le-add_right}
 use Rattle.vm_core.proofs.AgreeLaws.{agrees_good}
-use Rattle.vm_model.specs.Machine.Lent.{command_of, reply_for}
 use Rattle.vm_session.proofs.PlainLaws.{AnswersLine-order, AnswersLine-outside}
 use Rattle.vm_session.proofs.interpreter.answer_line.Goals as goal
 
@@ -8,7 +7,7 @@ pub returns-in-Ok-Some : goal.returns-in-Ok-Some
 returns-in-Ok-Some g c =
     let answer = c.answer-answer.ensures in
     record {
-      answer = AnswersLine-order c.args.line.now (command_of c.in-Ok-Some.call) _ _ (reply_for c.answer-answer.result) _ _
+      answer = AnswersLine-order c.args.line.now c.in-Ok-Some.call _ _ c.answer-answer.result _ _
           c.push_answer.result (rw c.in-Ok-Some.field-0-is at c.in-Ok-Some.ensures) answer.step
           c.push_answer.ensures.ok c.push_answer.ensures.err;
       agrees = answer.agrees;

@@ -1,4 +1,5 @@
 use Rattle.std.proofs.Common.{◌≡◌, refl, sym, subst}
+use Rattle.vm_model.specs.Machine.Words.{Reply}
 use Rattle.vm_model.specs.declared.command.Command.TheVariants.{VmoChild}
 use Rattle.vm_model.specs.declared.command.ChildKind.TheVariants.{Reference}
 use Rattle.vm_model.specs.declared.names.Target.{Target}
@@ -29,5 +30,5 @@ returns-clause-step c = λ d s parent named.
     let lineage = rw c.reserve.ensures.lineage at c.alias.ensures.lineage in
     Step-done old (VmoChild c.args.name parent Reference c.args.shape.offset c.args.shape.size c.args.shape.resizable c.args.shape.no_write) Done _
     (sym (c.in-Ok.ensures (λ (r : State). with_vmos r d c.args.vmos.now) s c.args.name parent named c.requires.closed))
-    (subst (λ (t : Target). (Done ≡ Done) × (with_vmos s d c.alias.new.self ≡ with_alias old c.args.name.0 (reference_of t c.args.shape.resizable c.args.shape.no_write)))
+    (subst (λ (t : Target). (◌≡◌ {A = Reply} Done Done) × (with_vmos s d c.alias.new.self ≡ with_alias old c.args.name.0 (reference_of t c.args.shape.resizable c.args.shape.no_write)))
     (sym (target_of-at old parent.0 c.args.t.now named)) (refl, λ i. record old { names = names i; lineage = lineage i }))

@@ -1,6 +1,7 @@
 use Rattle.std.proofs.Common.{◌≡◌, ◌/◌, refl, sym, subst, arith}
 use Rattle.vm_base.specs.Pages.{rounded}
 use Rattle.vm_base.specs.declared.limits.TheConstants.{PAGE}
+use Rattle.vm_model.specs.Machine.Words.{Reply}
 use Rattle.vm_model.specs.declared.command.Command.TheVariants.{VmoChild}
 use Rattle.vm_model.specs.declared.command.ChildKind.TheVariants.{Slice}
 use Rattle.vm_model.specs.declared.names.Target.{Target}
@@ -42,5 +43,5 @@ returns-clause-step g c = λ s parent named.
     let names = rw (c.reserve.ensures.names, c.slice_target.ensures, c.page_of.ensures, asked.1) at c.alias.ensures.names in
     let lineage = rw c.reserve.ensures.lineage at c.alias.ensures.lineage in
     Step-done old (VmoChild c.args.name parent Slice c.args.shape.offset c.args.shape.size c.args.shape.resizable c.args.shape.no_write) Done _ (sym (asked.0 s c.args.name parent named c.requires.closed))
-    (subst (λ (t : Target). (Done ≡ Done) × (with_vmos s (g.P.PageStore.content c.args.store.now) c.alias.new.self ≡ with_alias old c.args.name.0 (slice_of t (c.args.shape.offset / PAGE) (rounded c.args.shape.size / PAGE) c.args.shape.no_write)))
+    (subst (λ (t : Target). (◌≡◌ {A = Reply} Done Done) × (with_vmos s (g.P.PageStore.content c.args.store.now) c.alias.new.self ≡ with_alias old c.args.name.0 (slice_of t (c.args.shape.offset / PAGE) (rounded c.args.shape.size / PAGE) c.args.shape.no_write)))
     (sym (target_of-at old parent.0 c.args.t.now named)) (refl, λ i. record old { names = names i; lineage = lineage i }))

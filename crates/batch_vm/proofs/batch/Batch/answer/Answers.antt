@@ -1,5 +1,4 @@
 use Rattle.std.proofs.Common.{inl, refl}
-use Rattle.vm_model.specs.Machine.Lent.{reply_for}
 use Rattle.vm_core.specs.Vm.{machine_of}
 use Rattle.vm_core.proofs.AgreeLaws.{agrees_good}
 use Rattle.batch_model.specs.Batch.{AreGoodJobs}
@@ -45,7 +44,7 @@ returns-in-Drop-clause-good g c = record { machine = agrees_good _ _ (rw (← c.
 
 pub returns-in-Plain-clause-step : goal.returns-in-Plain-clause-step
 returns-in-Plain-clause-step g c =
-    rw (← c.self.view_is, c.in-Plain.is) (record { outcome = inl (record { answer = reply_for c.answer.result; step = c.answer.ensures.step; is = refl; jobs = refl }) })
+    rw (← c.self.view_is, c.in-Plain.is) (record { outcome = inl (record { answer = c.answer.result; step = c.answer.ensures.step; is = refl; jobs = refl }) })
 
 pub returns-in-Begin-clause-step : goal.returns-in-Begin-clause-step
 returns-in-Begin-clause-step g c = rw (← c.self.view_is, c.in-Begin.is) c.begin.ensures.step

@@ -1,4 +1,3 @@
-use Rattle.vm_model.specs.Machine.Lent.{command_of}
 use Rattle.checker_machine.specs.Machine.{CheckerParts, checker_machine_of}
 use Rattle.checker_machine.specs.inside.Fields.{checker_parts_of}
 use Rattle.checker_machine.proofs.AnswerLaws.{outcome_lack, outcome_placed, outcome_step}
@@ -17,7 +16,7 @@ invariant_of-self c = c.answer_told-given.ensures.sound
 pub returns : goal.returns
 unfolding checker_machine_of
 returns c =
-    let command = command_of c.args.call.now in
+    let command = c.args.call.now in
     let after : CheckerParts = record { pages = c.answer_told-given.new.pages; machine = c.answer_told-given.new.self } in
     rw (← c.self.view_is) (record {
       step = outcome_step (checker_machine_of (checker_parts_of c.self.inside)) (checker_machine_of after) command c.args.told c.answer_told-given.result c.own.result c.own.ensures.given c.answer_told-given.ensures.step;

@@ -1,4 +1,3 @@
-use Rattle.vm_model.specs.Machine.Lent.{command_of, reply_for}
 use Rattle.machine.specs.Machine.{state_of}
 use Rattle.machine.specs.inside.Fields.{parts_of}
 use Rattle.machine.proofs.AnswerLaws.{Answers, answered, same_answered}
@@ -7,11 +6,11 @@ use Rattle.machine.proofs.machine.Machine.answer_told.Goals as goal
 
 -- what an access did
 accessed : (g : given.Over) (c : goal.After-on_memory g)
-    → Answers g.R.ReadyNotes.ready g.R.ReadyNotes.AreTrue (g.P.PageStore.content c.args.pages.now) (parts_of c.self.inside.tables c.self.inside.ready) (command_of c.args.call.now) (reply_for c.on_memory.result)
+    → Answers g.R.ReadyNotes.ready g.R.ReadyNotes.AreTrue (g.P.PageStore.content c.args.pages.now) (parts_of c.self.inside.tables c.self.inside.ready) c.args.call.now c.on_memory.result
     (g.P.PageStore.content c.on_memory.new.pages) (parts_of c.self.inside.tables c.on_memory.new.ready)
 accessed g c =
     let sound = rw (← c.self.view_is) at c.requires.sound in
-    answered g.R.ReadyNotes.ready g.R.ReadyNotes.AreTrue (g.P.PageStore.content c.args.pages.now) (parts_of c.self.inside.tables c.self.inside.ready) (command_of c.args.call.now) (reply_for c.on_memory.result)
+    answered g.R.ReadyNotes.ready g.R.ReadyNotes.AreTrue (g.P.PageStore.content c.args.pages.now) (parts_of c.self.inside.tables c.self.inside.ready) c.args.call.now c.on_memory.result
     (g.P.PageStore.content c.on_memory.new.pages) (parts_of c.self.inside.tables c.on_memory.new.ready) sound c.on_memory.ensures.name c.on_memory.ensures.step c.on_memory.ensures.notes
 
 pub returns-in-Memory-clause-step : goal.returns-in-Memory-clause-step
@@ -28,11 +27,11 @@ returns-in-Memory-clause-frames g c = (accessed g c).keeps.frames
 
 -- what a question about the whole machine answered
 asked : (g : given.Over) (c : goal.After-on_machine g)
-    → Answers g.R.ReadyNotes.ready g.R.ReadyNotes.AreTrue (g.P.PageStore.content c.args.pages.now) c.args.self.now (command_of c.args.call.now) (reply_for c.on_machine.result)
+    → Answers g.R.ReadyNotes.ready g.R.ReadyNotes.AreTrue (g.P.PageStore.content c.args.pages.now) c.args.self.now c.args.call.now c.on_machine.result
     (g.P.PageStore.content c.args.pages.now) c.args.self.now
 asked g c =
     let s = state_of (g.P.PageStore.content c.args.pages.now) c.args.self.now in
-    same_answered g.R.ReadyNotes.ready g.R.ReadyNotes.AreTrue (g.P.PageStore.content c.args.pages.now) c.args.self.now (command_of c.args.call.now) (reply_for c.on_machine.result)
+    same_answered g.R.ReadyNotes.ready g.R.ReadyNotes.AreTrue (g.P.PageStore.content c.args.pages.now) c.args.self.now c.args.call.now c.on_machine.result
     c.requires.sound c.on_machine.ensures.name (c.on_machine.ensures.step s) (c.on_machine.ensures.change s)
 
 pub returns-in-Machine-clause-step : goal.returns-in-Machine-clause-step

@@ -1,4 +1,3 @@
-use Rattle.vm_model.specs.Machine.Lent.{command_of, reply_for}
 use Rattle.machine.specs.inside.Fields.{state_in, parts_of}
 use Rattle.machine.proofs.AnswerLaws.{Answers, change_bounded, command_answered}
 use Rattle.machine.proofs.machine.Machine.perform.Given as given
@@ -10,18 +9,18 @@ on_tables-requires-clause-sound g c = record { good = (rw (← c.self.view_is) a
 pub apply-requires : goal.apply-requires
 apply-requires g c =
     let does = c.in-Some.ensures.does in record {
-      bounded = change_bounded (state_in (g.P.PageStore.content c.args.pages.now) c.self.inside.tables) (command_of c.args.call.now) (reply_for c.in-Some.answer)
+      bounded = change_bounded (state_in (g.P.PageStore.content c.args.pages.now) c.self.inside.tables) c.args.call.now c.in-Some.answer
           (state_in (g.P.PageStore.content c.on_tables.new.pages) c.on_tables.new.tables) c.in-Some.change (rw (← c.self.view_is) at c.requires.sound).good.state does.step does.changes;
     }
 
 -- what was done
 performed : (g : given.Over) (c : goal.After-apply g)
-    → Answers g.R.ReadyNotes.ready g.R.ReadyNotes.AreTrue (g.P.PageStore.content c.args.pages.now) (parts_of c.self.inside.tables c.self.inside.ready) (command_of c.args.call.now) (reply_for c.in-Some.answer)
+    → Answers g.R.ReadyNotes.ready g.R.ReadyNotes.AreTrue (g.P.PageStore.content c.args.pages.now) (parts_of c.self.inside.tables c.self.inside.ready) c.args.call.now c.in-Some.answer
     (g.P.PageStore.content c.on_tables.new.pages) (parts_of c.on_tables.new.tables c.apply.new.self)
 performed g c =
     let sound = rw (← c.self.view_is) at c.requires.sound in
     let does = c.in-Some.ensures.does in
-    command_answered g.R.ReadyNotes.ready g.R.ReadyNotes.AreTrue (g.P.PageStore.content c.args.pages.now) (parts_of c.self.inside.tables c.self.inside.ready) (command_of c.args.call.now) (reply_for c.in-Some.answer)
+    command_answered g.R.ReadyNotes.ready g.R.ReadyNotes.AreTrue (g.P.PageStore.content c.args.pages.now) (parts_of c.self.inside.tables c.self.inside.ready) c.args.call.now c.in-Some.answer
     (g.P.PageStore.content c.on_tables.new.pages) (parts_of c.on_tables.new.tables c.apply.new.self) sound does.name c.in-Some.change does.step does.changes c.apply.ensures.left c.apply.ensures.notes
 
 pub returns-in-Some-clause-step : goal.returns-in-Some-clause-step
