@@ -47,9 +47,11 @@ def program_for(asked, tool):
     return program
 
 
-def run(program, words, data):
-    """Runs a program on words and on bytes, and returns what it did."""
+def run(program, words, data, seconds=None):
+    """Runs a program on words and on bytes, and returns what it did. It is ended if it takes more than so many seconds."""
     try:
-        return subprocess.run([program, *words], input=data, stdout=subprocess.PIPE, check=False)
+        return subprocess.run([program, *words], input=data, stdout=subprocess.PIPE, check=False, timeout=seconds)
+    except subprocess.TimeoutExpired:
+        raise Trouble(1, f"the program {str(program)!r} takes more than {seconds} seconds") from None
     except OSError as error:
         raise Trouble(WRONG_WORD, f"cannot run {str(program)!r}: {error.strerror}") from None

@@ -19,12 +19,12 @@ def tree_program(asked):
     return asked.tree or built_tree()
 
 
-def tree_after(lines, asked):
-    """Returns the tree after lines of a script. None without vmotree."""
+def tree_after(lines, asked, seconds=None):
+    """Returns the tree after lines of a script, which is to be drawn in so many seconds. None without vmotree."""
     program = tree_program(asked)
     if not program:
         return None
-    ran = run(program, ["--frames", str(asked.frames)], "".join(f"{it}\n" for it in lines).encode())
+    ran = run(program, ["--frames", str(asked.frames)], "".join(f"{it}\n" for it in lines).encode(), seconds)
     if ran.returncode:
         raise Trouble(1, f"the program {program!r} ends with status {ran.returncode}")
     return "\n".join(ran.stdout.decode(errors="replace").splitlines())

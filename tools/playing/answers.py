@@ -35,7 +35,10 @@ class View:
 
     def drawn(self, machine, lines):
         """Returns the pictures after the line, and who pays."""
-        last = tree_after(lines[: self.line], self.asked)
+        return self.drawn_with(machine, tree_after(lines[: self.line], self.asked))
+
+    def drawn_with(self, machine, last):
+        """Returns the same with a tree, if there is one."""
         width = min(max(self.asked.width, LEAST), WIDEST)
         if last:
             renumber(machine, last)

@@ -120,7 +120,7 @@ async function look() {
   try {
     for (let mine = 0; mine !== looks;) {
       mine = looks;
-      const told = await post("view", {line: current, width: Math.floor(find("view").clientWidth || 600)});
+      const told = await post("view", {line: current, width: Math.floor(find("view").clientWidth || 600), tree: view === "tree"});
       if (mine === looks || told.view.line === current) shown = told.view;
       showView();
     }
@@ -131,11 +131,13 @@ async function look() {
 function showView() {
   if (!shown) return;
   find("view").dataset.line = shown.line;
-  if (view === "tree") {
+  if (view === "tree" && shown.tree === false) {
+    find("view").innerHTML = "<p>The clone tree is being drawn.</p>";
+  } else if (view === "tree") {
     find("view").innerHTML = shown.tree === null ? "<p>The clone tree is drawn by the program vmotree, which <code>./vmosim --tree</code> compiles, and for the word run alone.</p>"
       : shown.tree.startsWith("<svg") ? shown.tree : `<pre>${escaped(shown.tree || "no VMO, so no tree")}</pre>`;
-    return;
   }
+  if (view === "tree") return;
   const pays = shown.pays.slice(0, 12).map(([one, count]) => `${escaped(one)} <b>${count}</b>`).join(", ") + (shown.pays.length > 12 ? ", .." : "");
   find("view").innerHTML = `${shown.picture}<p class="pays">${shown.used} frame${shown.used === 1 ? "" : "s"} used${pays ? `; who pays: ${pays}` : ""}</p>`;
 }
@@ -151,6 +153,8 @@ function choose(button) {
   view = button.dataset.view;
   for (const it of document.querySelectorAll("[role=tab]")) it.setAttribute("aria-selected", String(it === button));
   showView();
+  // A tree that takes long is drawn only now.
+  if (view === "tree" && shown && shown.tree === false) look();
 }
 
 function wire() {

@@ -11,6 +11,7 @@ import time
 from looking.drawing import marks_of
 from looking.page import record_of
 from looking.texts import Ranks
+from looking.trees import tree_after, tree_program
 from looking.turns import MACHINES, Said, follow
 from machine_model import PAGE, Refusal
 from wording import Trouble
@@ -20,6 +21,8 @@ from .answers import View
 MOST_LINES, MOST_BYTES = 100_000, 1 << 25
 # How many lines a request may ask for, and in how many columns the frames over the lines are shown.
 MOST_ASKED, COLUMNS = 500, 1000
+# How long it may take to draw a tree that nobody asked for, and any tree.
+SOON, LATE = 0.3, 20
 # How long one request plays on, how much playing there may be between two copies, and how many bytes all copies have.
 PIECE, BETWEEN, MOST_KEPT = 0.3, 0.1, 1 << 27
 MOST_VIEWS = 64
@@ -81,6 +84,8 @@ class Script:
         self.ranks = Ranks(self.word)
         self.copies, self.sizes, self.between, self.since = [(0, copy_of(self.machine()))], 0, BETWEEN, 0.0
         self.turns, self.views, self.error, self.is_done = [], {}, given["error"], False
+        # How long vmotree takes for a line, as far as that is known.
+        self.pace = 1e-5
         self.most, self.faults, self.refused = 0, 0, []
         self.used, self.marks = [0] * min(COLUMNS, len(self.lines)), set()
         self.said = Said(said_by(self.program, self.word, self.frames, self.lines)) if self.program else None
@@ -169,12 +174,23 @@ class Script:
         at = bisect.bisect_right(self.refused, line)
         return {"line": self.refused[at] if at < len(self.refused) else 0}
 
+    def tree_at(self, line, options):
+        """Returns the tree after a line, or why there is none, and notes how long that takes."""
+        began = time.perf_counter()
+        try:
+            return tree_after(self.lines[:line], options, LATE), None
+        except Trouble as trouble:
+            return None, str(trouble)
+        finally:
+            self.pace = (time.perf_counter() - began) / line
+
     def view(self, asked):
-        """Returns the pictures after a line that was played."""
+        """Returns the pictures after a line that was played. If the tree takes long, it is drawn only if it is asked for, and else False."""
         line, width = asked["line"], asked["width"]
         if not 1 <= line <= len(self.turns):
             raise ValueError(f"line {line} was not played")
-        shown = self.views.get((line, width))
+        has_tree = asked["tree"] or self.pace * line < SOON
+        shown = self.views.get((line, width, has_tree))
         if not shown:
             view = View(argparse.Namespace(word=self.word, frames=self.frames, tree=self.tree, width=width), line)
             number, copy = self.copies[bisect.bisect_left(self.copies, line, key=lambda it: it[0]) - 1]
@@ -183,17 +199,20 @@ class Script:
                 machine.answer(turn.line, "".join(turn.replies[:1]))
             view.before, turn = marks_of(machine), self.turns[line - 1]
             machine.answer(turn.line, "".join(turn.replies[:1]))
-            shown = view.drawn(machine, self.lines)
+            tree, why = self.tree_at(line, view.asked) if has_tree else (None, False)
+            shown = view.drawn_with(machine, tree)
+            if why is not None and tree_program(view.asked):
+                shown["tree"] = why
             if len(self.views) >= MOST_VIEWS:
                 del self.views[next(iter(self.views))]
-            self.views[line, width] = shown
+            self.views[line, width, has_tree] = shown
         return {"view": shown}
 
     def answer(self, request):
         """Answers a request of the page, or the first one of all, which has the script."""
         if "lines" in request:
             return self.begin(request)
-        kinds = {"more": (self.more, {}), "some": (self.some, {"first": int, "last": int}), "view": (self.view, {"line": int, "width": int}),
+        kinds = {"more": (self.more, {}), "some": (self.some, {"first": int, "last": int}), "view": (self.view, {"line": int, "width": int, "tree": bool}),
                  "refusal": (self.refusal, {"line": int, "back": bool})}
         does, wanted = kinds.get(request.get("kind"), (None, {}))
         if not does or any(type(request.get(name)) is not kind for name, kind in wanted.items()):
