@@ -60,7 +60,24 @@ _vmosim_play() {
     esac
 }
 
+_vmosim_expect() {
+    case ${COMP_WORDS[COMP_CWORD - 1]} in
+        --frames | --seconds | --without) COMPREPLY=() ;;
+        *) _vmosim_offer '--tap --junit --update --frames --without --seconds --program --help' -f ;;
+    esac
+}
+
+_vmosim_hunt() {
+    case ${COMP_WORDS[COMP_CWORD - 1]} in
+        --theme) _vmosim_offer 'each clones spaces pins all host' ;;
+        --seed | --trials | --lines | --frames | --seconds | --jobs | --without) COMPREPLY=() ;;
+        *) _vmosim_offer '--theme --seed --trials --lines --frames --seconds --jobs --without --fixed --replay --corpus --join --library --no-shrink --out --program --help' -f ;;
+    esac
+}
+
 complete -o filenames -F _vmosim vmosim ./vmosim
+complete -o filenames -F _vmosim_expect expect tools/expect vmosim-expect
+complete -o filenames -F _vmosim_hunt hunt tools/hunt vmosim-hunt
 complete -o filenames -F _vmosim_look look tools/look vmosim-look
 complete -o filenames -F _vmosim_play play tools/play vmosim-play
 complete -o filenames -F _vmosim_shell shell tools/shell vmosim-shell

@@ -29,13 +29,13 @@ class Shrinking:
         return [line for line, _ in self.best.turns]
 
     def holds(self, lines):
-        """Tries fewer lines, and returns whether something is wrong with them too. Then they are what is left, up to the first that
-        is wrong."""
+        """Tries fewer lines, and returns whether something is wrong with them too: a reply, or that the kernel hangs or dies, as before.
+        Then they are what is left, up to the first that is wrong."""
         self.tries += 1
         trial = replay(self.hunt, lines)
         left = len(self.best.turns)
         self.progress(f"shrinking, {counted(left, 'line')} {are(left)} left after {counted(self.tries, 'try')}")
-        if not trial.is_found():
+        if not trial.is_found() or bool(trial.lost) != bool(self.best.lost):
             return False
         self.best = trial
         if len(cut_at(trial)) < len(lines):

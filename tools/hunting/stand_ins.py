@@ -241,7 +241,7 @@ class CopyNeedsTwo(Machine):
 
     def lacks(self, pages):
         pages = list(pages)
-        more = any(page in vmo.pages and not vmo.is_sole(page) for vmo, page in pages)
+        more = self.used < self.frames and any(page in vmo.pages and not vmo.is_sole(page) for vmo, page in pages)
         self.used += more
         try:
             return super().lacks(pages)

@@ -12,6 +12,8 @@ from machine_model import PAGE
 from .kernels import Kernel, Lost
 
 
+# The theme of a hunt whose trials take these themes in turn.
+EACH, TURNS = "each", ("clones", "spaces", "pins", "all")
 # Stands in a command for how many frames the kernel is to have.
 FRAMES = "{frames}"
 # A trial may begin by taking all frames but these, by a VMO that no other line speaks of, if there are not too many.
@@ -77,6 +79,11 @@ def seed_of(hunt, number):
     return str(int(hunt.seed) + number) if re.fullmatch("[0-9]{1,18}", str(hunt.seed)) else f"{hunt.seed} {number}"
 
 
+def theme_of(hunt, seed):
+    """Returns the theme of the trial of a seed: the themes of lines take turns if the hunt has each."""
+    return hunt.theme if hunt.theme != EACH else TURNS[int(re.search("[0-9]+$", seed)[0]) % len(TURNS)]
+
+
 def filling(hunt, seed):
     """Returns the lines that leave few frames free at the beginning of some trials."""
     mixer = seeded(f"{seed} filling")
@@ -99,7 +106,7 @@ def unfilled(lines):
 def try_number(hunt, number, is_over=None):
     """Returns the trial of a number, whose lines are made up from the replies."""
     seed = seed_of(hunt, number)
-    commands = Commands(seeded(seed), hunt.theme, hunt.without, hunt.fixed)
+    commands = Commands(seeded(seed), theme_of(hunt, seed), hunt.without, hunt.fixed)
     lines = itertools.chain(filling(hunt, seed), (commands.line() for _ in range(hunt.lines)))
 
     def note(line, replies):
