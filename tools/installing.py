@@ -18,7 +18,7 @@ from wording import UNWRITABLE, WRONG_WORD, Trouble, run_tool, say
 
 TOP = pathlib.Path(__file__).resolve().parent.parent
 # The tools that are installed, each as vmosim-NAME.
-TOOLS = ("explain", "generate", "hunt", "look", "play", "shell", "transcript")
+TOOLS = ("expect", "explain", "generate", "hunt", "look", "play", "shell", "transcript")
 # What helps to make and test the program alone.
 UNNEEDED = ("browsing.py",)
 HOME, DOCUMENTS = "lib/vmosim", "share/doc/vmosim"
