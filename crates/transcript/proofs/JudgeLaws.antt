@@ -273,7 +273,6 @@ runs_plain old new command runs good gives step = elim (reply_cases old new comm
 pub runs_answered : (frames : ℕ) (own next : Machine) (numbers later : ℕ → Option ℕ) (tells : List Told) (line : List ℕ) (command : Command) (runs : List Run) → Stands frames own numbers tells
     → reading line ≡ Order command → MachineStep own command (RunsReply runs) next → AreLeft next numbers later → HasAnswered frames next later line (RunsReply runs) tells
 runs_answered frames own next numbers later tells line command runs stands e step left =
-    let reply = RunsReply runs in
     let none : TellsNoFrames (RunsReply runs) = λ ns f. absurd cc in
     let host : ◌≢◌ {A = Reply} (RunsReply runs) (Refused HostMemory) = λ f. absurd cc in
     let gives = reading_gives line command e in
