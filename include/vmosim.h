@@ -15,8 +15,7 @@
  * - One call at a time on a struct, by one thread, or by several that a lock orders. Calls on different structs may run at once if
  *   malloc may. No call from a signal handler, nor in a child that a program with several threads forked.
  * - malloc, realloc and free belong together, and align as the C standard asks.
- * - The thread has 32 KiB of stack left for vmosim_open, and 16 KiB for the others. That they take less is measured, and
- *   not proved. */
+ * - The thread has 16 KiB of stack left. That each call takes less is measured, and not proved. */
 #ifndef VMOSIM_H
 #define VMOSIM_H
 

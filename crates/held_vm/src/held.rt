@@ -28,7 +28,8 @@ pub enum AnswerError {
 #[derive(Drop)]
 pub struct HeldVm<P: PageStore, I: Interpreter<P> = VmInterpreter> {
     interpreter: I,
-    store: P,
+    /// In a box, so that no call moves it.
+    store: Box<P>,
 }
 
 impl<P: PageStore, I: Interpreter<P>> Model for HeldVm<P, I> {
@@ -36,10 +37,10 @@ impl<P: PageStore, I: Interpreter<P>> Model for HeldVm<P, I> {
 
     ghost Value = { Held P I };
 
-    ghost view = { λ h. record { interpreter = h.interpreter; store = h.store } };
+    ghost view = { λ h. record { interpreter = h.interpreter; store = h.store.value } };
 
     ghost invariant = { λ h. StandTogether I.Agrees I.rules.IsGood P.content I.state
-        (record { interpreter = h.interpreter; store = h.store }) };
+        (record { interpreter = h.interpreter; store = h.store.value }) };
 }
 
 impl<P: PageStore> HeldVm<P> {
@@ -50,14 +51,22 @@ impl<P: PageStore> HeldVm<P> {
         requires empty { P.content store ≡ nothing }
         ensures machine { IfOk result (λ h. held_machine P.content h ≡ empty_machine frames) }
     {
+        let Ok(store) = Box::new(alloc, store) else {
+            return Err(HostMemory);
+        };
+        HeldVm::over(alloc, frames, store)
+    }
+
+    /// Does what `new` does, over a store in a box, which no call moves.
+    pub fn over(alloc: Global, frames: u32, store: Box<P>) -> Result<HeldVm<P>, HostMemory>
+        requires frames { 1 ≤ frames × frames ≤ FRAMES }
+        requires empty { P.content store.value ≡ nothing }
+        ensures machine { IfOk result (λ h. held_machine P.content h ≡ empty_machine frames) }
+    {
+        let store = filled(frames, store)?;
         let interpreter = VmInterpreter::new(alloc)?;
-        let mut filled = store;
-        filled.fill(frames)?;
         // By no call of `hold`: with the interpreter handed to it, the check would read the code of all that answers a line.
-        Ok(HeldVm {
-            interpreter,
-            store: filled,
-        })
+        Ok(HeldVm { interpreter, store })
     }
 }
 
@@ -77,8 +86,10 @@ impl<P: PageStore, I: Interpreter<P>> HeldVm<P, I> {
         requires good { I.rules.IsGood (I.rules.start frames) }
         ensures first { IfOk result (λ h. state_held P.content I.state h ≡ I.rules.start frames) }
     {
-        let mut store = store;
-        store.fill(frames)?;
+        let Ok(boxed) = Box::new(alloc, store) else {
+            return Err(HostMemory);
+        };
+        let store = filled(frames, boxed)?;
         Ok(HeldVm { interpreter, store })
     }
 
@@ -92,17 +103,44 @@ impl<P: PageStore, I: Interpreter<P>> HeldVm<P, I> {
             (state_held P.content I.state self.new) out.old out.new }
         ensures good { I.rules.IsGood (state_held P.content I.state self.new) }
     {
-        if self.store.next_koid().0 >= KOIDS {
-            return Err(AnswerError::OutOfKoids);
-        }
-        let mut reply = SliceSink::new(out);
-        let pushed = self
-            .interpreter
-            .answer_line(&mut self.store, &mut reply, line);
-        let len = reply.taken();
-        match pushed {
-            Ok(()) => Ok(len),
-            Err(_) => Err(AnswerError::OutOfRoom),
-        }
+        answer_over(&mut self.interpreter, self.store.as_mut(), line, out)
     }
+}
+
+/// Answers a line over a store, as `HeldVm::answer` does.
+#[inline(always)]
+fn answer_over<P: PageStore, I: Interpreter<P>>(
+    interpreter: &mut I,
+    store: &mut P,
+    line: &[u8],
+    out: &mut [u8],
+) -> Result<usize, AnswerError>
+    requires agrees { I.Agrees interpreter.old (P.content store.old) }
+    requires good { I.rules.IsGood (I.state interpreter.old (P.content store.old)) }
+    ensures answers { Answers I.rules result line.now (I.state interpreter.old (P.content store.old))
+        (I.state interpreter.new (P.content store.new)) out.old out.new }
+    ensures agrees { I.Agrees interpreter.new (P.content store.new) }
+    ensures good { I.rules.IsGood (I.state interpreter.new (P.content store.new)) }
+{
+    if store.next_koid().0 >= KOIDS {
+        return Err(AnswerError::OutOfKoids);
+    }
+    let mut reply = SliceSink::new(out);
+    let pushed = interpreter.answer_line(store, &mut reply, line);
+    let len = reply.taken();
+    match pushed {
+        Ok(()) => Ok(len),
+        Err(_) => Err(AnswerError::OutOfRoom),
+    }
+}
+
+/// Gives a store that has nothing `frames` page frames, from 1 to `FRAMES`. `HostMemory` if the host has too little memory.
+fn filled<P: PageStore>(frames: u32, store: Box<P>) -> Result<Box<P>, HostMemory>
+    requires frames { 1 ≤ frames × frames ≤ FRAMES }
+    requires empty { P.content store.value ≡ nothing }
+    ensures { IfOk result (λ b. P.content b.value ≡ record (P.content store.value) { frames = frames }) }
+{
+    let mut store = store;
+    store.as_mut().fill(frames)?;
+    Ok(store)
 }
