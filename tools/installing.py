@@ -1,4 +1,3 @@
-#!/usr/bin/env python3
 """Installs what is built into a prefix, and takes it away again. `./vmosim --install` calls it, and tools/package asks it what a package has.
 
 A prefix has bin/, include/, lib/ and share/. What the tools need stands in lib/vmosim as it does in a checkout, beside a list of all that
