@@ -1,4 +1,3 @@
-#!/usr/bin/env python3
 """Installs what is built into a prefix, and takes it away again. `./vmosim --install` calls it, and tools/package asks it what a package has.
 
 A prefix has bin/, include/, lib/ and share/. What the tools need stands in lib/vmosim as it does in a checkout, beside a list of all that
@@ -260,7 +259,7 @@ def add_built_words(parser):
     for name, what in (("program", "the program"), ("tree", "the program vmotree"), ("archive", "the static library"), ("shared", "the shared library")):
         parser.add_argument(f"--{name}", metavar="FILE", help=f"{what}, if it is built")
     parser.add_argument("--kind", choices=("proved", "unproved"), default="unproved", help="what the program is")
-    parser.add_argument("--kit", metavar="WORDS", default="none", help="the kit that made it, as `rt version` prints it")
+    parser.add_argument("--kit", metavar="WORDS", default="unknown", help="the kit that made it, as `rt version` prints it")
 
 
 def built_of(asked):
