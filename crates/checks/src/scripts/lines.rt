@@ -10,35 +10,6 @@ fn lines_are_spelled(rt: HostRuntime) -> Result<(), Fail> {
         "\
 == run
 # A script of no lines has no replies.
-
-== run
-# Blank lines and comments have no reply.
->
->  \t\r
-> # note
-status => SYNTAX
-vmo_create v1 1 => OK
-
-== run
-# What is in the grammar of a line, what is blank, and what is refused.
-vmo_create v01 1 => SYNTAX
-vmo_create v1 => SYNTAX
-vmo_create v1 16 resizable resizable => SYNTAX
-VMO_CREATE v1 1 => SYNTAX
-vmo_create v4294967296 1 => SYNTAX
-vmo_create v1 18446744073709551616 => SYNTAX
-  vmo_create\tv1  0x1000\x20 => OK
-> # note
->
-vmo_write v1 0 abc => SYNTAX
-vmo_write v1 0 AB => OK
-vmo_fill v1 0 1 256 => SYNTAX
-vmo_read v1 0 1 => OK ab
-vmar_allocate r1 r2 0 4096 specific_overwrite => SYNTAX
-vmar_allocate r1 r2 0 4096 => BAD_HANDLE
-vmar_allocate r1 r2 0 4096 can_read specific => BAD_HANDLE
-vmar_map r1 0 v1 0 4096 rw can_read => SYNTAX
-vmar_map r1 0 v1 0 4096 rw specific_overwrite => BAD_HANDLE
 ",
     )
 }

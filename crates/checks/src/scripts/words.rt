@@ -1,33 +1,11 @@
 //! The words of the command line.
 
-use super::check;
 use super::reading::words_of;
 use super::runs::written;
 use super::text_fault::Fault;
 use std::alloc::Global;
 use std::test::Fail;
 use vm_session::Status;
-
-#[test]
-fn words_say_how_many_frames(rt: HostRuntime) -> Result<(), Fail> {
-    check(
-        rt.alloc(),
-        "\
-== run
-stat => OK frames=1024 used=0 free=1024 vmos=0
-
-== run --frames 00007
-stat => OK frames=7 used=0 free=7 vmos=0
-
-== run --frames 65536
-stat => OK frames=65536 used=0 free=65536 vmos=0
-
-== run --frames 1
-stat => OK frames=1 used=0 free=1 vmos=0
-stat => OK frames=1 used=0 free=1 vmos=0
-",
-    )
-}
 
 /// Returns whether these words are refused.
 fn are_usage(alloc: Global, words: &[String]) -> bool {
